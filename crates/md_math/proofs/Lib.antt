@@ -1,0 +1,13 @@
+pub mod Builders
+pub mod Division
+pub mod FirstFailures
+pub mod Fractions
+pub mod Gcds
+pub mod LexLaws
+pub mod Order
+pub mod Regroup
+pub mod Ring
+pub mod SizeLaws
+pub mod SumLaws
+pub mod TotalLaws
+pub mod Prefixes

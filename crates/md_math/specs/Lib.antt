@@ -1,0 +1,6 @@
+pub mod Divisors
+pub mod FirstFailure
+pub mod LexOrder
+pub mod Lists
+pub mod Sizes
+pub mod Sums

@@ -1,0 +1,4 @@
+pub mod AllProfiles
+pub mod Profiles
+pub mod Sizes
+pub mod Strides
