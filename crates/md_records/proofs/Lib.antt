@@ -1,0 +1,3 @@
+pub mod NextRecord
+pub mod Reading
+pub mod RecordTexts

@@ -1,0 +1,4 @@
+pub mod Text
+pub mod Left
+pub mod Written
+pub mod Numbers
