@@ -1,0 +1,12 @@
+pub mod Accepted
+pub mod Apart
+pub mod FirstRefusal
+pub mod Lookups
+pub mod RangeTests
+pub mod Reading
+pub mod RowTests
+pub mod SizeTests
+pub mod TestLaws
+pub mod ValueLaws
+pub mod Views
+pub mod WeightLaws

@@ -1,0 +1,10 @@
+//! What a setting file holds.
+
+use crate::Setting;
+
+/// The setting of a file, by its kind.
+#[derive(Debug, Drop)]
+pub enum SettingFile {
+    /// A setting with agents and outcomes of its own.
+    General(Setting),
+}

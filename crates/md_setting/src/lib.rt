@@ -1,0 +1,22 @@
+//! Settings of mechanism design: agents, types, outcomes, weights and utilities.
+#![tactic(auto)]
+
+mod check;
+mod file;
+mod kinds;
+mod lookup;
+mod names;
+mod range;
+mod raw;
+mod refusal;
+mod rows;
+mod setting;
+mod shape;
+mod values;
+mod weights;
+
+pub use file::SettingFile;
+pub use kinds::{Rational, Truth};
+pub use raw::{RawAgent, RawSetting};
+pub use refusal::BuildRefusal;
+pub use setting::Setting;

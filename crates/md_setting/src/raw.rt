@@ -1,0 +1,43 @@
+//! A setting as it is written down, before anything of it is checked.
+
+use crate::{Rational, Truth};
+
+/// An agent as written: its lists run over its types, in one order.
+#[derive(Debug, Drop)]
+pub struct RawAgent {
+    /// The agent's name.
+    pub name: String,
+    /// The names of its types.
+    pub types: Vec<String>,
+    /// The weight of each type; empty beside a joint prior.
+    pub weights: Vec<i64>,
+    /// What each type has without taking part.
+    pub outside: Vec<i64>,
+    /// For each type the utility of each outcome.
+    pub utility: Vec<Vec<i64>>,
+}
+
+/// A setting as written.
+#[derive(Debug, Drop)]
+pub struct RawSetting {
+    /// The agents, of which profiles give each one type.
+    pub agents: Vec<RawAgent>,
+    /// The names of the outcomes.
+    pub outcomes: Vec<String>,
+    /// A joint prior: the weight of each profile, by rank.
+    pub prior: Option<Vec<i64>>,
+    /// What each outcome is worth to the designer.
+    pub values: Vec<i64>,
+    /// The factor of the agents' utilities in the designer's value.
+    pub welfare: i64,
+    /// The factor of the agents' payments in the objective.
+    pub revenue: i64,
+    /// The kind of truth.
+    pub truth: Truth,
+    /// The kind of rationality.
+    pub rational: Rational,
+    /// Whether agents pay.
+    pub payments: bool,
+    /// Whether the payments of each profile may not add to less than 0.
+    pub no_deficit: bool,
+}

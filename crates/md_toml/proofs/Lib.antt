@@ -1,0 +1,4 @@
+pub mod Each
+pub mod EachAgent
+pub mod Names
+pub mod Utf8

@@ -1,0 +1,43 @@
+-- What the bytes of a file say as a document, and what its first keys say.
+use Rattle.std.specs.Prelude.{ℕ, ℤ, pos, List, Result, Ok, Err, Option, None, Some, codes, if◌then◌else◌, int_le, ◌&&◌}
+use Rattle.std.specs.Str.{bytes_eq, is_utf8}
+use Rattle.toml.specs.Data.{Data, Members}
+use Rattle.toml.specs.Parse.{parse_document}
+use Rattle.md_toml.specs.declared.key.Key.{Key}
+use Rattle.md_toml.specs.declared.key.Key.TheVariants as key
+use Rattle.md_toml.specs.declared.refusal.SettingRefusal.TheVariants.{NotToml, UnknownWord}
+use Rattle.md_toml.specs.Reading.{Reading, ◌>>=◌}
+use Rattle.md_toml.specs.Values.{text_in, integer_in, required}
+
+-- the document that `toml` reads of some bytes that are text
+abbrev pub parsed : Option Members → Reading Members
+parsed None = Err NotToml
+parsed (Some members) = Ok members
+
+abbrev pub document_of : List ℕ → Reading Members
+document_of bytes = if is_utf8 bytes then parsed (parse_document bytes) else Err NotToml
+
+-- the word that says what the file is for
+abbrev pub format_in : Key → Data → Reading (Unit {0})
+format_in k value = do
+  word ← text_in k value
+  if bytes_eq word (codes "mechanism-setting") then Ok tt else Err (UnknownWord k)
+
+-- the version of the format, which is 1
+abbrev pub version_in : Key → Data → Reading (Unit {0})
+version_in k value = do
+  number ← integer_in k value
+  if int_le number (pos 1) && int_le (pos 1) number then Ok tt else Err (UnknownWord k)
+
+-- the kind of setting, which is general
+abbrev pub kind_in : Key → Data → Reading (Unit {0})
+kind_in k value = do
+  word ← text_in k value
+  if bytes_eq word (codes "general") then Ok tt else Err (UnknownWord k)
+
+-- what the first keys say
+abbrev pub header_of : Members → Reading (Unit {0})
+header_of members = do
+  _ ← required format_in key.Format members
+  _ ← required version_in key.Version members
+  required kind_in key.Kind members

@@ -1,0 +1,111 @@
+//! The keys of setting files.
+ghost use Rattle.std.specs.Prelude.{◌≡◌};
+
+/// A key of a setting file, with one variant for each place where a key may stand.
+#[derive(Clone, Copy, Debug, PartialEq, Eq)]
+pub enum Key {
+    /// `format`
+    Format,
+    /// `version`
+    Version,
+    /// `kind`
+    Kind,
+    /// `truth`
+    Truth,
+    /// `rational`
+    Rational,
+    /// `payments`
+    Payments,
+    /// `no_deficit`
+    NoDeficit,
+    /// `outcomes`
+    Outcomes,
+    /// `objective`
+    Objective,
+    /// `objective.welfare`
+    ObjectiveWelfare,
+    /// `objective.revenue`
+    ObjectiveRevenue,
+    /// `objective.value`
+    ObjectiveValue,
+    /// `prior`
+    Prior,
+    /// `agent`
+    Agent,
+    /// `agent.name`
+    AgentName,
+    /// `agent.types`
+    AgentTypes,
+    /// `agent.weights`
+    AgentWeights,
+    /// `agent.outside`
+    AgentOutside,
+    /// `agent.utility`
+    AgentUtility,
+    /// `bidders` of an auction
+    Bidders,
+    /// `values` of an auction
+    Values,
+    /// `weights` of an auction
+    Weights,
+    /// `revenue` of an auction
+    Revenue,
+    /// `welfare` of an auction
+    Welfare,
+    /// `keep` of an auction
+    Keep,
+}
+
+impl Key {
+    ghost use Rattle.md_toml.specs.Keys.{text_of, member_name};
+
+    /// The key's whole name, as `agent.utility`.
+    pub fn text(&self) -> &'static str
+        ensures { result.now ≡ text_of self.now }
+    {
+        match self {
+            Key::Format => "format",
+            Key::Version => "version",
+            Key::Kind => "kind",
+            Key::Truth => "truth",
+            Key::Rational => "rational",
+            Key::Payments => "payments",
+            Key::NoDeficit => "no_deficit",
+            Key::Outcomes => "outcomes",
+            Key::Objective => "objective",
+            Key::ObjectiveWelfare => "objective.welfare",
+            Key::ObjectiveRevenue => "objective.revenue",
+            Key::ObjectiveValue => "objective.value",
+            Key::Prior => "prior",
+            Key::Agent => "agent",
+            Key::AgentName => "agent.name",
+            Key::AgentTypes => "agent.types",
+            Key::AgentWeights => "agent.weights",
+            Key::AgentOutside => "agent.outside",
+            Key::AgentUtility => "agent.utility",
+            Key::Bidders => "bidders",
+            Key::Values => "values",
+            Key::Weights => "weights",
+            Key::Revenue => "revenue",
+            Key::Welfare => "welfare",
+            Key::Keep => "keep",
+        }
+    }
+
+    /// The key's name within its own table, as `utility`.
+    pub(crate) fn member(&self) -> &'static str
+        ensures { result.now ≡ member_name self.now }
+    {
+        match self {
+            Key::ObjectiveWelfare => "welfare",
+            Key::ObjectiveRevenue => "revenue",
+            Key::ObjectiveValue => "value",
+            Key::AgentName => "name",
+            Key::AgentTypes => "types",
+            Key::AgentWeights => "weights",
+            Key::AgentOutside => "outside",
+            Key::AgentUtility => "utility",
+            other => other.text(),
+        }
+    }
+}
