@@ -1,0 +1,48 @@
+-- The first record of an answer, by the steps over its fields.
+use Rattle.std.proofs.Common.{◌≡◌, pos, List, [], ◌∷◌, codes, Ok, Err, refl}
+use Rattle.md_answer.specs.declared.answer.AnswerRefusal.{AnswerRefusal}
+use Rattle.md_answer.specs.Answers.{read_head}
+use Rattle.md_answer.specs.Fields.{Field, word_field}
+use Rattle.md_answer.specs.Left.{Left}
+use Rattle.md_answer.specs.Reading.{Rest}
+use Rattle.md_answer.specs.Records.{record_with}
+use Rattle.md_answer.specs.FieldsRead.{Reads, FailsIn}
+use Rattle.md_answer.proofs.FieldSteps.{reads-then, fails-then, fails-before}
+use Rattle.md_answer.proofs.RecordSteps.{record-read, record-fails, record-missing}
+
+abbrev version : Field
+version = word_field (codes "1")
+
+abbrev kind : Field
+kind = word_field (codes "general")
+
+abbrev which : Field
+which = word_field (codes "table")
+
+abbrev head_fields : List Field
+head_fields = version ∷ kind ∷ which ∷ []
+
+pub head-missing : (rest : Rest) (refusal : AnswerRefusal) → record_with (codes "answer") 3 rest ≡ Err refusal → read_head rest ≡ Err refusal
+head-missing rest refusal h = rw (record-missing (codes "answer") head_fields 3 rest refusal refl h) refl
+
+pub head-version : (rest after : Rest) (left : Left) (refusal : AnswerRefusal) → record_with (codes "answer") 3 rest ≡ Ok (left, after) → FailsIn (version ∷ []) left refusal → read_head rest ≡ Err refusal
+head-version rest after left refusal h fails =
+    rw (record-fails (codes "answer") head_fields 3 rest after left refusal refl h (fails-before (version ∷ []) (kind ∷ which ∷ []) left refusal fails)) refl
+
+pub head-kind : (rest after : Rest) (left second : Left) (refusal : AnswerRefusal) → record_with (codes "answer") 3 rest ≡ Ok (left, after)
+    → Reads (version ∷ []) left second (pos 0 ∷ []) → FailsIn (kind ∷ []) second refusal → read_head rest ≡ Err refusal
+head-kind rest after left second refusal h first fails =
+    rw (record-fails (codes "answer") head_fields 3 rest after left refusal refl h
+    (fails-before (version ∷ kind ∷ []) (which ∷ []) left refusal (fails-then (version ∷ []) (kind ∷ []) left second (pos 0 ∷ []) refusal first fails))) refl
+
+pub head-which : (rest after : Rest) (left second third : Left) (refusal : AnswerRefusal) → record_with (codes "answer") 3 rest ≡ Ok (left, after)
+    → Reads (version ∷ []) left second (pos 0 ∷ []) → Reads (kind ∷ []) second third (pos 0 ∷ []) → FailsIn (which ∷ []) third refusal → read_head rest ≡ Err refusal
+head-which rest after left second third refusal h first next fails =
+    rw (record-fails (codes "answer") head_fields 3 rest after left refusal refl h
+    (fails-then (version ∷ kind ∷ []) (which ∷ []) left third (pos 0 ∷ pos 0 ∷ []) refusal (reads-then (version ∷ []) (kind ∷ []) left second third (pos 0 ∷ []) (pos 0 ∷ []) first next) fails)) refl
+
+pub head-read : (rest after : Rest) (left second third end : Left) → record_with (codes "answer") 3 rest ≡ Ok (left, after)
+    → Reads (version ∷ []) left second (pos 0 ∷ []) → Reads (kind ∷ []) second third (pos 0 ∷ []) → Reads (which ∷ []) third end (pos 0 ∷ []) → read_head rest ≡ Ok (tt, after)
+head-read rest after left second third end h first next last =
+    rw (record-read (codes "answer") head_fields 3 rest after left end (pos 0 ∷ pos 0 ∷ pos 0 ∷ []) refl h
+    (reads-then (version ∷ kind ∷ []) (which ∷ []) left third end (pos 0 ∷ pos 0 ∷ []) (pos 0 ∷ []) (reads-then (version ∷ []) (kind ∷ []) left second third (pos 0 ∷ []) (pos 0 ∷ []) first next) last)) refl

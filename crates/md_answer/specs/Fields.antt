@@ -1,0 +1,41 @@
+-- What stands in the fields of a record after its word.
+use Rattle.std.specs.Prelude.{ℕ, ◌+◌, ℤ, pos, Bool, true, List, [], ◌∷◌, Option, None, Some, Result, Ok, Err, int_le, if◌then◌else◌}
+use Rattle.std.specs.Str.{bytes_eq}
+use Rattle.md_num.specs.WholeText.{whole_of}
+
+-- what a field may hold, as a number; a word or name stands for 0
+abbrev pub Field : Type 0
+Field = List ℕ → Option ℤ
+
+-- the field is this word or name
+abbrev pub word_field : List ℕ → Field
+word_field word text = if bytes_eq text word then Some (pos 0) else None
+
+-- the field is a number of at most so many bits that passes a test
+abbrev pub number_field : ℕ → (ℤ → Bool) → Field
+number_field bits test text = elim (whole_of bits text) [
+  | Ok number ↦ if test number then Some number else None
+  | Err _ ↦ None
+]
+
+-- numbers are of 62 bits: any, those from 0 on, those from 1 on
+abbrev pub any_number : Field
+any_number = number_field 62 (λ _. true)
+
+abbrev pub chance_field : Field
+chance_field = number_field 62 (int_le (pos 0))
+
+abbrev pub denominator_field : Field
+denominator_field = number_field 62 (int_le (pos 1))
+
+-- the numbers of the fields, or the place of the first that holds something else, where the first field has this place
+abbrev pub numbers_of : ℕ → List Field → List (List ℕ) → Result (List ℤ) ℕ
+numbers_of place [] texts = Ok []
+numbers_of place (field ∷ fields) [] = Ok []
+numbers_of place (field ∷ fields) (text ∷ texts) = elim (field text) [
+  | None ↦ Err place
+  | Some number ↦ elim (numbers_of (place + 1) fields texts) [
+    | Err wrong ↦ Err wrong
+    | Ok numbers ↦ Ok (number ∷ numbers)
+  ]
+]

@@ -1,0 +1,9 @@
+pub mod Fields
+pub mod Ranges
+pub mod Reading
+pub mod Left
+pub mod Records
+pub mod FieldsRead
+pub mod Table
+pub mod Answers
+pub mod AnswerTo

@@ -1,0 +1,28 @@
+//! The range of a number in a field.
+ghost use Rattle.std.specs.Prelude.{◌≡◌};
+
+/// Which numbers may stand in a field.
+#[derive(Clone, Copy, Debug, PartialEq, Eq)]
+pub(crate) enum Range {
+    /// Any number.
+    Any,
+    /// A number from 0 on.
+    FromZero,
+    /// A number from 1 on.
+    FromOne,
+}
+
+impl Range {
+    ghost use Rattle.md_answer.specs.Ranges.{in_range};
+
+    /// Whether a number is in the range.
+    pub(crate) fn has(self, number: i128) -> bool
+        ensures { result ≡ in_range self number }
+    {
+        match self {
+            Range::Any => true,
+            Range::FromZero => 0 <= number,
+            Range::FromOne => 1 <= number,
+        }
+    }
+}

@@ -1,0 +1,9 @@
+pub mod RowLaws
+pub mod WholeLaws
+pub mod MadeLaws
+pub mod ScanLaws
+pub mod UtilityLaws
+pub mod Reading
+pub mod AverageLaws
+pub mod PlaceLaws
+pub mod NameLaws

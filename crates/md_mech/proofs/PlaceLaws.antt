@@ -1,0 +1,98 @@
+-- Where a row stands among lists of rows that follow one another.
+use Rattle.std.proofs.Common.{◌≡◌, ℕ, zero, suc, ◌+◌, ◌-◌, ◌<◌, ◌≤◌, Bool, true, false, List, [], ◌∷◌, ◌++◌, length, get_or, Option, Some, None, refl, sym, ap, subst, ◌∙◌, arith, inl, inr, add-one, add-zero, zero-add, length-append, Result, MatchResult, slice_index}
+use Rattle.std.specs.Prelude.{slice_get, ◌==◌, if◌then◌else◌}
+use Rattle.std.proofs.lemmas.Bool.{eq-eqb}
+use Rattle.std.proofs.lemmas.Bool.Decides.{nat_tests}
+use Rattle.std.proofs.lemmas.Option.{slice_get-get_or}
+use Rattle.std.proofs.Math.Nat.{suc-add}
+use Rattle.md_math.specs.Lists.{up_to, list_to}
+use Rattle.md_math.proofs.Builders.{up_to-more, up_to-split, up_to-single, length-list_to, get_or-list_to}
+use Rattle.md_space.specs.Profiles.{profile_count, profile_at}
+use Rattle.md_setting.specs.Setting.{GeneralSetting}
+use Rattle.md_setting.specs.Meaning.{agent_count, sizes_of}
+use Rattle.md_mech.specs.declared.place.Place.{Place}
+use Rattle.md_mech.specs.Rows.{Row, by_report}
+use Rattle.md_mech.specs.Places.{row_at, IsInside, IsAt, IsLocated}
+
+-- a row among the first or among the last of two lists
+get-left : {X : Type 0} (xs ys : List X) (k : ℕ) (x : X) → slice_get xs k ≡ Some x → slice_get (xs ++ ys) k ≡ Some x
+get-left [] ys k x h = cc
+get-left (a ∷ xs) ys zero x h = h
+get-left (a ∷ xs) ys (suc k) x h = get-left xs ys k x h
+
+get-right : {X : Type 0} (xs ys : List X) (k : ℕ) (x : X) → slice_get ys k ≡ Some x → slice_get (xs ++ ys) (length xs + k) ≡ Some x
+get-right [] ys k x h = subst (λ j. slice_get ys j ≡ Some x) (sym (zero-add k)) h
+get-right (a ∷ xs) ys k x h = subst (λ j. slice_get (a ∷ (xs ++ ys)) j ≡ Some x) (sym (suc-add (length xs) k)) (get-right xs ys k x h)
+
+get-up_to : {X : Type 0} (n k j : ℕ) (f : ℕ → List X) (x : X) → k < n → slice_get (f k) j ≡ Some x → slice_get (up_to n f) (length (up_to k f) + j) ≡ Some x
+get-up_to n k j f x h e =
+    let split = up_to-split n k f h in
+    subst (λ xs. slice_get xs (length (up_to k f) + j) ≡ Some x) (sym split.1)
+    (get-left (up_to k f ++ f k) split.0 (length (up_to k f) + j) x (get-right (up_to k f) (f k) j x e))
+
+-- a row of one of several blocks
+pub at_block : (s : GeneralSetting) (n k row rest : ℕ) (f : ℕ → List Row) (p : Place) → k < n → row ≡ length (up_to k f) + rest →
+    IsAt s (f k) rest p → IsAt s (up_to n f) row p
+at_block s n k row rest f p h e at = record {
+  row = rw e (get-up_to n k rest f (row_at s p) h at.row);
+  inside = at.inside;
+}
+
+-- a row behind one more block
+pub past_block : (k row rest left : ℕ) (f : ℕ → List Row) → row ≡ length (up_to k f) + rest → rest ≡ length (f k) + left →
+    row ≡ length (up_to (k + 1) f) + left
+past_block k row rest left f e g = rw (up_to-more k f) (omega (arith, e, g, length-append (up_to k f) (f k)))
+
+-- a row behind all blocks
+pub past_blocks : (n k row rest : ℕ) (f : ℕ → List Row) → k ≡ n → row ≡ length (up_to k f) + rest → row ≡ length (up_to n f) + rest
+past_blocks n k row rest f e g = subst (λ m. row ≡ length (up_to m f) + rest) e g
+
+-- one row for each place
+pub at_single : (s : GeneralSetting) (n k : ℕ) (f : ℕ → Row) (p : Place) → k < n → f k ≡ row_at s p → IsInside s p → IsAt s (up_to n (λ j. f j ∷ [])) k p
+at_single s n k f p h e inside = record {
+  row = subst (λ xs. slice_get xs k ≡ Some (row_at s p)) (sym (up_to-single n f))
+      (slice_get-get_or (list_to n f) k (f k) (rw (length-list_to n f) h) ∙ ap Some (get_or-list_to n f k (f k) h ∙ e));
+  inside = inside;
+}
+
+pub length-singles : (n : ℕ) (f : ℕ → Row) → length (up_to n (λ j. f j ∷ [])) ≡ n
+length-singles n f = ap length (up_to-single n f) ∙ length-list_to n f
+
+-- the row of a report, where the reports before it are passed
+pub at_report : (s : GeneralSetting) (n a b row : ℕ) (f : ℕ → Row) (p : Place) → b < n → (b == a) ≡ false → f b ≡ row_at s p → IsInside s p →
+    row ≡ length (by_report b a f) → IsAt s (by_report n a f) row p
+at_report s n a b row f p h other e inside l =
+    at_block s n b row 0 (λ c. if c == a then [] else f c ∷ []) p h (l ∙ sym (add-zero (length (by_report b a f))))
+    (record { row = rw (other, e) refl; inside = inside })
+
+pub past_report : (a b row rest : ℕ) (f : ℕ → Row) → (b == a) ≡ false → row ≡ length (by_report b a f) + rest → 0 < rest →
+    row ≡ length (by_report (b + 1) a f) + (rest - 1)
+past_report a b row rest f other e some =
+    past_block b row rest (rest - 1) (λ c. if c == a then [] else f c ∷ []) e (rw other (omega arith))
+
+pub same_report : (a b row rest : ℕ) (f : ℕ → Row) → (b == a) ≡ true → row ≡ length (by_report b a f) + rest →
+    row ≡ length (by_report (b + 1) a f) + rest
+same_report a b row rest f same e =
+    past_block b row rest rest (λ c. if c == a then [] else f c ∷ []) e (rw same (omega arith))
+
+-- a row of the first or of the second of two lists
+pub at_left : (s : GeneralSetting) (xs ys : List Row) (row : ℕ) (p : Place) → IsAt s xs row p → IsAt s (xs ++ ys) row p
+at_left s xs ys row p at = record { row = get-left xs ys row (row_at s p) at.row; inside = at.inside }
+
+pub at_right : (s : GeneralSetting) (xs ys : List Row) (row rest : ℕ) (p : Place) → row ≡ length xs + rest → IsAt s ys rest p → IsAt s (xs ++ ys) row p
+at_right s xs ys row rest p e at = record { row = rw e (get-right xs ys rest (row_at s p) at.row); inside = at.inside }
+
+pub ruleset places = (at_block, past_block, past_blocks)
+
+pub apart : (a b : ℕ) → (a ≡ b → ⊥) → (a == b) ≡ false
+apart a b h = grind (arith, nat_tests)
+
+pub alike : (a b : ℕ) → a ≡ b → (a == b) ≡ true
+alike a b h = eq-eqb a b h
+
+-- the rows of some profiles or types, one each, pass one more agent
+pub past_singles : (n row rest : ℕ) (k : ℕ) (f : ℕ → ℕ → Row) (size : ℕ → ℕ) → row ≡ length (up_to k (λ i. up_to (size i) (λ j. f i j ∷ []))) + rest → n ≡ size k → n ≤ rest →
+    row ≡ length (up_to (k + 1) (λ i. up_to (size i) (λ j. f i j ∷ []))) + (rest - n)
+past_singles n row rest k f size e g h =
+    past_block k row rest (rest - n) (λ i. up_to (size i) (λ j. f i j ∷ [])) e
+    (rw (length-singles (size k) (f k)) (omega (arith, g)))

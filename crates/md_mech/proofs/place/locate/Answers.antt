@@ -1,0 +1,25 @@
+use Rattle.std.proofs.Common.{◌≡◌, ◌<◌, ◌+◌, ◌∷◌, [], ℕ, length, ap, sym, ◌∙◌, refl, subst, arith, slice_index}
+use Rattle.std.proofs.lemmas.List.{length-map}
+use Rattle.md_space.specs.Profiles.{profile_count, profile_at}
+use Rattle.md_setting.specs.Meaning.{agent_count, sizes_of}
+use Rattle.md_mech.specs.declared.place.Place.TheVariants.{Dominant, Bayes, ExPost, Interim, Deficit, Profile}
+use Rattle.md_mech.specs.Rows.{dominant_row, bayes_row, ex_post_row, interim_row, deficit_row, profile_row, dominant_rows, dominant_rows_at, bayes_rows, bayes_rows_at, by_report, by_profile, by_type}
+use Rattle.md_mech.proofs.PlaceLaws.{at_block, at_single, at_report, past_report, same_report, past_singles, at_left, at_right, length-singles, apart, alike}
+use Rattle.md_mech.proofs.place.locate.Goals as goal
+use Rattle.md_mech.specs.Rows.{rows_of, demand_rows, truth_rows, rational_rows, deficit_rows}
+use Rattle.std.proofs.Common.{length-append, ◌++◌}
+
+pub returns-in-Err-deficit_place : goal.returns-in-Err-deficit_place
+returns-in-Err-deficit_place c =
+    let s = c.args.setting.now in
+    let truth = truth_rows s.truth s in
+    let rational = rational_rows s.rational s in
+    let deficit = deficit_rows s.no_deficit s in
+    let rank = c.in-Err-deficit_place.rank in
+    let behind : c.args.row ≡ length (demand_rows s) + rank =
+    omega (arith, c.in-Err.ensures, c.in-Err-rational_place.ensures, c.in-Err-deficit_place.ensures, length-append (truth ++ rational) deficit, length-append truth rational) in
+    let f = λ (r : ℕ). profile_row (profile_at (sizes_of s) r) in
+    let inside : rank < profile_count (sizes_of s) =
+    omega (arith, c.requires, behind, length-append (demand_rows s) (by_profile s (λ t. profile_row t ∷ [])), length-singles (profile_count (sizes_of s)) f) in
+    at_right s (demand_rows s) (by_profile s (λ t. profile_row t ∷ [])) c.args.row rank (Profile rank) behind
+    (at_single s (profile_count (sizes_of s)) rank f (Profile rank) inside refl inside)

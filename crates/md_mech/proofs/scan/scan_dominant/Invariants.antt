@@ -1,0 +1,13 @@
+use Rattle.std.proofs.Common.{◌≤◌, ◌+◌, ◌*◌, [], ◌∷◌}
+use Rattle.md_math.specs.Lists.{up_to}
+use Rattle.md_space.specs.Profiles.{profile_at}
+use Rattle.md_setting.specs.Meaning.{sizes_of}
+use Rattle.md_mech.specs.Rows.{dominant_rows}
+use Rattle.md_mech.specs.Scanned.{IsPassed}
+use Rattle.md_mech.proofs.scan.scan_dominant.Given as goal
+
+abbrev pub invariant-loop-agent : goal.invariant-loop-agent
+invariant-loop-agent l = record {
+  passed : IsPassed l.setting l.mechanism (up_to l.agent (dominant_rows l.setting)) 0 l.row;
+  few : l.row ≤ 0 + l.agent * 16384;
+}

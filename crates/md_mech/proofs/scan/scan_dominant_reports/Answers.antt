@@ -1,0 +1,34 @@
+use Rattle.std.proofs.Common.{◌≡◌, ◌<◌, ◌+◌, ◌∙◌, [], ◌∷◌, arith, subst, sym, ap, slice_index}
+use Rattle.std.proofs.lemmas.Result.{err_from_is_err_and}
+use Rattle.md_math.specs.Lists.{up_to}
+use Rattle.md_space.specs.Profiles.{profile_at, profile_count}
+use Rattle.md_setting.specs.Meaning.{agent_count, sizes_of}
+use Rattle.md_mech.specs.Rows.{dominant_row_of}
+use Rattle.md_mech.specs.Scanned.{IsPassed}
+use Rattle.md_mech.proofs.ScanLaws.{broken-at, passed-more}
+use Rattle.md_mech.proofs.UtilityLaws.{agents_are}
+use Rattle.md_mech.proofs.scan.scan_dominant_reports.Goals as goal
+
+pub returns-in_err-row-clause-scanned : goal.returns-in_err-row-clause-scanned
+returns-in_err-row-clause-scanned c =
+    let s = c.args.setting.now in
+    let count : c.types-report-end.result ≡ slice_index (sizes_of s) c.args.agent = c.types-report-end.ensures.count ∙ ap (λ sizes. slice_index sizes c.args.agent) c.space.ensures.sizes in
+    let p = err_from_is_err_and c.from_residual.result c.from_residual.ensures.1 in
+    rw (p.1, p.2)
+    (broken-at s c.args.mechanism.now (slice_index (sizes_of s) c.args.agent) c.loop-report.report (dominant_row_of s c.args.agent (profile_at (sizes_of s) c.args.rank)) c.args.start c.loop-report.row _
+    (omega (arith, count)) c.loop-report.invariant.passed c.in_err-row.ensures.scanned)
+
+pub loop-report-preserved : goal.loop-report-preserved
+loop-report-preserved c =
+    let s = c.args.setting.now in
+    record {
+      passed = passed-more s c.args.mechanism.now c.loop-report.report (dominant_row_of s c.args.agent (profile_at (sizes_of s) c.args.rank)) c.args.start c.loop-report.row c.in_ok-row.row c.loop-report.invariant.passed c.in_ok-row.ensures.scanned;
+      few = omega (arith, c.loop-report.invariant.few, c.in_ok-row.ensures.few);
+    }
+
+pub returns-clause-scanned : goal.returns-clause-scanned
+returns-clause-scanned c =
+    let s = c.args.setting.now in
+    let count : c.types-report-end.result ≡ slice_index (sizes_of s) c.args.agent = c.types-report-end.ensures.count ∙ ap (λ sizes. slice_index sizes c.args.agent) c.space.ensures.sizes in
+    let end : c.loop-report.report ≡ slice_index (sizes_of s) c.args.agent = omega (arith, count) in
+    subst (λ n. IsPassed s c.args.mechanism.now (up_to n (dominant_row_of s c.args.agent (profile_at (sizes_of s) c.args.rank))) c.args.start c.loop-report.row) end c.loop-report.invariant.passed

@@ -1,0 +1,12 @@
+pub mod Mechanism
+pub mod Utility
+pub mod Truth
+pub mod Rationality
+pub mod Admissible
+pub mod Optimal
+pub mod Rows
+pub mod RowName
+pub mod Accepted
+pub mod Refusals
+pub mod Scanned
+pub mod Places
