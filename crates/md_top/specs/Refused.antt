@@ -1,0 +1,35 @@
+-- The status and the line of each refusal.
+use Rattle.std.specs.Prelude.{◌≡◌, ◌≢◌, ◌⊎◌, ℕ, List, codes}
+use Rattle.md_toml.specs.declared.refusal.SettingRefusal.{SettingRefusal}
+use Rattle.md_toml.specs.declared.refusal.SettingRefusal.TheVariants as setting
+use Rattle.md_answer.specs.declared.answer.AnswerRefusal.{AnswerRefusal}
+use Rattle.md_answer.specs.declared.answer.AnswerRefusal.TheVariants as answer
+use Rattle.md_top.specs.declared.refusal.Refusal.{Refusal}
+use Rattle.md_top.specs.declared.refusal.Refusal.TheVariants.{Usage, SettingTooLong, Setting, AnswerTooLong, Answer, ReadFault, Memory}
+use Rattle.md_top.specs.Saying.{Saying}
+use Rattle.md_top.specs.Texts.{line, want_of_memory, setting_text, answer_text}
+
+abbrev pub status_of : Refusal → ℕ
+status_of Usage = 64
+status_of SettingTooLong = 65
+status_of (Setting _) = 65
+status_of AnswerTooLong = 66
+status_of (Answer _) = 66
+status_of ReadFault = 70
+status_of Memory = 72
+
+abbrev pub text_of : Refusal → List ℕ
+text_of Usage = line (codes "usage")
+text_of SettingTooLong = line (codes "setting refused: too long")
+text_of (Setting refusal) = setting_text refusal
+text_of AnswerTooLong = line (codes "answer refused: too long")
+text_of (Answer refusal) = answer_text refusal
+text_of ReadFault = line (codes "read fault")
+text_of Memory = want_of_memory
+
+abbrev pub refused : Refusal → Saying
+refused refusal = record { status = status_of refusal; text = text_of refusal }
+
+-- what is told of a refusal: it, or that there is no memory to tell it, but a fault of the shelf is always told
+abbrev pub IsTold : Refusal → Refusal → Type 0
+IsTold refusal told = (told ≡ refusal) ⊎ ((told ≡ Memory) × (refusal ≢ ReadFault))

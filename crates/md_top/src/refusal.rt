@@ -1,0 +1,132 @@
+//! Why a command is not carried out, and what is said of it.
+ghost use Rattle.std.specs.Prelude.{◌≡◌, ◌≤◌, ◌<◌, ◌≢◌, IfOk, string_bytes};
+ghost use Rattle.md_top.specs.Texts.{build_text, setting_text, answer_text};
+
+use md_answer::AnswerRefusal;
+use md_setting::BuildRefusal;
+use md_toml::SettingRefusal;
+use std::alloc::{AllocError, Global};
+
+/// The first reason for which a command is not carried out.
+#[derive(Clone, Copy, Debug, PartialEq, Eq)]
+pub enum Refusal {
+    /// The words are no command.
+    Usage,
+    /// The setting file is longer than its limit.
+    SettingTooLong,
+    /// The setting file says no setting.
+    Setting(SettingRefusal),
+    /// The second file is longer than its limit.
+    AnswerTooLong,
+    /// The second file says no answer.
+    Answer(AnswerRefusal),
+    /// A file could not be read.
+    ReadFault,
+    /// There is no memory left.
+    Memory,
+}
+
+// What is said of a setting that is not well formed.
+fn build_refusal_text(refusal: BuildRefusal) -> &'static str
+    ensures { result.now ≡ build_text refusal }
+{
+    match refusal {
+        BuildRefusal::BadName => "bad name",
+        BuildRefusal::DoubleName => "double name",
+        BuildRefusal::Sizes => "sizes",
+        BuildRefusal::Shape => "shape",
+        BuildRefusal::OutOfRange => "out of range",
+        BuildRefusal::ZeroWeight => "zero weight",
+        BuildRefusal::WeightTotal => "weight total",
+        BuildRefusal::ValuesOrder => "values order",
+        BuildRefusal::TooManyRows => "too many rows",
+        BuildRefusal::TooManyCounts => "too many counts",
+        BuildRefusal::Memory => "memory",
+    }
+}
+
+// What is said of a setting file that is refused.
+fn setting_refusal_text(alloc: Global, refusal: SettingRefusal) -> Result<String, AllocError>
+    ensures { IfOk result (λ text. string_bytes text ≡ setting_text refusal) }
+{
+    match refusal {
+        SettingRefusal::NotToml => format!(in alloc; "mechdes: setting refused: not toml\n"),
+        SettingRefusal::Missing(key) => {
+            format!(in alloc; "mechdes: setting refused: missing {}\n", key.text())
+        }
+        SettingRefusal::WrongKind(key) => {
+            format!(in alloc; "mechdes: setting refused: wrong kind {}\n", key.text())
+        }
+        SettingRefusal::UnknownWord(key) => {
+            format!(in alloc; "mechdes: setting refused: unknown word {}\n", key.text())
+        }
+        SettingRefusal::UnknownKey => format!(in alloc; "mechdes: setting refused: unknown key\n"),
+        SettingRefusal::Build(refusal) => {
+            format!(in alloc;
+                "mechdes: setting refused: {}\n",
+                build_refusal_text(refusal)
+            )
+        }
+        SettingRefusal::Memory => format!(in alloc; "mechdes: want of memory\n"),
+    }
+}
+
+// What is said of an answer file that is refused.
+fn answer_refusal_text(alloc: Global, refusal: AnswerRefusal) -> Result<String, AllocError>
+    ensures { IfOk result (λ text. string_bytes text ≡ answer_text refusal) }
+{
+    match refusal {
+        AnswerRefusal::Line(line) => {
+            format!(in alloc; "mechdes: answer refused: line {line}: record\n")
+        }
+        AnswerRefusal::Cell(line, field) => {
+            format!(in alloc; "mechdes: answer refused: line {line}: field {field}\n")
+        }
+        AnswerRefusal::Sum(line) => format!(in alloc;
+            "mechdes: answer refused: line {line}: sum\n"
+        ),
+        AnswerRefusal::End(line) => format!(in alloc;
+            "mechdes: answer refused: line {line}: ended\n"
+        ),
+        AnswerRefusal::Memory => format!(in alloc; "mechdes: want of memory\n"),
+    }
+}
+
+impl Refusal {
+    ghost use Rattle.std.specs.Prelude.{◌≡◌, ◌≢◌, ◌≤◌, IfOk, string_bytes};
+    ghost use Rattle.md_top.specs.Refused.{status_of, text_of};
+
+    /// The status that the call ends with.
+    pub(crate) fn status(self) -> u8
+        ensures { result ≡ status_of self }
+    {
+        match self {
+            Refusal::Usage => 64,
+            Refusal::SettingTooLong | Refusal::Setting(_) => 65,
+            Refusal::AnswerTooLong | Refusal::Answer(_) => 66,
+            Refusal::ReadFault => 70,
+            Refusal::Memory => 72,
+        }
+    }
+
+    /// The line that says it.
+    pub(crate) fn text(self, alloc: Global) -> Result<String, AllocError>
+        ensures { IfOk result (λ text. string_bytes text ≡ text_of self) }
+    {
+        match self {
+            Refusal::Usage => String::from_str(alloc, "mechdes: usage\n"),
+            Refusal::SettingTooLong => String::from_str(
+                alloc,
+                "mechdes: setting refused: too long\n",
+            ),
+            Refusal::Setting(refusal) => setting_refusal_text(alloc, refusal),
+            Refusal::AnswerTooLong => String::from_str(
+                alloc,
+                "mechdes: answer refused: too long\n",
+            ),
+            Refusal::Answer(refusal) => answer_refusal_text(alloc, refusal),
+            Refusal::ReadFault => String::from_str(alloc, "mechdes: read fault\n"),
+            Refusal::Memory => String::from_str(alloc, "mechdes: want of memory\n"),
+        }
+    }
+}
