@@ -1,0 +1,13 @@
+-- Numbers that went to their bits and are read again.
+use Rattle.std.proofs.Common.{◌≡◌, ℕ, ◌^◌, ◌<◌, ℤ, to_z, of_z, arith}
+use Rattle.std.proofs.lemmas.Int.{to_z-of_z, fits_signed_from_abs}
+use mir.Syntax.{w128}
+use lib.Signed.{mag}
+use Rattle.md_math.specs.Sizes.{IsWithin}
+
+pub small_back : (limit : ℕ) (z : ℤ) → IsWithin limit z → limit < 2 ^ 127 → to_z w128 (of_z w128 z) ≡ z
+small_back limit z h l = to_z-of_z w128 z (fits_signed_from_abs w128 z (omega (arith, h.within)))
+
+-- the result of a call
+pub result_back : (z : ℤ) → mag z < 2 ^ 127 → to_z w128 (of_z w128 z) ≡ z
+result_back z h = to_z-of_z w128 z (record { sfits = h })

@@ -1,0 +1,5 @@
+pub mod Pairs
+pub mod Claims
+pub mod Certified
+pub mod Fault
+pub mod Fitting

@@ -1,0 +1,9 @@
+pub mod Bits
+pub mod SparseRows
+pub mod ShapeLaws
+pub mod PlacesSoFar
+pub mod Dividing
+pub mod Building
+pub mod SumSizes
+pub mod RowRuns
+pub mod ColumnRuns

@@ -1,0 +1,5 @@
+use Rattle.md_lp.proofs.RowRuns.{AddsSoFar}
+use Rattle.md_lp.proofs.sums.add_terms.Given as goal
+
+abbrev pub invariant-loop-term : goal.invariant-loop-term
+invariant-loop-term l = AddsSoFar l.terms l.term-index l.first l.weight l.fn.sums l.sums

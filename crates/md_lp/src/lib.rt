@@ -1,0 +1,28 @@
+//! Linear programs with whole-number coefficients, and the small types that speak of their bases.
+#![tactic(auto)]
+
+mod divide;
+mod entry;
+mod lp;
+mod lp_refusal;
+mod path;
+mod pivot;
+mod places;
+mod row_kind;
+mod sets;
+mod sizes;
+mod stored_row;
+mod sums;
+mod term;
+
+pub use entry::Entry;
+pub use lp::Lp;
+pub use lp_refusal::LpRefusal;
+pub use path::Path;
+pub use pivot::Pivot;
+pub use row_kind::RowKind;
+pub use sets::Sets;
+pub use term::Term;
+
+#[cfg(test)]
+mod tests;

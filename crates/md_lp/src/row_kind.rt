@@ -1,0 +1,8 @@
+/// What a row demands of its sum over the columns.
+#[derive(Clone, Copy, Debug, PartialEq, Eq)]
+pub enum RowKind {
+    /// The sum is at most the right side.
+    AtMost,
+    /// The sum is the right side.
+    Exact,
+}

@@ -1,0 +1,10 @@
+use crate::row_kind::RowKind;
+use crate::term::Term;
+
+// A row as it is kept: its memory is that of its terms.
+#[derive(Debug, Drop)]
+pub struct StoredRow {
+    pub kind: RowKind,
+    pub terms: Vec<Term>,
+    pub right: i128,
+}

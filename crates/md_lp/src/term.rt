@@ -1,0 +1,6 @@
+/// A coefficient of a row that is written down, at its column.
+#[derive(Clone, Copy, Debug, PartialEq, Eq)]
+pub struct Term {
+    pub column: u32,
+    pub value: i128,
+}
