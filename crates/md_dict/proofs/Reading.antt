@@ -1,0 +1,53 @@
+-- Numbers that are read back from their bits, and the sizes of products of two kept numbers.
+use Rattle.std.proofs.Common.{◌≡◌, ◌+◌, ◌*◌, ◌^◌, ◌<◌, ◌≤◌, ℤ, ◌-ℤ◌, ◌*ℤ◌, to_z, of_z, SFits, FitsSigned, unsigned_abs, lit<, mul-le-mul, ap, ◌∙◌, arith}
+use Rattle.std.proofs.lemmas.Int.{to_z-of_z, fits_signed_from_abs}
+use lib.Signed.{mag}
+use mir.Syntax.{w128, w64}
+use Rattle.md_math.specs.Sizes.{IsWithin}
+use Rattle.md_math.proofs.SizeLaws.{fits_from_IsWithin, IsWithin-*ℤ, IsWithin-sub}
+
+-- a number that fits is read back from its bits
+pub read : (z : ℤ) → SFits w128 z → to_z w128 (of_z w128 z) ≡ z
+read z fits = to_z-of_z w128 z fits
+
+-- the same, by what is known of a call's result
+pub read_result : (z : ℤ) → mag z < 2 ^ 127 → to_z w128 (of_z w128 z) ≡ z
+read_result z fits = to_z-of_z w128 z (record { sfits = fits })
+
+-- a number of 126 bits
+pub read_wide : (z : ℤ) → unsigned_abs z < 2 ^ 126 → to_z w128 (of_z w128 z) ≡ z
+read_wide z small = read z (fits_signed_from_abs w128 z (omega arith))
+
+-- a number of 62 bits
+pub read_small : (z : ℤ) → IsWithin (2 ^ 62) z → to_z w128 (of_z w128 z) ≡ z
+read_small z small = read z (fits_from_IsWithin w128 (2 ^ 62) z small (lit< tt))
+
+-- the product of two such numbers
+pub product_small : (a b : ℤ) → IsWithin (2 ^ 62) a → IsWithin (2 ^ 62) b → unsigned_abs (a *ℤ b) < 2 ^ 126
+product_small a b p q = let h : IsWithin (2 ^ 62 * 2 ^ 62) (a *ℤ b) = IsWithin-*ℤ (2 ^ 62) (2 ^ 62) a b p q in omega (arith, h.within)
+
+pub sizes_small : (a b : ℤ) → IsWithin (2 ^ 62) a → IsWithin (2 ^ 62) b → unsigned_abs a * unsigned_abs b < 2 ^ 126
+sizes_small a b p q = let h : unsigned_abs a * unsigned_abs b ≤ 2 ^ 62 * 2 ^ 62 = mul-le-mul p.within q.within in omega arith
+
+-- a number of 62 bits that was cast to 64 bits and back
+pub read_cast : (z : ℤ) → SFits w128 z → IsWithin (2 ^ 62) z → to_z w64 (of_z w64 (to_z w128 (of_z w128 z))) ≡ z
+read_cast z fits small = ap (λ y. to_z w64 (of_z w64 y)) (read z fits) ∙ to_z-of_z w64 z (fits_from_IsWithin w64 (2 ^ 62) z small (lit< tt))
+
+-- the difference of two products of such numbers
+pub record IsCross (a b c d : ℤ) : Type 0 where
+  pub first_fits : FitsSigned w128 (a *ℤ b)
+  pub second_fits : FitsSigned w128 (c *ℤ d)
+  pub fits : FitsSigned w128 (a *ℤ b -ℤ c *ℤ d)
+  pub size : unsigned_abs (a *ℤ b -ℤ c *ℤ d) < 2 ^ 126
+
+pub cross_of_small : (a b c d : ℤ) → IsWithin (2 ^ 62) a → IsWithin (2 ^ 62) b → IsWithin (2 ^ 62) c → IsWithin (2 ^ 62) d → IsCross a b c d
+cross_of_small a b c d p q r s =
+    let first : IsWithin (2 ^ 62 * 2 ^ 62) (a *ℤ b) = IsWithin-*ℤ (2 ^ 62) (2 ^ 62) a b p q in
+    let second : IsWithin (2 ^ 62 * 2 ^ 62) (c *ℤ d) = IsWithin-*ℤ (2 ^ 62) (2 ^ 62) c d r s in
+    let whole : IsWithin (2 ^ 62 * 2 ^ 62 + 2 ^ 62 * 2 ^ 62) (a *ℤ b -ℤ c *ℤ d) = IsWithin-sub (2 ^ 62 * 2 ^ 62) (2 ^ 62 * 2 ^ 62) (a *ℤ b) (c *ℤ d) first second in
+    record {
+      first_fits = fits_from_IsWithin w128 (2 ^ 62 * 2 ^ 62) (a *ℤ b) first (lit< tt);
+      second_fits = fits_from_IsWithin w128 (2 ^ 62 * 2 ^ 62) (c *ℤ d) second (lit< tt);
+      fits = fits_from_IsWithin w128 (2 ^ 62 * 2 ^ 62 + 2 ^ 62 * 2 ^ 62) (a *ℤ b -ℤ c *ℤ d) whole (lit< tt);
+      size = omega (arith, whole.within);
+    }

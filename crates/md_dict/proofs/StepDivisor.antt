@@ -1,0 +1,61 @@
+-- The greatest common divisor of the raw numbers, one number and one row at a time.
+use Rattle.std.proofs.Common.{◌≡◌, ℕ, ◌+◌, ◌<◌, List, ℤ, pos, ◌*ℤ◌, ◌≤ℤ◌, ◌<ℤ◌, unsigned_abs, subst, inl, inr, arith}
+use Rattle.std.proofs.lemmas.Bool.{cases_lt}
+use Rattle.md_math.specs.Divisors.{Divides, IsGcdOfTwo}
+use Rattle.md_math.proofs.Division.{Divides_trans, Divides_refl}
+use Rattle.md_math.proofs.Order.{positive-*ℤ}
+use Rattle.std.proofs.lemmas.Int.{ints}
+use Rattle.std.proofs.Math.Nat as NatL
+use Rattle.md_dict.specs.declared.step.Step.{Step}
+use Rattle.md_dict.specs.Step.{raw_number, IsRowDivisor, IsStepDivisor}
+
+-- what divides a positive number and is not negative is positive
+pub positive_divisor : (b g : ℤ) → pos 0 <ℤ b → Divides g b → pos 0 ≤ℤ g → pos 0 <ℤ g
+positive_divisor b g p h n =
+    let above : 0 < unsigned_abs b = omega (arith, ints) in
+    let size : 0 < unsigned_abs g = NatL.pos_of_dvd_of_pos h.divides above in
+    omega (arith, ints)
+
+pub IsRowDivisor-none : (step : Step) (kept : List ℤ) (i : ℕ) (before : ℤ) → pos 0 <ℤ before → IsRowDivisor step kept i 0 before before
+IsRowDivisor-none step kept i before p = record {
+  positive = p;
+  of_before = Divides_refl before;
+  of_places = record { at = λ s b. absurd (omega arith) };
+  greatest = λ x h _. h;
+}
+
+pub IsRowDivisor-more : (step : Step) (kept : List ℤ) (i n : ℕ) (before d g : ℤ) → IsRowDivisor step kept i n before d → IsGcdOfTwo d (raw_number step kept i n) g → IsRowDivisor step kept i (n + 1) before g
+IsRowDivisor-more step kept i n before d g h q = record {
+  positive = positive_divisor d g h.positive q.left q.nonneg;
+  of_before = Divides_trans g d before q.left h.of_before;
+  of_places = record {
+    at = λ s b.
+        elim (cases_lt s n) [
+          | inl l ↦ Divides_trans g d (raw_number step kept i s) q.left (h.of_places.at s l)
+          | inr l ↦ (let same : n ≡ s = omega arith in subst (λ k. Divides g (raw_number step kept i k)) same q.right)
+        ];
+  };
+  greatest = λ x a b. q.greatest x (h.greatest x a (record { at = λ s c. b.at s (omega arith) })) (b.at n (omega arith));
+}
+
+pub IsStepDivisor-none : (step : Step) (kept : List ℤ) → pos 0 <ℤ step.den → pos 0 <ℤ step.pivot → IsStepDivisor step kept 0 (step.den *ℤ step.pivot)
+IsStepDivisor-none step kept p q = record {
+  positive = positive-*ℤ step.den step.pivot p q;
+  of_den = Divides_refl (step.den *ℤ step.pivot);
+  of_rows = record { at = λ i s b _. absurd (omega arith) };
+  greatest = λ x h _. h;
+}
+
+pub IsStepDivisor-more : (step : Step) (kept : List ℤ) (n : ℕ) (d g : ℤ) → IsStepDivisor step kept n d → IsRowDivisor step kept n (step.columns + 1) d g → IsStepDivisor step kept (n + 1) g
+IsStepDivisor-more step kept n d g h q = record {
+  positive = q.positive;
+  of_den = Divides_trans g d (step.den *ℤ step.pivot) q.of_before h.of_den;
+  of_rows = record {
+    at = λ i s b c.
+        elim (cases_lt i n) [
+          | inl l ↦ Divides_trans g d (raw_number step kept i s) q.of_before (h.of_rows.at i s l c)
+          | inr l ↦ (let same : n ≡ i = omega arith in subst (λ k. Divides g (raw_number step kept k s)) same (q.of_places.at s c))
+        ];
+  };
+  greatest = λ x a b. q.greatest x (h.greatest x a (record { at = λ i s c e. b.at i s (omega arith) e })) (record { at = λ s c. b.at n s (omega arith) c });
+}

@@ -1,0 +1,295 @@
+ghost use Rattle.std.specs.Prelude.{◌≡◌, ℕ, ◌+◌, ◌*◌, ◌^◌, ◌<◌, ◌≤◌, ℤ, pos, ◌<ℤ◌, ◌≤ℤ◌, ◌*ℤ◌, ◌⊎◌, length, ◌↔◌, int_div, IfErr, IfOk, IsTrue, MatchOption, OnOk, OnErr, slice_index, ◌==◌, if◌then◌else◌, unsigned_abs};
+ghost use Rattle.md_num.specs.Limits.{limit_of};
+ghost use Rattle.md_math.specs.Lists.{number_at};
+ghost use Rattle.md_math.specs.Sizes.{AllWithin, IsWithin};
+ghost use Rattle.md_lp.specs.Program.{Program};
+ghost use Rattle.md_dict.specs.Dictionary.{IsDictionary};
+ghost use Rattle.md_dict.specs.Pivot.{with_column};
+ghost use Rattle.md_dict.specs.Wide.{IsFirstWide, IsNarrow, IsWideBasis};
+ghost use Rattle.md_dict.specs.FirstTable.{first_entry};
+
+use crate::first::{first_columns, first_numbers, numbers_to, wide_first};
+use crate::refusals::{StartRefusal, TooWide};
+use crate::step::{Step, basic_number};
+use crate::wide::{new_den, wide_entry};
+use md_lp::{Entry, Lp};
+use md_num::Width;
+use std::alloc::Global;
+use std::marker::Model;
+
+/// The dictionary of a basis of a linear program with m rows and n program and slack columns: whole numbers over one denominator, in least terms.
+/// Its rows are the program rows, then the face row m and the main row m + 1. Its columns are the program and slack columns, then the start columns n to n + m - 1, and the right side n + m.
+/// No number exceeds the limit of the width in size.
+#[derive(Debug, Drop)]
+pub struct Dict {
+    rows: u32,
+    columns: u32,
+    width: Width,
+    den: i128,
+    order: Vec<u32>,
+    seat: Vec<u32>,
+    kept: Vec<i128>,
+}
+
+// A dictionary is seen by its basis and the numbers that it keeps.
+impl Model for Dict {
+    ghost use Rattle.md_dict.specs.Condensed.{Condensed, IsShapedDictionary};
+
+    ghost Value = { Condensed };
+
+    ghost view = { λ d. record { rows = d.rows; columns = d.columns; bits = d.width; den = d.den; order = d.order.items; seat = d.seat.items; kept = d.kept.items } };
+
+    ghost invariant = { λ d. IsShapedDictionary (record { rows = d.rows; columns = d.columns; bits = d.width; den = d.den; order = d.order.items; seat = d.seat.items; kept = d.kept.items }) };
+}
+
+impl Dict {
+    ghost use Rattle.md_dict.specs.Condensed.{Holds, IsGreatestSize, IsShapedDictionary, KeepsEachOnce, TakesColumn, basic_at, entry_at, kept_column_at};
+    ghost use Rattle.md_dict.specs.Start.{IsRefused, IsStart};
+    ghost use Rattle.md_dict.specs.Step.{IsStepDivisor, new_entry};
+    ghost use Rattle.md_dict.specs.Exchange.{IsExchange, AreWritten, exchanged, step_of};
+
+    /// The dictionary of the first basis, which has the start columns in row order.
+    /// It is refused where it has an entry above the width's limit in size, and where memory ran out.
+    pub fn start(alloc: Global, lp: &Lp, width: Width) -> Result<Dict, StartRefusal>
+        ensures ok { IfOk result (IsStart lp.now width) }
+        ensures refused { IfErr result (IsRefused lp.now width) }
+    {
+        let rows = lp.rows();
+        let columns = first_columns(lp);
+        let Ok(kept) = first_numbers(alloc, lp, columns) else {
+            return Err(StartRefusal::Memory);
+        };
+        let limit = width.limit().unsigned_abs();
+        if let Some(entry) = wide_first(kept.as_slice(), columns, rows, limit) {
+            return Err(StartRefusal::TooWide(entry));
+        }
+        let Ok(order) = numbers_to(alloc, columns + rows) else {
+            return Err(StartRefusal::Memory);
+        };
+        let Ok(seat) = numbers_to(alloc, columns + rows) else {
+            return Err(StartRefusal::Memory);
+        };
+        Ok(Dict {
+            rows,
+            columns,
+            width,
+            den: 1,
+            order,
+            seat,
+            kept,
+        })
+    }
+
+    /// The number of program rows.
+    pub fn rows(&self) -> u32
+        ensures value { result ≡ self.now.rows }
+        ensures shape { IsShapedDictionary self.now }
+    {
+        self.rows
+    }
+
+    /// The number of program and slack columns.
+    pub fn columns(&self) -> u32
+        ensures value { result ≡ self.now.columns }
+        ensures shape { IsShapedDictionary self.now }
+    {
+        self.columns
+    }
+
+    /// The denominator of all entries.
+    pub fn den(&self) -> i128
+        ensures value { result ≡ self.now.den }
+        ensures positive { pos 0 <ℤ result }
+        ensures size { IsWithin (limit_of self.now.bits) result }
+
+        // A basis has at most one dictionary.
+        ensures only { (p : Program) (den : ℤ) (e : ℕ → ℕ → ℤ) → Holds p self.now → IsDictionary self.now.rows self.now.columns (first_entry p) (basic_at self.now) den e → den ≡ result }
+    {
+        self.den
+    }
+
+    /// The basic column of a program row.
+    pub fn basic(&self, row: u32) -> u32
+        requires { row < self.now.rows }
+        ensures value { result ≡ basic_at self.now row }
+        ensures range { result < self.now.columns + self.now.rows }
+    {
+        self.order[self.columns as usize + row as usize]
+    }
+
+    /// The column at a kept place. Over all places it is each column that is not basic exactly once.
+    pub fn kept_column(&self, place: u32) -> u32
+        requires { place < self.now.columns }
+        ensures value { result ≡ kept_column_at self.now place }
+        ensures range { result < self.now.columns + self.now.rows }
+        ensures each_once { KeepsEachOnce self.now }
+    {
+        self.order[place as usize]
+    }
+
+    /// The numbers that the dictionary keeps, row by row: in each row those of the columns that are not basic, by kept place, and the right side.
+    pub fn kept(&self) -> &[i128]
+        ensures value { result.now ≡ self.now.kept }
+        ensures shape { IsShapedDictionary self.now }
+    {
+        self.kept.as_slice()
+    }
+
+    /// The entry at a row and a column of the whole dictionary.
+    pub fn entry(&self, row: u32, column: u32) -> i128
+        requires row_in { row < self.now.rows + 2 }
+        requires column_in { column < self.now.columns + self.now.rows + 1 }
+        ensures value { result ≡ entry_at self.now row column }
+        ensures size { IsWithin (limit_of self.now.bits) result }
+
+        // A basis has at most one dictionary.
+        ensures only { (p : Program) (den : ℤ) (e : ℕ → ℕ → ℤ) → Holds p self.now → IsDictionary self.now.rows self.now.columns (first_entry p) (basic_at self.now) den e → e row column ≡ entry_at self.now row column }
+    {
+        let stride = self.columns as usize + 1;
+        if column >= self.columns + self.rows {
+            return self.kept[row as usize * stride + self.columns as usize];
+        }
+        let place = self.seat[column as usize];
+        if place < self.columns {
+            return self.kept[row as usize * stride + place as usize];
+        }
+        basic_number(
+            self.rows as usize,
+            self.columns as usize,
+            self.den,
+            (place - self.columns) as usize,
+            column as usize,
+            row as usize,
+        )
+    }
+
+    /// The greatest size of an entry.
+    pub fn greatest(&self) -> i128
+        ensures nonneg { pos 0 ≤ℤ result }
+        ensures greatest { IsGreatestSize self.now (unsigned_abs result) }
+    {
+        let least = least_size(self.rows, self.den);
+        greatest_size(self.kept.as_slice(), least) as i128
+    }
+
+    /// Makes a program or slack column basic at a row where its entry is positive.
+    /// Where the new basis has an entry above the width's limit, the first such entry is answered, and the dictionary stays as it was.
+    pub fn pivot(&mut self, row: u32, column: u32) -> Result<(), TooWide>
+        requires row_in { row < self.old.rows }
+        requires column_in { column < self.old.columns }
+        requires positive { pos 0 <ℤ entry_at self.old row column }
+
+        // For each program of which this was the dictionary of a basis, it is now the dictionary of the new basis.
+        ensures dictionary { OnOk result ((p : Program) → Holds p self.old → Holds p self.new) }
+        ensures basis { OnOk result (TakesColumn self.old self.new row column) }
+        ensures narrow { OnOk result (IsNarrow self.new.rows self.new.columns (limit_of self.new.bits) (entry_at self.new)) }
+
+        // The new basis is wide.
+        ensures too_wide { IfErr result (λ refusal. (p : Program) → Holds p self.old → IsWideBasis self.old.rows self.old.columns (first_entry p) (with_column (basic_at self.old) row column) (limit_of self.old.bits) refusal.entry) }
+        ensures err { OnErr result (self.new ≡ self.old) }
+    {
+        if self.is_basic(column) {
+            return Ok(());
+        }
+        let step = self.step(row, column);
+        if let Some(entry) = self.wide_entry(&step) {
+            return Err(TooWide { entry });
+        }
+        self.exchange(&step);
+        Ok(())
+    }
+
+    // Whether a column is basic.
+    fn is_basic(&self, column: u32) -> bool
+        requires { column < self.now.columns }
+        ensures basic { IsTrue result ↔ (self.now.columns ≤ slice_index self.now.seat column) }
+        ensures shape { IsShapedDictionary self.now }
+    {
+        self.seat[column as usize] >= self.columns
+    }
+
+    // The step of a pivot, before its divisor is known.
+    fn plain_step(&self, row: u32, column: u32) -> Step
+        requires { IsExchange self.now row column }
+        ensures { result ≡ step_of self.now row column (pos 1) }
+    {
+        let columns = self.columns as usize;
+        let place = self.seat[column as usize] as usize;
+        Step {
+            rows: self.rows as usize,
+            columns,
+            row: row as usize,
+            place,
+            entering: column as usize,
+            leaving: self.order[columns + row as usize] as usize,
+            pivot: self.kept[row as usize * (columns + 1) + place],
+            den: self.den,
+            limit: self.width.limit().unsigned_abs(),
+            divisor: 1,
+        }
+    }
+
+    // The step of a pivot, with the number by which all is divided.
+    fn step(&self, row: u32, column: u32) -> Step
+        requires { IsExchange self.now row column }
+        ensures step { result ≡ step_of self.now row column result.divisor }
+        ensures divisor { IsStepDivisor (step_of self.now row column (pos 1)) self.now.kept (self.now.rows + 2) result.divisor }
+        ensures size { unsigned_abs result.divisor < 2 ^ 126 }
+    {
+        self.plain_step(row, column).divided(self.kept.as_slice())
+    }
+
+    // The first entry after a pivot that is above the limit.
+    fn wide_entry(&self, step: &Step) -> Option<Entry>
+        requires exchange { IsExchange self.now step.now.row step.now.entering }
+        requires step { step.now ≡ step_of self.now step.now.row step.now.entering step.now.divisor }
+        requires divisor { IsStepDivisor step.now self.now.kept (self.now.rows + 2) step.now.divisor }
+        requires size { unsigned_abs step.now.divisor < 2 ^ 126 }
+        ensures { MatchOption result
+            (IsNarrow self.now.rows self.now.columns (limit_of self.now.bits) (new_entry step.now self.now.kept self.now.seat step.now.divisor))
+            (IsFirstWide self.now.rows self.now.columns (limit_of self.now.bits) (int_div (step.now.den *ℤ step.now.pivot) step.now.divisor) (new_entry step.now self.now.kept self.now.seat step.now.divisor)) }
+    {
+        wide_entry(step, self.kept.as_slice(), self.seat.as_slice())
+    }
+
+    // Writes what a pivot makes of the dictionary.
+    fn exchange(&mut self, step: &Step)
+        requires exchange { IsExchange self.old step.now.row step.now.entering }
+        requires step { step.now ≡ step_of self.old step.now.row step.now.entering step.now.divisor }
+        requires divisor { IsStepDivisor step.now self.old.kept (self.old.rows + 2) step.now.divisor }
+        requires size { unsigned_abs step.now.divisor < 2 ^ 126 }
+        requires narrow { IsNarrow self.old.rows self.old.columns (limit_of self.old.bits) (new_entry step.now self.old.kept self.old.seat step.now.divisor) }
+        ensures new { self.new ≡ exchanged self.old step.now.row step.now.entering step.now.divisor self.new.kept }
+        ensures written { AreWritten self.old step.now.row step.now.entering step.now.divisor self.new.kept }
+    {
+        step.write(&mut self.kept);
+        self.order[step.place] = step.leaving as u32;
+        self.order[step.columns + step.row] = step.entering as u32;
+        self.seat[step.entering] = (step.columns + step.row) as u32;
+        self.seat[step.leaving] = step.place as u32;
+        self.den = new_den(step);
+    }
+}
+
+// The size that the basic columns have, if there are any.
+fn least_size(rows: u32, den: i128) -> u128
+    ensures { result ≡ (if rows == 0 then 0 else unsigned_abs den) }
+{
+    if rows == 0 { 0 } else { den.unsigned_abs() }
+}
+
+// The greatest of a number and the sizes of others.
+fn greatest_size(numbers: &[i128], least: u128) -> u128
+    requires numbers { AllWithin (2 ^ 62) numbers.now }
+    requires least { least ≤ 2 ^ 62 }
+    ensures size { result ≤ 2 ^ 62 }
+    ensures bound { (k : ℕ) → k < length numbers.now → unsigned_abs (number_at numbers.now k) ≤ result }
+    ensures least { least ≤ result }
+    ensures reached { (result ≡ least) ⊎ ((k : ℕ) × (k < length numbers.now) × (unsigned_abs (number_at numbers.now k) ≡ result)) }
+{
+    let mut greatest = least;
+    for x in numbers {
+        greatest = greatest.max(x.unsigned_abs());
+    }
+    greatest
+}

@@ -1,0 +1,14 @@
+//! The exact dictionary of a basis of a linear program: whole numbers over one denominator, in least terms.
+#![tactic(auto)]
+
+mod dict;
+mod first;
+mod refusals;
+mod step;
+mod wide;
+
+pub use dict::Dict;
+pub use refusals::{StartRefusal, TooWide};
+
+#[cfg(test)]
+mod tests;

@@ -1,0 +1,115 @@
+use super::*;
+use md_lp::{Entry, Lp, RowKind, Term};
+use md_num::{Nums, Width};
+use std::alloc::Global;
+use std::process::Abort;
+use std::test::Fail;
+
+fn terms(alloc: Global, pairs: &[(u32, i128)]) -> Result<Vec<Term>, Fail> {
+    let mut terms = Vec::new(alloc);
+    for (column, value) in pairs {
+        terms.push(Term {
+            column: *column,
+            value: *value,
+        })?;
+    }
+    Ok(terms)
+}
+
+// Who buys an item for 1 or for `high`, with payments: six rows over eight columns.
+fn buyer(rt: &impl Abort, alloc: Global, high: i64) -> Result<Lp, Fail> {
+    let mut cost = Nums::new(alloc);
+    for x in [0, 0, 0, 0, 1, 1, -1, -1] {
+        cost.push(x)?;
+    }
+    assert_eq!(rt; cost.len(), 8);
+    let mut lp = Lp::new(alloc, 8, cost)?;
+    let low_truth = terms(alloc, &[(1, -1), (3, 1), (4, 1), (5, -1), (6, -1), (7, 1)])?;
+    lp.push_row(RowKind::AtMost, low_truth.as_slice(), 0)?;
+    let high = i128::from(high);
+    let high_truth = terms(
+        alloc,
+        &[(1, high), (3, -high), (4, -1), (5, 1), (6, 1), (7, -1)],
+    )?;
+    lp.push_row(RowKind::AtMost, high_truth.as_slice(), 0)?;
+    let low_share = terms(alloc, &[(1, -1), (4, 1), (6, -1)])?;
+    lp.push_row(RowKind::AtMost, low_share.as_slice(), 0)?;
+    let high_share = terms(alloc, &[(3, -high), (5, 1), (7, -1)])?;
+    lp.push_row(RowKind::AtMost, high_share.as_slice(), 0)?;
+    let low_odds = terms(alloc, &[(0, 1), (1, 1)])?;
+    lp.push_row(RowKind::Exact, low_odds.as_slice(), 1)?;
+    let high_odds = terms(alloc, &[(2, 1), (3, 1)])?;
+    lp.push_row(RowKind::Exact, high_odds.as_slice(), 1)?;
+    Ok(lp)
+}
+
+fn width(bits: u8) -> Result<Width, Fail> {
+    Ok(Width::new(bits).ok_or("no width")?)
+}
+
+fn pivot_at(dict: &mut Dict, row: u32, column: u32) -> Result<(), TooWide> {
+    if row < dict.rows() && column < dict.columns() && dict.entry(row, column) > 0 {
+        dict.pivot(row, column)
+    } else {
+        Ok(())
+    }
+}
+
+fn entry_at(dict: &Dict, row: u32, column: u32) -> Option<i128> {
+    if row < dict.rows() + 2 && column < dict.columns() + dict.rows() + 1 {
+        Some(dict.entry(row, column))
+    } else {
+        None
+    }
+}
+
+#[test]
+fn follows_the_path_of_a_buyer(rt: HostRuntime) -> Result<(), Fail> {
+    let lp = buyer(&rt, rt.alloc(), 3)?;
+    let mut dict = Dict::start(rt.alloc(), &lp, width(62)?)?;
+    assert_eq!(rt; dict.den(), 1);
+    assert_eq!(rt; dict.greatest(), 4);
+    let pivots = [
+        (4, 0, 1, 4),
+        (1, 1, 3, 9),
+        (5, 2, 3, 12),
+        (2, 4, 2, 6),
+        (0, 8, 2, 6),
+        (3, 5, 2, 6),
+        (5, 3, 2, 6),
+    ];
+    for (row, column, den, greatest) in pivots {
+        pivot_at(&mut dict, row, column)?;
+        assert_eq!(rt; dict.den(), den);
+        assert_eq!(rt; dict.greatest(), greatest);
+    }
+    assert_eq!(rt; entry_at(&dict, 7, 18), Some(6));
+    Ok(())
+}
+
+#[test]
+fn names_the_first_wide_entry(rt: HostRuntime) -> Result<(), Fail> {
+    let lp = buyer(&rt, rt.alloc(), 20)?;
+    let Err(refusal) = Dict::start(rt.alloc(), &lp, width(4)?) else {
+        return Err("a wide basis started".into());
+    };
+    let first = Entry {
+        row: 1,
+        column: 1,
+        num: 20,
+        den: 1,
+    };
+    assert_eq!(rt; refusal, StartRefusal::TooWide(first));
+    let lp = buyer(&rt, rt.alloc(), 5)?;
+    let mut dict = Dict::start(rt.alloc(), &lp, width(4)?)?;
+    pivot_at(&mut dict, 4, 0)?;
+    let entry = Entry {
+        row: 3,
+        column: 3,
+        num: -25,
+        den: 5,
+    };
+    assert_eq!(rt; pivot_at(&mut dict, 1, 1), Err(TooWide { entry }));
+    assert_eq!(rt; dict.den(), 1);
+    Ok(())
+}
