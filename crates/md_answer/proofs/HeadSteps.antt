@@ -1,7 +1,10 @@
 -- The first record of an answer, by the steps over its fields.
-use Rattle.std.proofs.Common.{◌≡◌, pos, List, [], ◌∷◌, codes, Ok, Err, refl}
+use Rattle.std.proofs.Common.{◌≡◌, pos, List, [], ◌∷◌, codes, Ok, Err, refl, ap}
 use Rattle.md_answer.specs.declared.answer.AnswerRefusal.{AnswerRefusal}
 use Rattle.md_answer.specs.Answers.{read_head}
+use Rattle.md_answer.specs.Kinds.{kind_field, kind_of, number_of}
+use Rattle.md_answer.specs.declared.kind.Kind.{Kind}
+use Rattle.md_answer.specs.declared.kind.Kind.TheVariants.{Table, Optimal, Infeasible, Unbounded, TooWide}
 use Rattle.md_answer.specs.Fields.{Field, word_field}
 use Rattle.md_answer.specs.Left.{Left}
 use Rattle.md_answer.specs.Reading.{Rest}
@@ -17,7 +20,7 @@ abbrev kind : Field
 kind = word_field (codes "general")
 
 abbrev which : Field
-which = word_field (codes "table")
+which = kind_field
 
 abbrev head_fields : List Field
 head_fields = version ∷ kind ∷ which ∷ []
@@ -41,8 +44,16 @@ head-which rest after left second third refusal h first next fails =
     rw (record-fails (codes "answer") head_fields 3 rest after left refusal refl h
     (fails-then (version ∷ kind ∷ []) (which ∷ []) left third (pos 0 ∷ pos 0 ∷ []) refusal (reads-then (version ∷ []) (kind ∷ []) left second third (pos 0 ∷ []) (pos 0 ∷ []) first next) fails)) refl
 
-pub head-read : (rest after : Rest) (left second third end : Left) → record_with (codes "answer") 3 rest ≡ Ok (left, after)
-    → Reads (version ∷ []) left second (pos 0 ∷ []) → Reads (kind ∷ []) second third (pos 0 ∷ []) → Reads (which ∷ []) third end (pos 0 ∷ []) → read_head rest ≡ Ok (tt, after)
-head-read rest after left second third end h first next last =
-    rw (record-read (codes "answer") head_fields 3 rest after left end (pos 0 ∷ pos 0 ∷ pos 0 ∷ []) refl h
-    (reads-then (version ∷ kind ∷ []) (which ∷ []) left third end (pos 0 ∷ pos 0 ∷ []) (pos 0 ∷ []) (reads-then (version ∷ []) (kind ∷ []) left second third (pos 0 ∷ []) (pos 0 ∷ []) first next) last)) refl
+kind_of-number : (k : Kind) → kind_of (number_of k) ≡ k
+kind_of-number Table = refl
+kind_of-number Optimal = refl
+kind_of-number Infeasible = refl
+kind_of-number Unbounded = refl
+kind_of-number TooWide = refl
+
+pub head-read : (rest after : Rest) (left second third end : Left) (k : Kind) → record_with (codes "answer") 3 rest ≡ Ok (left, after)
+    → Reads (version ∷ []) left second (pos 0 ∷ []) → Reads (kind ∷ []) second third (pos 0 ∷ []) → Reads (which ∷ []) third end (number_of k ∷ []) → read_head rest ≡ Ok (k, after)
+head-read rest after left second third end k h first next last =
+    rw (record-read (codes "answer") head_fields 3 rest after left end (pos 0 ∷ pos 0 ∷ number_of k ∷ []) refl h
+    (reads-then (version ∷ kind ∷ []) (which ∷ []) left third end (pos 0 ∷ pos 0 ∷ []) (number_of k ∷ []) (reads-then (version ∷ []) (kind ∷ []) left second third (pos 0 ∷ []) (pos 0 ∷ []) first next) last))
+    (ap (λ (found : Kind). Ok (found, after)) (kind_of-number k))

@@ -58,11 +58,11 @@ lottery-known s den t rest after ns long h =
     let each = subst (λ (xs : List ℤ). All (IsInField 62 (int_le (pos 0))) xs) (sym same) known.each in
     (ap length same ∙ known.long, record { each = each; whole = ap total same ∙ whole }, each)
 
-payments-known : (s : GeneralSetting) (t : List ℕ) (rest after : Rest) (ns : List ℤ) → length t ≡ agent_count s → payments_of s t rest ≡ Ok (ns, after)
+payments-known : (word : List ℕ) (s : GeneralSetting) (t : List ℕ) (rest after : Rest) (ns : List ℤ) → length t ≡ agent_count s → payments_of word s t rest ≡ Ok (ns, after)
     → (length ns ≡ agent_count s) × (Unit {0}) × All (IsInField 62 (λ _. true)) ns
-payments-known s t rest after ns long h =
-    let two = in_two (read_record (codes "pay") (profile_fields s t ++ replicate (agent_count s) any_number) rest) _ ns after h in
-    let known = at_profile s t (codes "pay") (agent_count s) (λ _. true) rest two.mid two.one long two.first_is in
+payments-known word s t rest after ns long h =
+    let two = in_two (read_record word (profile_fields s t ++ replicate (agent_count s) any_number) rest) _ ns after h in
+    let known = at_profile s t word (agent_count s) (λ _. true) rest two.mid two.one long two.first_is in
     let pair : (drop (agent_count s) two.one, two.mid) ≡ (ns, after) = cc in
     let same : drop (agent_count s) two.one ≡ ns = ap (λ (p : List ℤ × Rest). p.0) pair in
     (sym (ap length same) ∙ known.long, tt, subst (λ (xs : List ℤ). All (IsInField 62 (λ _. true)) xs) same known.each)
@@ -97,11 +97,11 @@ zeros-at zero k = refl
 zeros-at (suc n) zero = refl
 zeros-at (suc n) (suc k) = zeros-at n k
 
-pays-known : (s : GeneralSetting) (b : Bool) (rest after : Rest) (pays : List ℤ) → s.payments ≡ b → all_payments_of s b rest ≡ Ok (pays, after) → ArePays s pays
-pays-known s true rest after pays on h =
+pub pays-known : (word : List ℕ) (s : GeneralSetting) (b : Bool) (rest after : Rest) (pays : List ℤ) → s.payments ≡ b → all_payments_of word s b rest ≡ Ok (pays, after) → ArePays s pays
+pays-known word s true rest after pays on h =
     let one : (t : List ℕ) → IsProfile (sizes_of s) t → length t ≡ agent_count s = λ t p. length-IsProfile (sizes_of s) t p ∙ agent_count-sizes s in
-    let blocks = each-blocks (agent_count s) (λ _. Unit {0}) (IsInField 62 (λ _. true)) (IsProfile (sizes_of s)) (payments_of s)
-    (λ t r a ns p e. payments-known s t r a ns (one t p) e) (profiles_of (sizes_of s)) rest after pays (All-profiles_of (sizes_of s)) h in
+    let blocks = each-blocks (agent_count s) (λ _. Unit {0}) (IsInField 62 (λ _. true)) (IsProfile (sizes_of s)) (payments_of word s)
+    (λ t r a ns p e. payments-known word s t r a ns (one t p) e) (profiles_of (sizes_of s)) rest after pays (All-profiles_of (sizes_of s)) h in
     record {
       long = blocks.long ∙ ap (λ n. n * agent_count s) (length-profiles_of (sizes_of s));
       small = AllWithin-fields (λ _. true) pays blocks.each;
@@ -110,7 +110,7 @@ pays-known s true rest after pays on h =
   where
     true_is_not_false : true ≡ false → ⊥
     true_is_not_false e = cc
-pays-known s false rest after pays off h =
+pays-known word s false rest after pays off h =
     let pair : (replicate (profile_count (sizes_of s) * agent_count s) (pos 0), rest) ≡ (pays, after) = cc in
     let same : replicate (profile_count (sizes_of s) * agent_count s) (pos 0) ≡ pays = ap (λ (p : List ℤ × Rest). p.0) pair in
     subst (ArePays s) same (record {
@@ -163,9 +163,9 @@ pub mechanism-accepted : (s : GeneralSetting) (m : Mechanism) (rest after : Rest
 mechanism-accepted s m rest after h =
     let den = in_two (denominator_of rest) _ m after h in
     let chances = in_two (each_profile (lottery_of s den.one) (profiles_of (sizes_of s)) den.mid) _ m after den.next_is in
-    let pays = in_two (all_payments_of s s.payments chances.mid) _ m after chances.next_is in
+    let pays = in_two (all_payments_of (codes "pay") s s.payments chances.mid) _ m after chances.next_is in
     let made : Mechanism = record { den = den.one; chances = chances.one; pays = pays.one } in
     let pair : (made, pays.mid) ≡ (m, after) = cc in
     let same : made ≡ m = ap (λ (p : Mechanism × Rest). p.0) pair in
     subst (IsAccepted s) same (made-accepted s made (den-known rest den.mid den.one den.first_is) (chances-known s den.one den.mid chances.mid chances.one chances.first_is)
-    (pays-known s s.payments chances.mid pays.mid pays.one refl pays.first_is))
+    (pays-known (codes "pay") s s.payments chances.mid pays.mid pays.one refl pays.first_is))

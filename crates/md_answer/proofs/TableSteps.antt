@@ -10,12 +10,12 @@ use Rattle.md_setting.specs.Meaning.{nobody, agent_at, agent_count, outcome_coun
 use Rattle.md_mech.specs.RowName.{type_names}
 use Rattle.md_answer.specs.declared.answer.AnswerRefusal.{AnswerRefusal}
 use Rattle.md_answer.specs.declared.answer.AnswerRefusal.TheVariants.{Sum}
-use Rattle.md_answer.specs.Fields.{Field, word_field, any_number, chance_field, denominator_field}
+use Rattle.md_answer.specs.Fields.{Field, word_field, any_number, chance_field, denominator_field, wide_number, wide_denominator}
 use Rattle.md_answer.specs.Left.{Left}
 use Rattle.md_answer.specs.Reading.{Rest, read_record}
 use Rattle.md_answer.specs.Records.{record_with}
 use Rattle.md_answer.specs.FieldsRead.{Reads, FailsIn}
-use Rattle.md_answer.specs.Table.{profile_fields, denominator_of, lottery_of, payments_of}
+use Rattle.md_answer.specs.Table.{profile_fields, denominator_of, lottery_of, payments_of, value_of}
 use Rattle.md_answer.proofs.FieldSteps.{reads-taken, fails-taken}
 use Rattle.md_answer.proofs.RecordSteps.{record-read, record-fails, record-missing}
 
@@ -57,6 +57,19 @@ denominator-fails rest after left refusal h fails =
 
 pub denominator-missing : (rest : Rest) (refusal : AnswerRefusal) → record_with (codes "table") 1 rest ≡ Err refusal → denominator_of rest ≡ Err refusal
 denominator-missing rest refusal h = rw (record-missing (codes "table") (denominator_field ∷ []) 1 rest refusal refl h) refl
+
+-- the value
+abbrev value_fields : List Field
+value_fields = wide_number ∷ wide_denominator ∷ []
+
+pub value-read : (rest after : Rest) (left end : Left) (num den : ℤ) → record_with (codes "value") 2 rest ≡ Ok (left, after) → Reads value_fields left end (num ∷ den ∷ []) → value_of rest ≡ Ok (record { num = num; den = den }, after)
+value-read rest after left end num den h reads = rw (record-read (codes "value") value_fields 2 rest after left end (num ∷ den ∷ []) refl h reads) refl
+
+pub value-fails : (rest after : Rest) (left : Left) (refusal : AnswerRefusal) → record_with (codes "value") 2 rest ≡ Ok (left, after) → FailsIn value_fields left refusal → value_of rest ≡ Err refusal
+value-fails rest after left refusal h fails = rw (record-fails (codes "value") value_fields 2 rest after left refusal refl h fails) refl
+
+pub value-missing : (rest : Rest) (refusal : AnswerRefusal) → record_with (codes "value") 2 rest ≡ Err refusal → value_of rest ≡ Err refusal
+value-missing rest refusal h = rw (record-missing (codes "value") value_fields 2 rest refusal refl h) refl
 
 -- a profile has a type for each agent
 pub profile-long : (s : GeneralSetting) (rank : ℕ) → rank < profile_count (sizes_of s) → length (profile_at (sizes_of s) rank) ≡ agent_count s
@@ -135,10 +148,10 @@ pub lottery-fails : (s : GeneralSetting) (den : ℤ) (t : List ℕ) (rest : Rest
 lottery-fails s den t rest refusal h = rw h refl
 
 -- payments, by the numbers of their record
-pub payments-by : (s : GeneralSetting) (t : List ℕ) (rest after : Rest) (ns : List ℤ)
-    → read_record (codes "pay") (profile_fields s t ++ replicate (agent_count s) any_number) rest ≡ Ok (replicate (agent_count s) (pos 0) ++ ns, after) → payments_of s t rest ≡ Ok (ns, after)
-payments-by s t rest after ns h = rw (h, drop-zeros (agent_count s) ns) refl
+pub payments-by : (word : List ℕ) (s : GeneralSetting) (t : List ℕ) (rest after : Rest) (ns : List ℤ)
+    → read_record word (profile_fields s t ++ replicate (agent_count s) any_number) rest ≡ Ok (replicate (agent_count s) (pos 0) ++ ns, after) → payments_of word s t rest ≡ Ok (ns, after)
+payments-by word s t rest after ns h = rw (h, drop-zeros (agent_count s) ns) refl
 
-pub payments-fails : (s : GeneralSetting) (t : List ℕ) (rest : Rest) (refusal : AnswerRefusal)
-    → read_record (codes "pay") (profile_fields s t ++ replicate (agent_count s) any_number) rest ≡ Err refusal → payments_of s t rest ≡ Err refusal
-payments-fails s t rest refusal h = rw h refl
+pub payments-fails : (word : List ℕ) (s : GeneralSetting) (t : List ℕ) (rest : Rest) (refusal : AnswerRefusal)
+    → read_record word (profile_fields s t ++ replicate (agent_count s) any_number) rest ≡ Err refusal → payments_of word s t rest ≡ Err refusal
+payments-fails word s t rest refusal h = rw h refl

@@ -1,19 +1,25 @@
 -- What the bytes of an answer file say of a general setting: an answer, or the first reason to refuse them.
 use Rattle.std.specs.Prelude.{ℕ, List, [], ◌∷◌, codes, Result, Ok, Err}
+use Rattle.md_math.specs.Lists.{number_at}
 use Rattle.md_setting.specs.Setting.{GeneralSetting}
 use Rattle.md_records.specs.Text.{records_of}
 use Rattle.md_answer.specs.declared.answer.Answer.{Answer}
-use Rattle.md_answer.specs.declared.answer.Answer.TheVariants.{Table}
+use Rattle.md_answer.specs.declared.answer.Answer.TheVariants.{Table, Optimal, Infeasible, Unbounded, TooWide}
 use Rattle.md_answer.specs.declared.answer.AnswerRefusal.{AnswerRefusal}
+use Rattle.md_answer.specs.declared.kind.Kind.{Kind}
+use Rattle.md_answer.specs.declared.kind.Kind.TheVariants as kind
 use Rattle.md_answer.specs.Fields.{word_field}
+use Rattle.md_answer.specs.Kinds.{kind_field, kind_of}
 use Rattle.md_answer.specs.Reading.{Rest, Reading, ◌>>=◌, nothing_more, read_record, nothing_left}
-use Rattle.md_answer.specs.Table.{mechanism_of}
+use Rattle.md_answer.specs.Table.{mechanism_of, ray_of, value_of}
+use Rattle.md_answer.specs.Multipliers.{bound_of, face_of}
+use Rattle.md_answer.specs.Path.{path_of, entry_of}
 
 -- the version of the format, the kind of setting, and which answer it is
-abbrev pub read_head : Reading (Unit {0})
+abbrev pub read_head : Reading Kind
 read_head = do
-  _ ← read_record (codes "answer") (word_field (codes "1") ∷ word_field (codes "general") ∷ word_field (codes "table") ∷ [])
-  nothing_more tt
+  numbers ← read_record (codes "answer") (word_field (codes "1") ∷ word_field (codes "general") ∷ kind_field ∷ [])
+  nothing_more (kind_of (number_at numbers 2))
 
 -- the end, after which nothing follows
 abbrev pub read_end : Reading (Unit {0})
@@ -21,12 +27,50 @@ read_end = do
   _ ← read_record (codes "end") []
   nothing_left
 
+-- what stands between the first record and the last
+abbrev pub table_answer : GeneralSetting → Reading Answer
+table_answer s = do
+  mechanism ← mechanism_of s
+  nothing_more (Table mechanism)
+
+abbrev pub optimal_answer : GeneralSetting → Reading Answer
+optimal_answer s = do
+  value ← value_of
+  mechanism ← mechanism_of s
+  bound ← bound_of s
+  nothing_more (Optimal value mechanism bound)
+
+abbrev pub infeasible_answer : GeneralSetting → Reading Answer
+infeasible_answer s = do
+  face ← face_of s
+  nothing_more (Infeasible face)
+
+abbrev pub unbounded_answer : GeneralSetting → Reading Answer
+unbounded_answer s = do
+  mechanism ← mechanism_of s
+  ray ← ray_of s
+  nothing_more (Unbounded mechanism ray)
+
+-- the program of a general setting has no rows that were added as cuts
+abbrev pub too_wide_answer : Reading Answer
+too_wide_answer = do
+  path ← path_of
+  entry ← entry_of
+  nothing_more (TooWide [] path entry)
+
+abbrev pub answer_by : GeneralSetting → Kind → Reading Answer
+answer_by s kind.Table = table_answer s
+answer_by s kind.Optimal = optimal_answer s
+answer_by s kind.Infeasible = infeasible_answer s
+answer_by s kind.Unbounded = unbounded_answer s
+answer_by s kind.TooWide = too_wide_answer
+
 abbrev pub whole_answer : GeneralSetting → Reading Answer
 whole_answer s = do
-  _ ← read_head
-  mechanism ← mechanism_of s
+  which ← read_head
+  answer ← answer_by s which
   _ ← read_end
-  nothing_more (Table mechanism)
+  nothing_more answer
 
 -- the answer alone
 abbrev pub answered : Result (Answer × Rest) AnswerRefusal → Result Answer AnswerRefusal

@@ -1,5 +1,5 @@
 -- What stands in the fields of a record after its word.
-use Rattle.std.specs.Prelude.{ℕ, ◌+◌, ℤ, pos, Bool, true, List, [], ◌∷◌, Option, None, Some, Result, Ok, Err, int_le, if◌then◌else◌}
+use Rattle.std.specs.Prelude.{ℕ, ◌+◌, ◌^◌, ℤ, pos, Bool, true, ◌&&◌, List, [], ◌∷◌, Option, None, Some, Result, Ok, Err, int_le, int_lt, if◌then◌else◌}
 use Rattle.std.specs.Str.{bytes_eq}
 use Rattle.md_num.specs.WholeText.{whole_of}
 
@@ -27,6 +27,24 @@ chance_field = number_field 62 (int_le (pos 0))
 
 abbrev pub denominator_field : Field
 denominator_field = number_field 62 (int_le (pos 1))
+
+-- values and entries are of 126 bits
+abbrev pub wide_number : Field
+wide_number = number_field 126 (λ _. true)
+
+abbrev pub wide_denominator : Field
+wide_denominator = number_field 126 (int_le (pos 1))
+
+-- a number is one of the places from one on and below another
+abbrev pub is_place : ℕ → ℕ → ℤ → Bool
+is_place from below number = int_le (pos from) number && int_lt number (pos below)
+
+abbrev pub place_field : ℕ → ℕ → Field
+place_field from below = number_field 62 (is_place from below)
+
+-- the place of a row or column of a table
+abbrev pub table_place : Field
+table_place = place_field 0 (2 ^ 32)
 
 -- the numbers of the fields, or the place of the first that holds something else, where the first field has this place
 abbrev pub numbers_of : ℕ → List Field → List (List ℕ) → Result (List ℤ) ℕ

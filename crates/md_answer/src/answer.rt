@@ -2,8 +2,10 @@
 ghost use Rattle.std.specs.Prelude.{◌≡◌};
 ghost use Rattle.md_answer.specs.declared.answer.AnswerRefusal.TheVariants.{Memory};
 
+use md_cert::Bound;
+use md_lp::{Entry, Path, Sets};
 use md_mech::Mechanism;
-use md_num::NoMemory;
+use md_num::{Frac, NoMemory, Nums};
 use std::alloc::AllocError;
 use thiserror::Error;
 
@@ -12,6 +14,29 @@ use thiserror::Error;
 pub enum Answer {
     /// A mechanism, of which nothing is claimed.
     Table(Mechanism),
+    /// A mechanism with its value, and multipliers of the setting's rows that show that none has a greater one.
+    Optimal {
+        value: Frac,
+        mechanism: Mechanism,
+        bound: Bound,
+    },
+    /// Multipliers of the setting's rows that show that no mechanism meets them.
+    Infeasible {
+        face: Nums,
+    },
+    /// A mechanism, and payments that may be added to it again and again with a gain each time: by the rank of the
+    /// profile, then by agent; all 0 where payments are off.
+    Unbounded {
+        mechanism: Mechanism,
+        ray: Nums,
+    },
+    /// The pivots that lead to the first dictionary with an entry too wide, and that entry. The cuts are the rows
+    /// that were added to the program: none for a general setting.
+    TooWide {
+        cuts: Sets,
+        path: Path,
+        entry: Entry,
+    },
 }
 
 /// The first reason for which an answer file is refused. Records and fields are counted from 1.

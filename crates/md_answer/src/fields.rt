@@ -1,17 +1,22 @@
 //! The fields of one record.
-ghost use Rattle.std.specs.Prelude.{◌≡◌, ◌≢◌, ◌<◌, ◌≤◌, ◌+◌, ◌∷◌, [], ℕ, pos, List, drop, length, ℤ, ◌+ℤ◌, ◌^◌, ◌++◌, replicate, unsigned_abs, MatchResult, MatchOption, IfOk, Ok, Err, IsTrue};
+ghost use Rattle.std.specs.Prelude.{◌≡◌, ◌≢◌, ◌<◌, ◌≤◌, ◌+◌, ◌∷◌, [], ℕ, pos, List, drop, length, ℤ, ◌+ℤ◌, ◌^◌, ◌++◌, replicate, unsigned_abs, MatchResult, MatchOption, IfOk, Ok, Err, true, IsTrue};
 ghost use Rattle.md_math.specs.Sums.{total};
 ghost use Rattle.md_num.specs.Limits.{limit_of};
-ghost use Rattle.md_answer.specs.Fields.{word_field};
+ghost use Rattle.md_answer.specs.Fields.{word_field, place_field, table_place};
 ghost use Rattle.md_answer.specs.Records.{fields_after_word};
-ghost use Rattle.md_answer.specs.Ranges.{ranged_field};
+ghost use Rattle.md_answer.specs.Kinds.{kind_field, number_of};
+ghost use Rattle.md_answer.specs.Ranges.{ranged_field, in_range};
 ghost use Rattle.md_answer.specs.FieldsRead.{Reads, FailsIn};
 
 use crate::AnswerRefusal;
+use crate::kind::Kind;
 use crate::range::Range;
 use md_num::{Nums, read_whole};
 use md_records::Record;
 use std::marker::Model;
+
+/// The number of places that a row or a column of a table may have.
+const TABLE_PLACES: u64 = 4_294_967_296;
 
 /// The fields of a record that are left.
 #[derive(Drop)]
@@ -88,6 +93,23 @@ impl Fields {
         Ok(())
     }
 
+    /// The next field must be the word of a kind of answers.
+    #[tactic(auto, using(crate::proofs::FieldSteps::field_steps))]
+    pub(crate) fn kind(&mut self) -> Result<Kind, AnswerRefusal>
+        requires { 0 < length self.old.texts }
+        ensures { MatchResult result
+            (λ kind. Reads (kind_field ∷ []) self.old self.new (number_of kind ∷ []))
+            (λ refusal. FailsIn (kind_field ∷ []) self.old refusal) }
+    {
+        match Kind::named(self.text()) {
+            Some(kind) => {
+                self.step();
+                Ok(kind)
+            }
+            None => Err(self.refusal()),
+        }
+    }
+
     /// The next field must be a number of at most so many bits in a range.
     #[tactic(auto, using(crate::proofs::FieldSteps::field_steps))]
     pub(crate) fn number(&mut self, bits: u8, range: Range) -> Result<i128, AnswerRefusal>
@@ -96,6 +118,7 @@ impl Fields {
         ensures read { MatchResult result
             (λ number. Reads (ranged_field bits range ∷ []) self.old self.new (number ∷ []))
             (λ refusal. FailsIn (ranged_field bits range ∷ []) self.old refusal) }
+        ensures range { IfOk result (λ number. in_range range number ≡ true) }
         ensures size { IfOk result (λ number. unsigned_abs number ≤ limit_of bits) }
     {
         match read_whole(self.text(), bits) {
@@ -105,6 +128,48 @@ impl Fields {
             }
             _ => Err(self.refusal()),
         }
+    }
+
+    /// The next field must be a place from one on and below another.
+    pub(crate) fn place(&mut self, from: u64, below: u64) -> Result<u64, AnswerRefusal>
+        requires { 0 < length self.old.texts }
+        ensures read { MatchResult result
+            (λ place. Reads (place_field from below ∷ []) self.old self.new (pos place ∷ []))
+            (λ refusal. FailsIn (place_field from below ∷ []) self.old refusal) }
+        ensures inside { IfOk result (λ place. (from ≤ place) × (place < below)) }
+    {
+        let place = self.number(62, Range::Place { from, below })?;
+        Ok(place as u64)
+    }
+
+    /// The next two fields must be the row and the column of a place of a table.
+    pub(crate) fn table_place(&mut self) -> Result<(u32, u32), AnswerRefusal>
+        requires { 2 ≤ length self.old.texts }
+        ensures { MatchResult result
+            (λ place. Reads (table_place ∷ table_place ∷ []) self.old self.new (pos place.0 ∷ pos place.1 ∷ []))
+            (λ refusal. FailsIn (table_place ∷ table_place ∷ []) self.old refusal) }
+    {
+        let row = self.place(0, TABLE_PLACES)?;
+        let column = self.place(0, TABLE_PLACES)?;
+        Ok((row as u32, column as u32))
+    }
+
+    /// The next two fields must be numbers of at most so many bits, each in its range.
+    pub(crate) fn pair(
+        &mut self,
+        bits: u8,
+        first: Range,
+        second: Range,
+    ) -> Result<(i128, i128), AnswerRefusal>
+        requires some { 2 ≤ length self.old.texts }
+        requires bits { bits ≤ 126 }
+        ensures { MatchResult result
+            (λ pair. Reads (ranged_field bits first ∷ ranged_field bits second ∷ []) self.old self.new (pair.0 ∷ pair.1 ∷ []))
+            (λ refusal. FailsIn (ranged_field bits first ∷ ranged_field bits second ∷ []) self.old refusal) }
+    {
+        let one = self.number(bits, first)?;
+        let other = self.number(bits, second)?;
+        Ok((one, other))
     }
 
     /// The next fields must be so many numbers in a range, which are added to a list. Answers what they add to.

@@ -10,6 +10,8 @@ pub(crate) enum Range {
     FromZero,
     /// A number from 1 on.
     FromOne,
+    /// A number from one on and below another.
+    Place { from: u64, below: u64 },
 }
 
 impl Range {
@@ -23,6 +25,9 @@ impl Range {
             Range::Any => true,
             Range::FromZero => 0 <= number,
             Range::FromOne => 1 <= number,
+            Range::Place { from, below } => {
+                i128::from(from) <= number && number < i128::from(below)
+            }
         }
     }
 }

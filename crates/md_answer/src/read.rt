@@ -1,24 +1,28 @@
 //! Reading a whole answer.
 ghost use Rattle.std.specs.Prelude.{◌≡◌, ◌≢◌, Ok, Err, IfOk, MatchResult};
-ghost use Rattle.md_answer.specs.AnswerTo.{IsAnswerTo};
-ghost use Rattle.md_answer.specs.Answers.{read_head, read_end, answer_of};
+ghost use Rattle.md_answer.specs.AnswerTo.{IsAnswerTo, HasPlaces};
+ghost use Rattle.md_answer.specs.Answers.{read_head, read_end, table_answer, optimal_answer, infeasible_answer, unbounded_answer, too_wide_answer, answer_by, answer_of};
 
+use crate::kind::Kind;
+use crate::multipliers::{read_bound, read_face};
+use crate::path::{read_entry, read_path};
 use crate::reading::Reader;
-use crate::table::read_mechanism;
+use crate::table::{read_mechanism, read_pays, read_value};
 use crate::{Answer, AnswerRefusal};
+use md_lp::Sets;
 use md_setting::Setting;
 use std::alloc::Global;
 
 // The version of the format, the kind of setting, and which answer it is.
-fn read_first(reader: &mut Reader) -> Result<(), AnswerRefusal>
+fn read_first(reader: &mut Reader) -> Result<Kind, AnswerRefusal>
     ensures { MatchResult result
-        (λ _. read_head reader.old ≡ Ok (tt, reader.new))
+        (λ kind. read_head reader.old ≡ Ok (kind, reader.new))
         (λ refusal. refusal ≢ AnswerRefusal.Memory → read_head reader.old ≡ Err refusal) }
 {
     let mut fields = reader.next("answer", 3)?;
     fields.word("1")?;
     fields.word("general")?;
-    fields.word("table")
+    fields.kind()
 }
 
 // The end, after which nothing follows.
@@ -31,6 +35,104 @@ fn read_last(reader: &mut Reader) -> Result<(), AnswerRefusal>
     reader.end()
 }
 
+// A mechanism alone.
+fn read_table(
+    alloc: Global,
+    reader: &mut Reader,
+    setting: &Setting,
+) -> Result<Answer, AnswerRefusal>
+    ensures { MatchResult result
+        (λ answer. table_answer setting.now reader.old ≡ Ok (answer, reader.new))
+        (λ refusal. refusal ≢ AnswerRefusal.Memory → table_answer setting.now reader.old ≡ Err refusal) }
+{
+    let mechanism = read_mechanism(alloc, reader, setting)?;
+    Ok(Answer::Table(mechanism))
+}
+
+// A value, a mechanism and multipliers.
+fn read_optimal(
+    alloc: Global,
+    reader: &mut Reader,
+    setting: &Setting,
+) -> Result<Answer, AnswerRefusal>
+    ensures { MatchResult result
+        (λ answer. optimal_answer setting.now reader.old ≡ Ok (answer, reader.new))
+        (λ refusal. refusal ≢ AnswerRefusal.Memory → optimal_answer setting.now reader.old ≡ Err refusal) }
+{
+    let value = read_value(reader)?;
+    let mechanism = read_mechanism(alloc, reader, setting)?;
+    let bound = read_bound(alloc, reader, setting)?;
+    Ok(Answer::Optimal {
+        value,
+        mechanism,
+        bound,
+    })
+}
+
+// Face multipliers alone.
+fn read_infeasible(
+    alloc: Global,
+    reader: &mut Reader,
+    setting: &Setting,
+) -> Result<Answer, AnswerRefusal>
+    ensures { MatchResult result
+        (λ answer. infeasible_answer setting.now reader.old ≡ Ok (answer, reader.new))
+        (λ refusal. refusal ≢ AnswerRefusal.Memory → infeasible_answer setting.now reader.old ≡ Err refusal) }
+{
+    let face = read_face(alloc, reader, setting)?;
+    Ok(Answer::Infeasible { face })
+}
+
+// A mechanism and a ray.
+fn read_unbounded(
+    alloc: Global,
+    reader: &mut Reader,
+    setting: &Setting,
+) -> Result<Answer, AnswerRefusal>
+    ensures { MatchResult result
+        (λ answer. unbounded_answer setting.now reader.old ≡ Ok (answer, reader.new))
+        (λ refusal. refusal ≢ AnswerRefusal.Memory → unbounded_answer setting.now reader.old ≡ Err refusal) }
+{
+    let mechanism = read_mechanism(alloc, reader, setting)?;
+    let ray = read_pays(alloc, reader, setting, "ray")?;
+    Ok(Answer::Unbounded { mechanism, ray })
+}
+
+// A path and an entry.
+fn read_too_wide(alloc: Global, reader: &mut Reader) -> Result<Answer, AnswerRefusal>
+    ensures { MatchResult result
+        (λ answer. too_wide_answer reader.old ≡ Ok (answer, reader.new))
+        (λ refusal. refusal ≢ AnswerRefusal.Memory → too_wide_answer reader.old ≡ Err refusal) }
+{
+    let path = read_path(alloc, reader)?;
+    let entry = read_entry(reader)?;
+    Ok(Answer::TooWide {
+        cuts: Sets::new(alloc),
+        path,
+        entry,
+    })
+}
+
+// What stands between the first record and the last.
+fn read_by_kind(
+    alloc: Global,
+    reader: &mut Reader,
+    setting: &Setting,
+    kind: Kind,
+) -> Result<Answer, AnswerRefusal>
+    ensures { MatchResult result
+        (λ answer. answer_by setting.now kind reader.old ≡ Ok (answer, reader.new))
+        (λ refusal. refusal ≢ AnswerRefusal.Memory → answer_by setting.now kind reader.old ≡ Err refusal) }
+{
+    match kind {
+        Kind::Table => read_table(alloc, reader, setting),
+        Kind::Optimal => read_optimal(alloc, reader, setting),
+        Kind::Infeasible => read_infeasible(alloc, reader, setting),
+        Kind::Unbounded => read_unbounded(alloc, reader, setting),
+        Kind::TooWide => read_too_wide(alloc, reader),
+    }
+}
+
 /// Reads an answer about a setting.
 pub fn read_answer(alloc: Global, bytes: &[u8], setting: &Setting) -> Result<Answer, AnswerRefusal>
     ensures reads { MatchResult result
@@ -39,10 +141,11 @@ pub fn read_answer(alloc: Global, bytes: &[u8], setting: &Setting) -> Result<Ans
 
     // What is read has the setting's sizes, and its numbers are in their ranges.
     ensures accepted { IfOk result (IsAnswerTo setting.now) }
+    ensures places { IfOk result HasPlaces }
 {
-    let mut reader = Reader::new(alloc, bytes);
-    read_first(&mut reader)?;
-    let mechanism = read_mechanism(alloc, &mut reader, setting)?;
+    let mut reader = Reader::new(alloc, bytes)?;
+    let kind = read_first(&mut reader)?;
+    let answer = read_by_kind(alloc, &mut reader, setting, kind)?;
     read_last(&mut reader)?;
-    Ok(Answer::Table(mechanism))
+    Ok(answer)
 }

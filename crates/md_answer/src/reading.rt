@@ -1,44 +1,77 @@
 //! Reading an answer record by record.
-ghost use Rattle.std.specs.Prelude.{◌≡◌, ◌≢◌, ◌<◌, ◌≤◌, ◌+◌, ℕ, List, [], length, true, false, MatchResult, Ok, Err};
+ghost use Rattle.std.specs.Prelude.{◌≡◌, ◌≢◌, ◌<◌, ◌≤◌, ◌+◌, ◌∷◌, ℕ, List, [], length, true, false, MatchResult, Ok, Err};
 ghost use Rattle.std.specs.Ordering.{int_eq};
 ghost use Rattle.md_records.specs.Text.{records_of};
 ghost use Rattle.md_answer.specs.Reading.{Rest, nothing_left};
 ghost use Rattle.md_answer.specs.Records.{record_with};
+ghost use Rattle.md_answer.specs.Repeated.{comes_next};
 
 use crate::AnswerRefusal;
 use crate::fields::Fields;
-use md_records::Records;
+use md_records::{Record, Records};
 use std::alloc::Global;
 use std::marker::Model;
 
 /// The records of an answer that are left, and how many were read.
 #[derive(Drop)]
 pub(crate) struct Reader<'a> {
-    records: Records<'a>,
+    // the record that comes next, where one does, and those after it
+    next: Option<Record>,
+    others: Records<'a>,
     read: u64,
 }
 
 impl<'a> Model for Reader<'a> {
     ghost use Rattle.std.specs.Prelude.{◌+◌, ◌<◌, ◌^◌, length};
     ghost use Rattle.md_answer.specs.Reading.{Rest};
+    ghost use Rattle.md_answer.specs.Ahead.{with_next};
 
     ghost Value = { Rest };
 
-    ghost view = { λ r. record { read = r.read; left = r.records } };
+    ghost view = { λ r. record { read = r.read; left = with_next r.next r.others } };
 
-    ghost invariant = { λ r. r.read + length r.records < 2 ^ 64 };
+    ghost invariant = { λ r. r.read + length (with_next r.next r.others) < 2 ^ 64 };
 }
 
 impl<'a> Reader<'a> {
     /// All records of a file.
-    pub(crate) fn new(alloc: Global, bytes: &'a [u8]) -> Reader<'a>
-        ensures { result ≡ record { read = 0; left = records_of bytes.now } }
+    pub(crate) fn new(alloc: Global, bytes: &'a [u8]) -> Result<Reader<'a>, AnswerRefusal>
+        ensures { MatchResult result
+            (λ reader. reader ≡ record { read = 0; left = records_of bytes.now })
+            (λ refusal. refusal ≡ AnswerRefusal.Memory) }
     {
         let _fits = bytes.len();
-        Reader {
-            records: Records::new(alloc, bytes),
+        let mut others = Records::new(alloc, bytes);
+        let next = others.next()?;
+        Ok(Reader {
+            next,
+            others,
             read: 0,
+        })
+    }
+
+    /// Whether a record is left and begins with a word.
+    pub(crate) fn comes_next(&self, word: &str) -> bool
+        ensures { result ≡ comes_next word.now self.now.left }
+    {
+        match &self.next {
+            Some(next) => next.is(0, word.as_bytes()),
+            None => false,
         }
+    }
+
+    // Takes the next record.
+    fn take(&mut self) -> Result<Record, AnswerRefusal>
+        ensures { MatchResult result
+            (λ next. (self.old.left ≡ next ∷ self.new.left) × (self.new.read ≡ self.old.read + 1))
+            (λ refusal. refusal ≢ AnswerRefusal.Memory → (self.old.left ≡ []) × (refusal ≡ AnswerRefusal.End self.old.read)) }
+    {
+        let Some(next) = self.next.take() else {
+            return Err(AnswerRefusal::End(self.read));
+        };
+        self.next = self.others.next()?;
+        self.read += 1;
+        Ok(next)
     }
 
     /// The next record, which must begin with a word and have so many fields after it.
@@ -47,10 +80,7 @@ impl<'a> Reader<'a> {
             (λ fields. record_with word.now count self.old ≡ Ok (fields, self.new))
             (λ refusal. refusal ≢ AnswerRefusal.Memory → record_with word.now count self.old ≡ Err refusal) }
     {
-        let Some(next) = self.records.next()? else {
-            return Err(AnswerRefusal::End(self.read));
-        };
-        self.read += 1;
+        let next = self.take()?;
         if next.is(0, word.as_bytes()) && next.len() - 1 == count {
             Ok(Fields::new(next, self.read))
         } else {
@@ -59,12 +89,12 @@ impl<'a> Reader<'a> {
     }
 
     /// No record may be left.
-    pub(crate) fn end(&mut self) -> Result<(), AnswerRefusal>
+    pub(crate) fn end(&self) -> Result<(), AnswerRefusal>
         ensures { MatchResult result
-            (λ _. nothing_left self.old ≡ Ok (tt, self.new))
-            (λ refusal. refusal ≢ AnswerRefusal.Memory → nothing_left self.old ≡ Err refusal) }
+            (λ _. nothing_left self.now ≡ Ok (tt, self.now))
+            (λ refusal. nothing_left self.now ≡ Err refusal) }
     {
-        match self.records.next()? {
+        match &self.next {
             None => Ok(()),
             Some(_) => Err(AnswerRefusal::Line(self.read + 1)),
         }

@@ -7,37 +7,37 @@ ghost use Rattle.md_math.specs.Sums.{total};
 ghost use Rattle.md_answer.specs.Reading.{read_record};
 ghost use Rattle.md_answer.specs.Ranges.{ranged_field};
 ghost use Rattle.md_answer.specs.FieldsRead.{Reads, FailsIn};
-ghost use Rattle.md_answer.specs.Table.{profile_fields, denominator_of, lottery_of, payments_of, each_profile, all_payments_of, mechanism_of};
+ghost use Rattle.md_answer.specs.Table.{profile_fields, denominator_of, lottery_of, payments_of, each_profile, all_payments_of, value_of, mechanism_of};
 
 use crate::AnswerRefusal;
 use crate::fields::Fields;
 use crate::range::Range;
 use crate::reading::Reader;
 use md_mech::Mechanism;
-use md_num::Nums;
+use md_num::{Frac, Nums};
 use md_setting::Setting;
 use std::alloc::Global;
 
-// How many agents there are.
+/// How many agents there are.
 #[tactic(auto, using(crate::proofs::TableSteps::counts))]
-fn agents_of(setting: &Setting) -> usize
+pub(crate) fn agents_of(setting: &Setting) -> usize
     ensures value { result ≡ agent_count setting.now }
     ensures few { result ≤ 6 }
 {
     setting.space().agents() as usize
 }
 
-// How many outcomes there are.
-fn outcomes_of(setting: &Setting) -> usize
+/// How many outcomes there are.
+pub(crate) fn outcomes_of(setting: &Setting) -> usize
     ensures value { result ≡ outcome_count setting.now }
     ensures few { result ≤ 16 }
 {
     setting.outcomes() as usize
 }
 
-// The name of the type that a profile gives to an agent.
+/// The name of the type that a profile gives to an agent.
 #[tactic(auto, using(crate::proofs::TableSteps::counts))]
-fn name_at(setting: &Setting, rank: u32, agent: u8) -> &str
+pub(crate) fn name_at(setting: &Setting, rank: u32, agent: u8) -> &str
     requires rank_in { rank < profile_count (sizes_of setting.now) }
     requires agent_in { agent < agent_count setting.now }
     ensures { result.now ≡ slice_index_or (agent_at setting.now agent).types (slice_index (profile_at (sizes_of setting.now) rank) agent) [] }
@@ -57,6 +57,17 @@ fn read_names(fields: &mut Fields, setting: &Setting, rank: u32) -> Result<(), A
         fields.word(name_at(setting, rank, agent))?;
     }
     Ok(())
+}
+
+/// The value of a mechanism.
+pub(crate) fn read_value(reader: &mut Reader) -> Result<Frac, AnswerRefusal>
+    ensures { MatchResult result
+        (λ value. value_of reader.old ≡ Ok (value, reader.new))
+        (λ refusal. refusal ≢ AnswerRefusal.Memory → value_of reader.old ≡ Err refusal) }
+{
+    let mut fields = reader.next("value", 2)?;
+    let (num, den) = fields.pair(126, Range::Any, Range::FromOne)?;
+    Ok(Frac { num, den })
 }
 
 // The denominator of a table.
@@ -122,16 +133,17 @@ fn read_lottery(
 fn read_payments(
     reader: &mut Reader,
     setting: &Setting,
+    word: &str,
     rank: u32,
     pays: &mut Nums,
 ) -> Result<(), AnswerRefusal>
     requires { rank < profile_count (sizes_of setting.now) }
     ensures { MatchResult result
-        (λ _. (numbers : List ℤ) × (payments_of setting.now (profile_at (sizes_of setting.now) rank) reader.old ≡ Ok (numbers, reader.new)) × (pays.new ≡ pays.old ++ numbers))
-        (λ refusal. refusal ≢ AnswerRefusal.Memory → payments_of setting.now (profile_at (sizes_of setting.now) rank) reader.old ≡ Err refusal) }
+        (λ _. (numbers : List ℤ) × (payments_of word.now setting.now (profile_at (sizes_of setting.now) rank) reader.old ≡ Ok (numbers, reader.new)) × (pays.new ≡ pays.old ++ numbers))
+        (λ refusal. refusal ≢ AnswerRefusal.Memory → payments_of word.now setting.now (profile_at (sizes_of setting.now) rank) reader.old ≡ Err refusal) }
 {
     let agents = agents_of(setting);
-    read_at_profile(reader, setting, "pay", rank, agents, Range::Any, pays)?;
+    read_at_profile(reader, setting, word, rank, agents, Range::Any, pays)?;
     Ok(())
 }
 
@@ -158,14 +170,15 @@ fn read_all_payments(
     alloc: Global,
     reader: &mut Reader,
     setting: &Setting,
+    word: &str,
 ) -> Result<Nums, AnswerRefusal>
     ensures { MatchResult result
-        (λ pays. each_profile (payments_of setting.now) (profiles_of (sizes_of setting.now)) reader.old ≡ Ok (pays, reader.new))
-        (λ refusal. refusal ≢ AnswerRefusal.Memory → each_profile (payments_of setting.now) (profiles_of (sizes_of setting.now)) reader.old ≡ Err refusal) }
+        (λ pays. each_profile (payments_of word.now setting.now) (profiles_of (sizes_of setting.now)) reader.old ≡ Ok (pays, reader.new))
+        (λ refusal. refusal ≢ AnswerRefusal.Memory → each_profile (payments_of word.now setting.now) (profiles_of (sizes_of setting.now)) reader.old ≡ Err refusal) }
 {
     let mut pays = Nums::new(alloc);
     for rank in 0..setting.space().profiles() {
-        read_payments(reader, setting, rank, &mut pays)?;
+        read_payments(reader, setting, word, rank, &mut pays)?;
     }
     Ok(pays)
 }
@@ -183,14 +196,19 @@ fn zeros(alloc: Global, count: usize) -> Result<Nums, AnswerRefusal>
     Ok(zeros)
 }
 
-// The payments of a mechanism, which stand in the file exactly where payments are on.
-fn read_pays(alloc: Global, reader: &mut Reader, setting: &Setting) -> Result<Nums, AnswerRefusal>
+/// What is paid at all profiles, in records that begin with a word and stand exactly where payments are on.
+pub(crate) fn read_pays(
+    alloc: Global,
+    reader: &mut Reader,
+    setting: &Setting,
+    word: &str,
+) -> Result<Nums, AnswerRefusal>
     ensures { MatchResult result
-        (λ pays. all_payments_of setting.now (setting.now).payments reader.old ≡ Ok (pays, reader.new))
-        (λ refusal. refusal ≢ AnswerRefusal.Memory → all_payments_of setting.now (setting.now).payments reader.old ≡ Err refusal) }
+        (λ pays. all_payments_of word.now setting.now (setting.now).payments reader.old ≡ Ok (pays, reader.new))
+        (λ refusal. refusal ≢ AnswerRefusal.Memory → all_payments_of word.now setting.now (setting.now).payments reader.old ≡ Err refusal) }
 {
     if setting.payments() {
-        return read_all_payments(alloc, reader, setting);
+        return read_all_payments(alloc, reader, setting, word);
     }
     let profiles = setting.space().profiles() as usize;
     zeros(alloc, profiles * agents_of(setting))
@@ -208,6 +226,6 @@ pub(crate) fn read_mechanism(
 {
     let den = read_denominator(reader)?;
     let chances = read_chances(alloc, reader, setting, den)?;
-    let pays = read_pays(alloc, reader, setting)?;
+    let pays = read_pays(alloc, reader, setting, "pay")?;
     Ok(Mechanism { den, chances, pays })
 }

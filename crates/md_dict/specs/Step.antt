@@ -100,6 +100,19 @@ pub record IsReady (step : Step) (kept : List ℤ) (divisor : ℤ) (i : ℕ) : T
   pub divides : DividesPlaces step kept i (step.columns + 1) divisor
   pub narrow : (s : ℕ) → s < step.columns + 1 → IsWithin step.limit (int_div (raw_number step kept i s) divisor)
 
+-- the row is another than the pivot row, which is not taken from it
+pub record IsApart (step : Step) (kept : List ℤ) (i : ℕ) : Type 0 where
+  pub other : i ≢ step.row
+  pub zero : number_in step kept i step.place ≡ pos 0
+
+-- the new numbers of a row are within the limit
+pub record IsRowNarrow (step : Step) (kept : List ℤ) (divisor : ℤ) (i : ℕ) : Type 0 where
+  pub at : (s : ℕ) → s < step.columns + 1 → IsWithin step.limit (int_div (raw_number step kept i s) divisor)
+
+-- the new numbers of the first rows are within the limit
+pub record AreRowsNarrow (step : Step) (kept : List ℤ) (divisor : ℤ) (n : ℕ) : Type 0 where
+  pub at : (i s : ℕ) → i < n → s < step.columns + 1 → IsWithin step.limit (int_div (raw_number step kept i s) divisor)
+
 -- the divisor times the new numbers of a row, at the first n places, are its raw numbers; all other numbers stay
 pub record IsRowWritten (step : Step) (divisor : ℤ) (old new : List ℤ) (i n : ℕ) : Type 0 where
   pub length_is : length new ≡ length old

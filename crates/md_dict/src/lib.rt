@@ -2,6 +2,7 @@
 #![tactic(auto)]
 
 mod dict;
+mod division;
 mod first;
 mod refusals;
 mod step;

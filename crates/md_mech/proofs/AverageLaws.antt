@@ -1,16 +1,15 @@
 -- Sums over all profiles as sums over ranks, and how large they can become.
-use Rattle.std.proofs.Common.{◌≡◌, ◌<◌, ◌≤◌, ◌+◌, ◌*◌, ◌^◌, ℕ, ℤ, pos, ◌+ℤ◌, ◌-ℤ◌, ◌*ℤ◌, Bool, true, false, List, slice_index, sym, ap, ◌∙◌, inl, inr, arith, mul-le-mul, le_refl, refl}
-use Rattle.std.specs.Prelude.{◌==◌, if◌then◌else◌}
+use Rattle.std.proofs.Common.{◌≡◌, ◌<◌, ◌≤◌, ◌+◌, ◌*◌, ◌^◌, ℕ, ◌*ℤ◌, List, slice_index, inl, inr, arith, mul-le-mul, le_refl, refl}
+use Rattle.std.specs.Prelude.{◌==◌}
 use Rattle.std.proofs.lemmas.Bool.{cases_Bool, eq-eqb}
-use Rattle.std.proofs.lemmas.Int.{to_z-of_z}
 use Rattle.md_math.specs.Sizes.{IsWithin}
-use Rattle.md_math.specs.Sums.{sum_to, total_by}
+use Rattle.md_math.specs.Sums.{sum_to}
 use Rattle.md_math.proofs.SizeLaws.{AllWithin-number_at, IsWithin-wider, IsWithin-zero, IsWithin-sub, IsWithin-*ℤ, sum_to-within}
-use Rattle.md_space.specs.Profiles.{IsProfile, profile_count, profile_at, replaced}
+use Rattle.md_space.specs.Profiles.{profile_count, profile_at, replaced}
 use Rattle.md_space.proofs.InOrder.{total_by-profiles}
 use Rattle.md_space.proofs.Ranks.{profile_at-IsProfile}
 use Rattle.md_setting.specs.Setting.{GeneralSetting}
-use Rattle.md_setting.specs.Meaning.{agent_count, outcome_count, sizes_of, weight_of, marginal_of}
+use Rattle.md_setting.specs.Meaning.{outcome_count, sizes_of, weight_of, marginal_of}
 use Rattle.md_setting.specs.Shaped.{IsShaped}
 use Rattle.md_mech.specs.Accepted.{IsAccepted, number_limit}
 use Rattle.md_mech.specs.declared.mechanism.Mechanism.{Mechanism}

@@ -7,3 +7,4 @@ pub mod Reading
 pub mod AverageLaws
 pub mod PlaceLaws
 pub mod NameLaws
+pub mod WorthLaws

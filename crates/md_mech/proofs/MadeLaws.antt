@@ -1,21 +1,20 @@
 -- Numbers that pass the tests make an accepted mechanism.
-use Rattle.std.proofs.Common.{◌≡◌, ℕ, ◌+◌, ◌-◌, ◌*◌, ◌/◌, ◌%◌, ◌^◌, ◌<◌, ◌≤◌, ℤ, pos, ◌≤ℤ◌, List, length, ap, ◌∙◌, sym, subst, arith, unsigned_abs}
+use Rattle.std.proofs.Common.{◌≡◌, ℕ, ◌+◌, ◌*◌, ◌/◌, ◌%◌, ◌<◌, ℤ, pos, ◌≤ℤ◌, List, length, subst, arith}
 use Rattle.std.proofs.lemmas.Int.{ints}
 use Rattle.std.proofs.lemmas.Nat.{mul-add-lt, div_below, mod_below, div-add-mod'}
 use Rattle.md_math.specs.FirstFailure.{HoldsBelow}
 use Rattle.md_math.specs.Lists.{number_at}
 use Rattle.md_math.specs.Sums.{sum_to}
-use Rattle.md_math.specs.Sizes.{IsWithin, AllWithin}
+use Rattle.md_math.specs.Sizes.{IsWithin}
 use Rattle.md_math.proofs.SumLaws.{sum_to-at_least}
 use Rattle.md_math.proofs.SizeLaws.{IsWithin-from_bounds}
-use Rattle.md_space.specs.Profiles.{profile_count, rank_of, IsProfile}
+use Rattle.md_space.specs.Profiles.{profile_count, rank_of}
 use Rattle.md_space.proofs.Ranks.{rank_of-below, pos-factor}
 use Rattle.md_setting.specs.Setting.{GeneralSetting}
 use Rattle.md_setting.specs.Meaning.{agent_count, outcome_count, sizes_of}
 use Rattle.md_mech.specs.declared.mechanism.Mechanism.{Mechanism}
-use Rattle.md_mech.specs.Mechanism.{IsMechanism}
 use Rattle.md_mech.specs.Accepted.{IsAccepted, number_limit}
-use Rattle.md_mech.specs.Refusals.{HasShape, HasDen, HasFrame, HasChances, HasWholes, IsChanceAt, IsWholeAt, IsPayment, IsPaymentAt}
+use Rattle.md_mech.specs.Refusals.{HasWholes, IsChanceAt, IsWholeAt, IsPaymentAt}
 
 place-below : (r n w k : ℕ) → r < n → k < w → r * w + k < n * w
 place-below r n w k h l = omega (arith, mul-add-lt r w k n h l)

@@ -1,9 +1,9 @@
 -- Names that are written one after the other.
-use Rattle.std.proofs.Common.{◌≡◌, ℕ, zero, suc, ◌+◌, ◌<◌, ◌≤◌, List, [], ◌∷◌, ◌++◌, length, get_or, take, refl, sym, ap, subst, ◌∙◌, arith, append_assoc}
+use Rattle.std.proofs.Common.{◌≡◌, ℕ, zero, suc, ◌+◌, ◌<◌, ◌≤◌, List, [], ◌∷◌, ◌++◌, length, get_or, take, refl, sym, ap, ◌∙◌, arith, append_assoc}
 use Rattle.std.specs.List.{join_with_byte}
 use Rattle.std.specs.Prelude.{slice_index_or}
 use Rattle.std.proofs.lemmas.List.{take_more, take_all, length-take}
-use Rattle.md_setting.specs.Setting.{Agent, GeneralSetting}
+use Rattle.md_setting.specs.Setting.{Agent}
 use Rattle.md_setting.specs.Meaning.{nobody}
 use Rattle.md_mech.specs.RowName.{type_names}
 

@@ -1,5 +1,5 @@
 -- Where a row stands among lists of rows that follow one another.
-use Rattle.std.proofs.Common.{◌≡◌, ℕ, zero, suc, ◌+◌, ◌-◌, ◌<◌, ◌≤◌, Bool, true, false, List, [], ◌∷◌, ◌++◌, length, get_or, Option, Some, None, refl, sym, ap, subst, ◌∙◌, arith, inl, inr, add-one, add-zero, zero-add, length-append, Result, MatchResult, slice_index}
+use Rattle.std.proofs.Common.{◌≡◌, ℕ, zero, suc, ◌+◌, ◌-◌, ◌<◌, ◌≤◌, true, false, List, [], ◌∷◌, ◌++◌, length, Some, refl, sym, ap, subst, ◌∙◌, arith, add-zero, zero-add, length-append}
 use Rattle.std.specs.Prelude.{slice_get, ◌==◌, if◌then◌else◌}
 use Rattle.std.proofs.lemmas.Bool.{eq-eqb}
 use Rattle.std.proofs.lemmas.Bool.Decides.{nat_tests}
@@ -7,12 +7,10 @@ use Rattle.std.proofs.lemmas.Option.{slice_get-get_or}
 use Rattle.std.proofs.Math.Nat.{suc-add}
 use Rattle.md_math.specs.Lists.{up_to, list_to}
 use Rattle.md_math.proofs.Builders.{up_to-more, up_to-split, up_to-single, length-list_to, get_or-list_to}
-use Rattle.md_space.specs.Profiles.{profile_count, profile_at}
 use Rattle.md_setting.specs.Setting.{GeneralSetting}
-use Rattle.md_setting.specs.Meaning.{agent_count, sizes_of}
 use Rattle.md_mech.specs.declared.place.Place.{Place}
 use Rattle.md_mech.specs.Rows.{Row, by_report}
-use Rattle.md_mech.specs.Places.{row_at, IsInside, IsAt, IsLocated}
+use Rattle.md_mech.specs.Places.{row_at, IsInside, IsAt}
 
 -- a row among the first or among the last of two lists
 get-left : {X : Type 0} (xs ys : List X) (k : ℕ) (x : X) → slice_get xs k ≡ Some x → slice_get (xs ++ ys) k ≡ Some x

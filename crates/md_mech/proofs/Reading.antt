@@ -1,5 +1,5 @@
 -- Numbers that are read back from their bits.
-use Rattle.std.proofs.Common.{◌≡◌, ℕ, ◌+◌, ◌*◌, ◌^◌, ◌<◌, ◌≤◌, ℤ, ◌+ℤ◌, ◌*ℤ◌, to_z, of_z, SFits, lit<, arith, unsigned_abs, mul-le-mul, le_refl}
+use Rattle.std.proofs.Common.{◌≡◌, ℕ, ◌+◌, ◌*◌, ◌^◌, ◌<◌, ◌≤◌, ℤ, to_z, of_z, arith, unsigned_abs, mul-le-mul, le_refl}
 use Rattle.std.proofs.lemmas.Int.{to_z-of_z}
 use lib.Signed.{mag}
 use mir.Syntax.{w128, w64}

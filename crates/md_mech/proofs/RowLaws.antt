@@ -1,11 +1,11 @@
 -- A mechanism keeps each row of its setting exactly where it is admissible.
-use Rattle.std.proofs.Common.{◌≡◌, ◌<◌, ℕ, ℤ, pos, ◌≤ℤ◌, ◌<ℤ◌, ◌*ℤ◌, Bool, true, false, List, [], ◌∷◌, ◌++◌, map, get_or, refl, sym, subst, ap, ◌∙◌, inl, inr, arith}
+use Rattle.std.proofs.Common.{◌≡◌, ◌<◌, ℕ, ℤ, pos, ◌≤ℤ◌, ◌<ℤ◌, ◌*ℤ◌, Bool, true, false, List, [], ◌∷◌, ◌++◌, get_or, refl, sym, subst, ap, ◌∙◌, inl, inr, arith}
 use Rattle.std.specs.Prelude.{slice_index, ◌==◌, if◌then◌else◌}
 use Rattle.std.specs.List.{All}
 use Rattle.std.proofs.lemmas.Int.{ints}
 use Rattle.std.proofs.lemmas.Bool.{cases_Bool, eqb-true, eq-eqb, false≢true}
-use Rattle.std.proofs.lemmas.List.{length-map, get_or-map, set-get_or}
-use Rattle.std.proofs.lemmas.List.Elements.{All-append, All-nil, All-map}
+use Rattle.std.proofs.lemmas.List.{set-get_or}
+use Rattle.std.proofs.lemmas.List.Elements.{All-append, All-nil}
 use Rattle.md_math.proofs.Builders.{All-up_to, All-up_to_at, All-left, All-right}
 use Rattle.md_space.specs.Profiles.{IsProfile, profile_count, profile_at, rank_of, replaced}
 use Rattle.md_space.proofs.Ranks.{profile_at-IsProfile, profile_at-rank_of, rank_of-below}
@@ -25,7 +25,7 @@ use Rattle.md_mech.specs.Utility.{expected_utility, weighted_given}
 use Rattle.md_mech.specs.Truth.{IsTruthfulBy, IsDominantTruth, IsBayesTruth}
 use Rattle.md_mech.specs.Rationality.{IsRationalBy, HasNoDeficit}
 use Rattle.md_mech.specs.Admissible.{IsAdmissible}
-use Rattle.md_mech.specs.Rows.{dominant_row, bayes_row, ex_post_row, interim_row, deficit_row, profile_row, IsKept, IsFirstBroken, by_report, by_profile, by_type, truth_rows, rational_rows, deficit_rows, rows_of, left_of, right_of}
+use Rattle.md_mech.specs.Rows.{dominant_row, bayes_row, ex_post_row, interim_row, deficit_row, profile_row, IsKept, IsFirstBroken, by_report, by_profile, by_type, truth_rows, rational_rows, deficit_rows, rows_of, left_of}
 
 -- what holds of the rows of each profile holds at each profile
 pub by_profile-at : {X : Type 0} (s : GeneralSetting) (P : X → Type 0) (f : List ℕ → List X) (t : List ℕ)

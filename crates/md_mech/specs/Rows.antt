@@ -1,5 +1,5 @@
 -- The conditions of a setting one by one, in the order of the rows of its linear program.
-use Rattle.std.specs.Prelude.{◌+◌, ◌≡◌, ℕ, ℤ, pos, ◌≤ℤ◌, ◌<ℤ◌, ◌*ℤ◌, Bool, true, false, List, [], ◌∷◌, ◌++◌, map, length, slice_index, slice_get, Some, ◌==◌, if◌then◌else◌}
+use Rattle.std.specs.Prelude.{◌+◌, ◌≡◌, ℕ, ℤ, pos, ◌≤ℤ◌, ◌<ℤ◌, ◌*ℤ◌, Bool, true, false, List, [], ◌∷◌, ◌++◌, length, slice_index, ◌==◌, if◌then◌else◌}
 use Rattle.std.specs.List.{All}
 use Rattle.md_math.specs.Lists.{up_to}
 use Rattle.md_math.specs.Sums.{sum_to}

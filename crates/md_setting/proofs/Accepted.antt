@@ -1,10 +1,9 @@
 -- What the tests of a setting say of it.
-use Rattle.std.proofs.Common.{◌≡◌, ℕ, zero, suc, ◌+◌, ◌*◌, ◌<◌, ◌≤◌, ℤ, pos, negsuc, ◌≤ℤ◌, ◌<ℤ◌, unsigned_abs, Bool, true, false, not, ◌&&◌, ◌||◌, List, [], ◌∷◌, map, length, get_or, Option, None, Some, is_some, All, refl, sym, ap, ◌∙◌, subst, arith, slice_index, slice_index_or, nat_le, nat_lt, ◌==◌, if◌then◌else◌, inl, inr}
+use Rattle.std.proofs.Common.{◌≡◌, ℕ, zero, suc, ◌<◌, ◌≤◌, ℤ, pos, negsuc, ◌≤ℤ◌, ◌<ℤ◌, unsigned_abs, Bool, true, false, not, ◌||◌, List, [], ◌∷◌, length, Option, None, Some, is_some, All, refl, sym, ap, ◌∙◌, subst, arith, slice_index, slice_index_or, nat_le, nat_lt, ◌==◌, if◌then◌else◌}
 use Rattle.std.specs.List.{list_all, list_any}
 use Rattle.std.proofs.lemmas.Int.{ints}
 use Rattle.std.proofs.lemmas.Bool.Decides.{nat_tests}
-use Rattle.std.proofs.lemmas.List.{length-map, get_or-map}
-use Rattle.std.proofs.lemmas.List.Folds.{list_all_at}
+use Rattle.std.proofs.lemmas.List.{get_or-map}
 use Rattle.md_math.specs.Lists.{number_at}
 use Rattle.md_math.specs.Sizes.{IsWithin}
 use Rattle.md_math.proofs.SizeLaws.{IsWithin-zero}
@@ -15,7 +14,7 @@ use Rattle.md_space.specs.declared.refusal.SpaceRefusal.{SpaceRefusal}
 use Rattle.md_space.specs.declared.refusal.SpaceRefusal.TheVariants.{Empty, TooManyTypes, TooManyProfiles}
 use Rattle.md_space.proofs.Ranks.{rank_of-below, profile_at-rank_of}
 use Rattle.md_setting.specs.Setting.{Agent, GeneralSetting}
-use Rattle.md_setting.specs.Meaning.{nobody, agent_at, agent_count, outcome_count, sizes_of, type_utility, outside_of, weight_of, marginal_of, total_of, value_of}
+use Rattle.md_setting.specs.Meaning.{nobody, agent_at, agent_count, outcome_count, sizes_of, weight_of, marginal_of, total_of, value_of}
 use Rattle.md_setting.specs.Rows.{row_count, cell_count}
 use Rattle.md_setting.specs.Refusals.{all_below, is_small, is_weight, has_agent_shape, has_prior_shape, has_good_sizes, has_good_shape, has_small_numbers, has_small_prior, has_small_lists, has_small_values, has_all_weights, has_small_total, has_few_rows}
 use Rattle.md_setting.specs.Shaped.{IsListed, IsSmall, IsWeight, IsShaped}
@@ -117,6 +116,7 @@ listed s sizes shape =
       row = λ i a h k. same_of_eq _ _ (list_all-at (λ row. length row == outcome_count s) (agent_at s i).utility a [] (agent i h).rows
           (rw ((agent i h).utility ∙ size_at s i h) k));
       weights = λ e i h. (rw (no_prior s.prior e) at (agent i h).weights) ∙ size_at s i h;
+      beside_prior = λ p e i h. (rw e at (agent i h).weights);
       prior = prior_listed s.prior (profile_count (sizes_of s)) (and_right _ _ ab);
       values = same_of_eq _ _ (and_right _ _ shape);
     }

@@ -1,8 +1,7 @@
 -- The first test that is not passed names the refusal.
-use Rattle.std.proofs.Common.{◌≡◌, ◌<◌, ◌≤◌, ℕ, true, false, Bool, Some, None, List, refl, sym, ap, ◌∙◌, subst, not, ◌&&◌}
+use Rattle.std.proofs.Common.{◌≡◌, true, false, Some, None, refl}
 use Rattle.md_setting.specs.declared.refusal.BuildRefusal.TheVariants.{BadName, DoubleName, Sizes, Shape, OutOfRange, ZeroWeight, WeightTotal, TooManyRows}
 use Rattle.md_setting.specs.Setting.{GeneralSetting}
-use Rattle.md_setting.specs.Meaning.{sizes_of}
 use Rattle.md_setting.specs.Shaped.{IsShaped}
 use Rattle.md_setting.specs.Passed.{HasNamesAndSizes, HasLists, HasTotals}
 use Rattle.md_setting.specs.Refusals.{has_good_names, has_own_names, has_good_sizes, has_good_shape, has_small_lists, has_small_values, has_all_weights, has_small_total, has_few_rows, refusal_of}

@@ -1,5 +1,7 @@
 pub mod Accepted
 pub mod Apart
+pub mod Auctions
+pub mod CountLaws
 pub mod FirstRefusal
 pub mod Lookups
 pub mod RangeTests

@@ -1,10 +1,10 @@
 -- Places of what is written are places of what it says.
-use Rattle.std.proofs.Common.{◌≡◌, ℕ, ◌<◌, ℤ, List, [], map, length, get_or, refl, ap, ◌∙◌, sym, arith, Vec, vec_len, slice_index_or}
+use Rattle.std.proofs.Common.{◌≡◌, ℕ, ◌<◌, ℤ, [], length, get_or, ap, ◌∙◌, sym, arith, Vec, vec_len, slice_index_or}
 use Rattle.std.specs.declared.alloc.Global.{Global}
 use Rattle.std.proofs.lemmas.List.{length-map, get_or-map}
 use Rattle.md_setting.specs.declared.raw.RawAgent.{RawAgent}
 use Rattle.md_setting.specs.declared.raw.RawSetting.{RawSetting}
-use Rattle.md_setting.specs.Setting.{Agent, written, written_agent, rows_of}
+use Rattle.md_setting.specs.Setting.{written, written_agent}
 use Rattle.md_setting.specs.Meaning.{agent_at, agent_count, nobody}
 
 pub agent-at_place : (raw : RawSetting) (i : ℕ) (d : RawAgent) → d ≡ get_or raw.agents.items i d → i < agent_count (written raw) →

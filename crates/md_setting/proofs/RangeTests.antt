@@ -1,5 +1,5 @@
 -- The tests of a setting's numbers.
-use Rattle.std.proofs.Common.{◌≡◌, ℤ, Bool, ◌&&◌, List, map, refl, Vec}
+use Rattle.std.proofs.Common.{◌≡◌, ℤ, ◌&&◌, refl, Vec}
 use Rattle.std.specs.declared.alloc.Global.{Global}
 use Rattle.std.specs.Option.{option_map}
 use Rattle.std.specs.List.{list_all}

@@ -1,9 +1,8 @@
 -- Numbers that are read back from their bits.
-use Rattle.std.proofs.Common.{◌≡◌, ℕ, ◌^◌, ◌<◌, ◌≤◌, ℤ, to_z, of_z, SFits, lit<, ap, ◌∙◌, arith, true}
+use Rattle.std.proofs.Common.{◌≡◌, ℕ, ◌^◌, ◌<◌, ℤ, to_z, of_z, arith, true}
 use Rattle.std.proofs.lemmas.Int.{to_z-of_z, ints}
 use lib.Signed.{mag, lt_z, ◌<ℤ◌}
 use mir.Syntax.{w128, w64}
-use mir.Val.{hbits}
 use Rattle.md_math.specs.Sizes.{IsWithin}
 use Rattle.md_math.proofs.SizeLaws.{fits_from_IsWithin}
 

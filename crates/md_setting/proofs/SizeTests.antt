@@ -1,10 +1,10 @@
 -- The tests of a setting's sizes.
-use Rattle.std.proofs.Common.{◌≡◌, ℕ, ◌<◌, ◌≤◌, Bool, true, false, not, ◌&&◌, ◌||◌, List, [], ◌∷◌, map, length, vec_len, refl, ap, ◌∙◌, sym, arith, is_some, Option, None, Some, if◌then◌else◌, nat_lt, nat_le, string_bytes, cond}
+use Rattle.std.proofs.Common.{◌≡◌, ℕ, Bool, true, false, not, ◌&&◌, ◌||◌, List, [], ◌∷◌, map, length, vec_len, refl, ◌∙◌, arith, is_some, None, Some, if◌then◌else◌, nat_lt, nat_le, string_bytes}
 use Rattle.std.specs.List.{list_all, list_any}
 use Rattle.std.proofs.lemmas.Bool.Decides.{nat_tests}
 use Rattle.std.proofs.lemmas.List.{length-map}
 use Rattle.std.proofs.lemmas.Simd.{map-map}
-use Rattle.md_space.specs.Sizes.{refusal_of, is_empty, has_many_types, has_many_profiles}
+use Rattle.md_space.specs.Sizes.{refusal_of, is_empty, has_many_profiles}
 use Rattle.md_space.specs.declared.refusal.SpaceRefusal.{SpaceRefusal}
 use Rattle.md_space.specs.declared.refusal.SpaceRefusal.TheVariants.{Empty, TooManyTypes, TooManyProfiles}
 use Rattle.md_setting.specs.declared.raw.RawAgent.{RawAgent}

@@ -1,5 +1,5 @@
 -- What an outcome is worth to the designer, added up agent by agent.
-use Rattle.std.proofs.Common.{◌≡◌, ℕ, ◌+◌, ◌*◌, ◌^◌, ◌<◌, ◌≤◌, ℤ, pos, ◌*ℤ◌, unsigned_abs, List, refl, sym, ap, ◌∙◌, subst, arith, slice_index}
+use Rattle.std.proofs.Common.{◌≡◌, ℕ, ◌+◌, ◌*◌, ◌^◌, ◌<◌, ℤ, ◌*ℤ◌, unsigned_abs, List, sym, ap, ◌∙◌, subst, arith, slice_index}
 use Rattle.std.specs.Prelude.{◌+ℤ◌}
 use Rattle.std.proofs.lemmas.Nat.{mul-le}
 use Rattle.std.proofs.Math.IntN.{+ℤ_assoc}
@@ -14,7 +14,7 @@ use Rattle.md_space.proofs.InOrder.{profiles_of-by_rank}
 use Rattle.md_setting.specs.Refusals.{all_below, is_small, has_small_values}
 use Rattle.md_setting.proofs.TestLaws.{list_all-list_to}
 use Rattle.md_setting.specs.Setting.{GeneralSetting}
-use Rattle.md_setting.specs.Meaning.{utility_of, type_utility, value_of, agent_count, outcome_count, sizes_of}
+use Rattle.md_setting.specs.Meaning.{utility_of, value_of, agent_count, outcome_count, sizes_of}
 use Rattle.md_setting.specs.Shaped.{IsSmall}
 
 -- the value with the utilities of the first n agents

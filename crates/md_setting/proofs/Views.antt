@@ -1,5 +1,5 @@
 -- Tests over what is written are tests over what it says.
-use Rattle.std.proofs.Common.{◌≡◌, ℕ, ℤ, Bool, true, false, List, [], ◌∷◌, map, length, Vec, String, string_bytes, vec_len, ◌==◌, ◌&&◌, refl, ap, ◌∙◌, arith, is_some, if◌then◌else◌, Option, None, Some, sym}
+use Rattle.std.proofs.Common.{◌≡◌, ℕ, ℤ, Bool, List, [], ◌∷◌, map, length, Vec, String, string_bytes, vec_len, ◌==◌, ◌&&◌, refl, ap, ◌∙◌, arith, is_some, if◌then◌else◌, Option, None, Some}
 use Rattle.std.specs.Option.{option_map}
 use Rattle.std.specs.declared.alloc.Global.{Global}
 use Rattle.std.specs.List.{list_all}
@@ -9,7 +9,7 @@ use Rattle.std.proofs.lemmas.Simd.{map-map}
 use Rattle.md_space.specs.Profiles.{profile_count}
 use Rattle.md_setting.specs.declared.raw.RawAgent.{RawAgent}
 use Rattle.md_setting.specs.declared.raw.RawSetting.{RawSetting}
-use Rattle.md_setting.specs.Setting.{Agent, GeneralSetting, names_of, rows_of, written_agent, written}
+use Rattle.md_setting.specs.Setting.{Agent, names_of, rows_of, written_agent, written}
 use Rattle.md_setting.specs.Meaning.{sizes_of}
 use Rattle.md_setting.specs.Refusals.{is_name, has_good_names, has_named_types, has_own_names, are_apart, has_good_shape, has_agent_shape, has_prior_shape}
 

@@ -1,28 +1,27 @@
 -- The weights of profiles and what they add to.
-use Rattle.std.proofs.Common.{◌≡◌, ◌≢◌, ℕ, zero, suc, ◌+◌, ◌-◌, ◌*◌, ◌^◌, ◌<◌, ◌≤◌, ℤ, pos, negsuc, ◌*ℤ◌, ◌≤ℤ◌, ◌<ℤ◌, unsigned_abs, Bool, true, false, not, List, [], ◌∷◌, map, length, get_or, drop, Option, None, Some, refl, sym, ap, ◌∙◌, subst, arith, add-one, slice_index, ◌==◌, if◌then◌else◌, nat_le, lit<, inl, inr}
+use Rattle.std.proofs.Common.{◌≡◌, ◌≢◌, ℕ, zero, suc, ◌+◌, ◌-◌, ◌*◌, ◌^◌, ◌<◌, ◌≤◌, ℤ, pos, negsuc, ◌*ℤ◌, ◌≤ℤ◌, ◌<ℤ◌, unsigned_abs, Bool, true, false, not, List, [], ◌∷◌, length, get_or, drop, Option, None, Some, refl, sym, ap, ◌∙◌, subst, arith, add-one, slice_index, ◌==◌, if◌then◌else◌, nat_le, lit<, inl, inr}
 use Rattle.std.specs.Prelude.{◌+ℤ◌}
 use Rattle.std.proofs.lemmas.Int.{ints}
 use Rattle.std.proofs.lemmas.Bool.{eq-eqb}
 use Rattle.std.proofs.lemmas.Bool.Decides.{nat_tests}
 use Rattle.std.proofs.lemmas.Nat.{mul-le}
-use Rattle.std.proofs.lemmas.List.{drop_all, length-map}
+use Rattle.std.proofs.lemmas.List.{drop_all}
 use Rattle.std.proofs.Math.Nat.{pow-suc, pow-le-pow_right}
 use Rattle.std.proofs.Math.Dec.{eqb-suc-zero}
 use Rattle.md_math.specs.Lists.{number_at}
-use Rattle.md_math.specs.Sums.{sum_to, total_by}
+use Rattle.md_math.specs.Sums.{sum_to}
 use Rattle.md_math.specs.Sizes.{IsWithin}
-use Rattle.md_math.proofs.SizeLaws.{IsWithin-*ℤ, IsWithin-wider, IsWithin-from_bounds, IsWithin-high}
+use Rattle.md_math.proofs.SizeLaws.{IsWithin-*ℤ, IsWithin-from_bounds, IsWithin-high}
 use Rattle.md_math.proofs.Ring.{*ℤ_assoc, *ℤ-one}
 use Rattle.md_math.proofs.Order.{nonneg-*ℤ, lt_or_le, ≤ℤ_antisymm}
-use Rattle.md_math.proofs.SumLaws.{sum_to-more, sum_to-positive, sum_to-nonneg, sum_to-at_least, sum_to-join}
+use Rattle.md_math.proofs.SumLaws.{sum_to-positive, sum_to-nonneg, sum_to-at_least, sum_to-join}
 use Rattle.md_space.specs.Profiles.{profile_count, profile_at}
-use Rattle.md_space.specs.AllProfiles.{profiles_of}
 use Rattle.md_space.proofs.InOrder.{total_by-profiles}
 use Rattle.md_space.proofs.Ranks.{rank_of-profile_at}
 use Rattle.md_setting.specs.Setting.{Agent, GeneralSetting}
-use Rattle.md_setting.specs.Meaning.{nobody, agent_at, agent_count, sizes_of, type_weights, weight_by, weight_of, total_of, marginal_of}
+use Rattle.md_setting.specs.Meaning.{nobody, sizes_of, type_weights, weight_by, weight_of, total_of, marginal_of}
 use Rattle.md_setting.specs.Shaped.{IsWeight, IsSmall}
-use Rattle.md_setting.specs.Refusals.{has_small_total, is_small}
+use Rattle.md_setting.specs.Refusals.{has_small_total}
 
 weights-suc : (agents : List Agent) (t : List ℕ) (i : ℕ) → i < length agents → length t ≡ length agents →
     type_weights (drop i agents) (drop i t) ≡ number_at (get_or agents i nobody).weights (get_or t i 0) *ℤ type_weights (drop (suc i) agents) (drop (suc i) t)

@@ -1,3 +1,7 @@
+pub mod Auction
+pub mod AuctionRefusals
+pub mod AuctionShaped
+pub mod CountLists
 pub mod Kept
 pub mod Meaning
 pub mod Passed
@@ -5,3 +9,4 @@ pub mod Refusals
 pub mod Rows
 pub mod Setting
 pub mod Shaped
+pub mod Ways

@@ -1,6 +1,6 @@
 -- What the numbers of a general setting mean, at an agent, a profile and an outcome.
 -- A profile gives each agent the number of one of its types.
-use Rattle.std.specs.Prelude.{ℕ, zero, suc, ◌+◌, ◌*◌, ◌-◌, ℤ, pos, ◌+ℤ◌, ◌*ℤ◌, Bool, List, [], ◌∷◌, map, length, Option, None, Some, slice_index, slice_index_or, if◌then◌else◌, ◌==◌}
+use Rattle.std.specs.Prelude.{ℕ, ℤ, pos, ◌+ℤ◌, ◌*ℤ◌, List, [], ◌∷◌, map, length, Option, None, Some, slice_index, slice_index_or, if◌then◌else◌, ◌==◌}
 use Rattle.md_math.specs.Lists.{number_at}
 use Rattle.md_math.specs.Sums.{sum_to, total_by}
 use Rattle.md_space.specs.Profiles.{rank_of}

@@ -1,8 +1,8 @@
 -- Why a setting as written is refused.
-use Rattle.std.specs.Prelude.{ℕ, zero, suc, ◌<◌, ℤ, pos, negsuc, unsigned_abs, Bool, true, false, not, ◌&&◌, ◌||◌, List, [], ◌∷◌, map, length, Option, None, Some, is_some, if◌then◌else◌, ◌==◌, nat_lt, nat_le, slice_index}
+use Rattle.std.specs.Prelude.{ℕ, zero, suc, ℤ, pos, negsuc, unsigned_abs, Bool, true, false, not, ◌&&◌, ◌||◌, List, [], ◌∷◌, map, length, Option, None, Some, is_some, if◌then◌else◌, ◌==◌, nat_le, slice_index}
 use Rattle.std.specs.List.{list_all, list_any}
 use Rattle.std.specs.Str.{bytes_eq}
-use Rattle.md_space.specs.Profiles.{profile_count, profile_at}
+use Rattle.md_space.specs.Profiles.{profile_count}
 use Rattle.md_space.specs.AllProfiles.{profiles_of}
 use Rattle.md_space.specs.Sizes.{refusal_of as space_refusal_of}
 use Rattle.md_setting.specs.declared.refusal.BuildRefusal.{BuildRefusal}

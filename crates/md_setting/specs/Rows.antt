@@ -6,7 +6,7 @@ use Rattle.md_setting.specs.declared.kinds.Truth.{Truth}
 use Rattle.md_setting.specs.declared.kinds.Truth.TheVariants.{Dominant, Bayes}
 use Rattle.md_setting.specs.declared.kinds.Rational.{Rational}
 use Rattle.md_setting.specs.declared.kinds.Rational.TheVariants.{None as Free, ExPost, Interim}
-use Rattle.md_setting.specs.Setting.{Agent, GeneralSetting}
+use Rattle.md_setting.specs.Setting.{GeneralSetting}
 use Rattle.md_setting.specs.Meaning.{sizes_of, outcome_count}
 
 -- dominant truth is asked at each profile, bayes truth at each type of the agent

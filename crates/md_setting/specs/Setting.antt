@@ -1,6 +1,6 @@
 -- What a general setting says: its agents with their types, its outcomes, and its numbers.
 -- Every list runs over the agents, types, outcomes or profiles in their order of appearance; names are their bytes.
-use Rattle.std.specs.Prelude.{ℕ, ℤ, Bool, List, [], ◌∷◌, map, length, Option, None, Some, option_map, Vec, String, string_bytes, pos, slice_index, slice_index_or}
+use Rattle.std.specs.Prelude.{ℕ, ℤ, Bool, List, map, Option, option_map, Vec, String, string_bytes}
 use Rattle.std.specs.declared.alloc.Global.{Global}
 use Rattle.md_setting.specs.declared.kinds.Truth.{Truth}
 use Rattle.md_setting.specs.declared.kinds.Rational.{Rational}

@@ -1,5 +1,5 @@
 -- What is known of a setting that is not refused.
-use Rattle.std.specs.Prelude.{◌≡◌, ℕ, ◌<◌, ◌≤◌, ℤ, pos, ◌≤ℤ◌, ◌<ℤ◌, List, [], length, Option, None, Some, slice_index, slice_index_or}
+use Rattle.std.specs.Prelude.{◌≡◌, ℕ, ◌<◌, ◌≤◌, ℤ, pos, ◌≤ℤ◌, ◌<ℤ◌, List, [], length, None, Some, slice_index, slice_index_or}
 use Rattle.md_math.specs.Lists.{number_at}
 use Rattle.md_math.specs.Sizes.{IsWithin}
 use Rattle.md_space.specs.Profiles.{IsProfile, profile_count}
@@ -17,6 +17,7 @@ pub record IsListed (s : GeneralSetting) : Type 0 where
   pub utility : (i : ℕ) → i < agent_count s → length (agent_at s i).utility ≡ slice_index (sizes_of s) i
   pub row : (i a : ℕ) → i < agent_count s → a < slice_index (sizes_of s) i → length (slice_index_or (agent_at s i).utility a []) ≡ outcome_count s
   pub weights : s.prior ≡ None → (i : ℕ) → i < agent_count s → length (agent_at s i).weights ≡ slice_index (sizes_of s) i
+  pub beside_prior : (prior : List ℤ) → s.prior ≡ Some prior → (i : ℕ) → i < agent_count s → length (agent_at s i).weights ≡ 0
   pub prior : (prior : List ℤ) → s.prior ≡ Some prior → length prior ≡ profile_count (sizes_of s)
   pub values : length s.values ≡ outcome_count s
 

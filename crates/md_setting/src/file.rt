@@ -1,10 +1,12 @@
 //! What a setting file holds.
 
-use crate::Setting;
+use crate::{Auction, Setting};
 
 /// The setting of a file, by its kind.
 #[derive(Debug, Drop)]
 pub enum SettingFile {
     /// A setting with agents and outcomes of its own.
     General(Setting),
+    /// A symmetric auction of one item.
+    Auction(Auction),
 }

@@ -1,7 +1,11 @@
 //! Settings of mechanism design: agents, types, outcomes, weights and utilities.
 #![tactic(auto)]
 
+mod auction;
+mod auction_check;
+mod auction_limits;
 mod check;
+mod counts;
 mod file;
 mod kinds;
 mod lookup;
@@ -15,6 +19,7 @@ mod shape;
 mod values;
 mod weights;
 
+pub use auction::Auction;
 pub use file::SettingFile;
 pub use kinds::{Rational, Truth};
 pub use raw::{RawAgent, RawSetting};

@@ -51,7 +51,7 @@ fn has_small_prior(prior: &Option<Vec<i64>>) -> bool
     }
 }
 
-fn are_weights(numbers: &[i64]) -> bool
+pub(crate) fn are_weights(numbers: &[i64]) -> bool
     ensures { result ≡ list_all is_weight numbers.now }
 {
     numbers.iter().all(|number| is_weight(*number))
@@ -75,7 +75,7 @@ fn are_small(limit: u64, numbers: &[i64]) -> bool
     numbers.iter().all(|number| is_small(limit, *number))
 }
 
-fn is_small(limit: u64, number: i64) -> bool
+pub(crate) fn is_small(limit: u64, number: i64) -> bool
     ensures { result ≡ is_small limit number }
 {
     number.unsigned_abs() <= limit

@@ -71,6 +71,15 @@ impl Setting {
 }
 
 impl Setting {
+    /// The setting as it was written: an agent's weights are empty beside a joint prior.
+    pub fn as_written(&self) -> &RawSetting
+        ensures written { written result.now ≡ self.now }
+        ensures accepted { refusal_of self.now ≡ None }
+        ensures shaped { IsShaped self.now }
+    {
+        &self.raw
+    }
+
     /// The space of the profiles.
     pub fn space(&self) -> &Space
         ensures sizes { result.now ≡ sizes_of self.now }

@@ -1,7 +1,7 @@
 -- A list is read item by item: what was read so far stands before what the rest gives.
-use Rattle.std.proofs.Common.{◌≡◌, ℕ, ◌+◌, ◌<◌, ◌≤◌, List, [], ◌∷◌, ◌++◌, length, get_or, drop, Ok, Err, refl, ap, sym, ◌∙◌, append_assoc}
+use Rattle.std.proofs.Common.{◌≡◌, ℕ, ◌+◌, ◌<◌, ◌≤◌, List, [], ◌∷◌, ◌++◌, length, get_or, drop, Ok, Err, refl, ap, sym, append_assoc}
 use Rattle.std.proofs.lemmas.List.{append-nil, drop_all}
-use Rattle.toml.specs.Data.{Data, Items, no_items, item}
+use Rattle.toml.specs.Data.{Data}
 use Rattle.toml.specs.View.{view, items_view}
 use Rattle.toml.specs.declared.value.Value.{Value}
 use Rattle.toml.proofs.Views.{items_view-drop}

@@ -1,11 +1,10 @@
 -- Agents are read table by table: those read so far stand before what the rest gives.
-use Rattle.std.proofs.Common.{◌≡◌, ℕ, ◌+◌, ◌<◌, ◌≤◌, ℤ, List, [], ◌∷◌, ◌++◌, length, get_or, drop, map, Option, Ok, Err, BTreeMap, String, Global, Bor, refl, ap, ◌∙◌}
+use Rattle.std.proofs.Common.{◌≡◌, ℕ, ◌+◌, ◌<◌, ◌≤◌, ℤ, List, [], ◌∷◌, ◌++◌, length, get_or, drop, Option, Ok, Err, BTreeMap, String, Global, Bor, refl, ap}
 use Rattle.std.proofs.lemmas.List.{append-nil, drop_all, drop_more}
 use Rattle.toml.specs.View.{table_view}
 use Rattle.toml.specs.declared.value.Value.{Value}
 use Rattle.md_setting.specs.Setting.{Agent}
 use Rattle.md_toml.specs.declared.refusal.SettingRefusal.{SettingRefusal}
-use Rattle.md_toml.specs.Reading.{Reading}
 use Rattle.md_toml.specs.Values.{members_of_all}
 use Rattle.md_toml.specs.General.{agent_of, each_agent}
 use Rattle.md_toml.proofs.Each.{after, after-one, after-nothing}

@@ -2,3 +2,5 @@ pub mod Each
 pub mod EachAgent
 pub mod Names
 pub mod Utf8
+pub mod WritingLaws
+pub mod PrintLaws

@@ -1,5 +1,5 @@
 -- The test of UTF-8 beside the fact that it tests.
-use Rattle.std.proofs.Common.{◌≡◌, ℕ, List, Bool, true, false, IsUtf8, inl, inr}
+use Rattle.std.proofs.Common.{◌≡◌, ℕ, List, false, IsUtf8, inl, inr}
 use Rattle.std.specs.Str.{is_utf8}
 use Rattle.std.proofs.lemmas.Str.{IsUtf8-from_is_utf8, is_utf8-from_IsUtf8}
 use Rattle.std.proofs.lemmas.Bool.{cases_Bool}

@@ -1,8 +1,10 @@
 -- What the bytes of a file say as a document, and what its first keys say.
-use Rattle.std.specs.Prelude.{ℕ, ℤ, pos, List, Result, Ok, Err, Option, None, Some, codes, if◌then◌else◌, int_le, ◌&&◌}
+use Rattle.std.specs.Prelude.{ℕ, pos, List, Ok, Err, Option, None, Some, codes, if◌then◌else◌, int_le, ◌&&◌}
 use Rattle.std.specs.Str.{bytes_eq, is_utf8}
 use Rattle.toml.specs.Data.{Data, Members}
 use Rattle.toml.specs.Parse.{parse_document}
+use Rattle.md_toml.specs.declared.document.Kind.{Kind}
+use Rattle.md_toml.specs.declared.document.Kind.TheVariants.{General, Auction}
 use Rattle.md_toml.specs.declared.key.Key.{Key}
 use Rattle.md_toml.specs.declared.key.Key.TheVariants as key
 use Rattle.md_toml.specs.declared.refusal.SettingRefusal.TheVariants.{NotToml, UnknownWord}
@@ -29,14 +31,16 @@ version_in k value = do
   number ← integer_in k value
   if int_le number (pos 1) && int_le (pos 1) number then Ok tt else Err (UnknownWord k)
 
--- the kind of setting, which is general
-abbrev pub kind_in : Key → Data → Reading (Unit {0})
+-- the kind of setting
+abbrev pub kind_in : Key → Data → Reading Kind
 kind_in k value = do
   word ← text_in k value
-  if bytes_eq word (codes "general") then Ok tt else Err (UnknownWord k)
+  if bytes_eq word (codes "general") then Ok General
+      else (if bytes_eq word (codes "auction") then Ok Auction
+      else Err (UnknownWord k))
 
--- what the first keys say
-abbrev pub header_of : Members → Reading (Unit {0})
+-- what the first keys say: the kind of the file
+abbrev pub header_of : Members → Reading Kind
 header_of members = do
   _ ← required format_in key.Format members
   _ ← required version_in key.Version members

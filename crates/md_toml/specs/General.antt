@@ -1,7 +1,7 @@
 -- What a document says of a general setting.
-use Rattle.std.specs.Prelude.{ℕ, ℤ, pos, Bool, false, List, [], ◌∷◌, map, length, replicate, Result, Ok, Err, Option, None, Some, ◌≡◌, codes, is_some, if◌then◌else◌}
+use Rattle.std.specs.Prelude.{ℕ, ℤ, pos, false, List, [], ◌∷◌, length, replicate, Ok, Err, Option, None, Some, codes, is_some, if◌then◌else◌}
 use Rattle.std.specs.Str.{bytes_eq}
-use Rattle.toml.specs.Data.{Data, Members, no_members, get_member}
+use Rattle.toml.specs.Data.{Data, Members, no_members}
 use Rattle.md_setting.specs.declared.kinds.Truth.{Truth}
 use Rattle.md_setting.specs.declared.kinds.Truth.TheVariants as truth
 use Rattle.md_setting.specs.declared.kinds.Rational.{Rational}

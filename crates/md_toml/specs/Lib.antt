@@ -4,4 +4,6 @@ pub mod Values
 pub mod Known
 pub mod Document
 pub mod General
+pub mod AuctionText
 pub mod File
+pub mod Writing

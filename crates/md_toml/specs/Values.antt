@@ -2,7 +2,7 @@
 use Rattle.std.specs.Borrow.{Bor}
 use Rattle.std.specs.BTreeMap.{BTreeMap}
 use Rattle.std.specs.declared.alloc.Global.{Global}
-use Rattle.std.specs.Prelude.{String, map, ℕ, ℤ, Bool, List, [], ◌∷◌, Result, Ok, Err, Option, None, Some, ◌≡◌}
+use Rattle.std.specs.Prelude.{String, map, ℕ, ℤ, Bool, List, [], ◌∷◌, Ok, Err, None, Some}
 use Rattle.toml.specs.Data.{Data, string, integer, boolean, array, table, Items, no_items, item, Members, get_member}
 use Rattle.toml.specs.View.{table_view}
 use Rattle.toml.specs.declared.value.Value.{Value}

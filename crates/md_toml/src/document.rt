@@ -40,17 +40,28 @@ fn read_version(key: Key, value: &Value) -> Result<(), SettingRefusal>
     }
 }
 
-fn read_kind(key: Key, value: &Value) -> Result<(), SettingRefusal>
-    ensures { Gives (λ _. tt) result (kind_in key (view value.now)) }
+/// What a file is about.
+#[derive(Clone, Copy)]
+pub(crate) enum Kind {
+    /// A setting with agents and outcomes of its own.
+    General,
+    /// A symmetric auction of one item.
+    Auction,
+}
+
+fn read_kind(key: Key, value: &Value) -> Result<Kind, SettingRefusal>
+    ensures { Gives (λ kind. kind) result (kind_in key (view value.now)) }
 {
     match read_text(key, value)?.as_str() {
-        "general" => Ok(()),
+        "general" => Ok(Kind::General),
+        "auction" => Ok(Kind::Auction),
         _ => Err(SettingRefusal::UnknownWord(key)),
     }
 }
 
-pub(crate) fn read_header(members: &Table) -> Result<(), SettingRefusal>
-    ensures { Gives (λ _. tt) result (header_of (table_view members.now)) }
+/// What the first keys say: the kind of the file.
+pub(crate) fn read_header(members: &Table) -> Result<Kind, SettingRefusal>
+    ensures { Gives (λ kind. kind) result (header_of (table_view members.now)) }
 {
     read_format(Key::Format, value_at(members, Key::Format)?)?;
     read_version(Key::Version, value_at(members, Key::Version)?)?;

@@ -8,8 +8,8 @@ ghost use Rattle.md_toml.specs.General.{truth_in, rational_in, demands_of, zeros
 
 use crate::known::has_known_keys;
 use crate::values::{
-    member_at, read_integer, read_integers, read_rows, read_table, read_tables, read_text,
-    read_texts, read_truth_value, value_at,
+    member_at, number_at, read_integers, read_rows, read_table, read_tables, read_text, read_texts,
+    read_truth_value, value_at,
 };
 use crate::{Key, SettingRefusal};
 use md_setting::{Rational, RawAgent, RawSetting, Truth};
@@ -74,16 +74,6 @@ struct Objective {
     values: Vec<i64>,
 }
 
-// A number that may be absent, and is then 0.
-fn number_at(members: &Table, key: Key) -> Result<i64, SettingRefusal>
-    ensures { Gives (λ number. number) result (defaulted integer_in (pos 0) key (table_view members.now)) }
-{
-    match member_at(members, key) {
-        Some(value) => read_integer(key, value),
-        None => Ok(0),
-    }
-}
-
 // A list of numbers that may be absent, and is then as many zeros as the other list is long.
 fn numbers_at(
     alloc: Global,
@@ -106,8 +96,8 @@ fn read_objective(
 ) -> Result<Objective, SettingRefusal>
     ensures { Gives said_objective result (objective_of (names_of outcomes.now) (table_view members.now)) }
 {
-    let welfare = number_at(members, Key::ObjectiveWelfare)?;
-    let revenue = number_at(members, Key::ObjectiveRevenue)?;
+    let welfare = number_at(members, Key::ObjectiveWelfare, 0)?;
+    let revenue = number_at(members, Key::ObjectiveRevenue, 0)?;
     let values = numbers_at(alloc, members, Key::ObjectiveValue, outcomes)?;
     Ok(Objective {
         welfare,

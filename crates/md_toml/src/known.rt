@@ -2,7 +2,7 @@
 ghost use Rattle.std.specs.Prelude.{◌≡◌};
 ghost use Rattle.std.specs.List.{list_all};
 ghost use Rattle.toml.specs.View.{table_view};
-ghost use Rattle.md_toml.specs.Known.{agent_keys, has_only, has_known_keys, is_among};
+ghost use Rattle.md_toml.specs.Known.{agent_keys, auction_keys, has_only, has_known_keys, is_among};
 ghost use Rattle.md_toml.specs.Values.{members_of_all};
 
 use crate::Key;
@@ -36,6 +36,19 @@ const AGENT_KEYS: [Key; 5] = [
     Key::AgentTypes,
     Key::AgentOutside,
     Key::AgentUtility,
+];
+
+// The keys that the table of an auction may have.
+const AUCTION_KEYS: [Key; 9] = [
+    Key::Format,
+    Key::Version,
+    Key::Kind,
+    Key::Bidders,
+    Key::Values,
+    Key::Weights,
+    Key::Revenue,
+    Key::Welfare,
+    Key::Keep,
 ];
 
 // Whether a name is that of one of the keys.
@@ -87,4 +100,11 @@ pub(crate) fn has_known_keys(
     has_only(members, &GENERAL_KEYS)
         && has_only(objective, &OBJECTIVE_KEYS)
         && have_only_agent_keys(agents, has_prior)
+}
+
+/// Whether the table of an auction has only keys that it may have.
+pub(crate) fn has_auction_keys(members: &Table) -> bool
+    ensures { result ≡ has_only auction_keys (table_view members.now) }
+{
+    has_only(members, &AUCTION_KEYS)
 }

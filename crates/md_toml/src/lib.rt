@@ -1,32 +1,71 @@
 //! Setting files: TOML documents that say what a setting is.
 #![tactic(auto)]
 
+ghost use Rattle.std.specs.Prelude.{◌≡◌, Ok, IfOk};
 ghost use Rattle.md_toml.specs.Reading.{Gives};
-ghost use Rattle.md_toml.specs.File.{built, setting_of};
+ghost use Rattle.md_toml.specs.File.{built, built_auction, file_of, setting_of};
 ghost use Rattle.md_setting.specs.Setting.{written};
+ghost use Rattle.md_toml.specs.AuctionText.{said_auction};
+ghost use Rattle.toml.specs.View.{table_view};
 
+mod auction;
 mod document;
 mod general;
 mod key;
 mod known;
+mod print;
 mod refusal;
+#[cfg(test)]
+mod tests;
 mod values;
+mod write;
 
-use document::{read_document, read_header};
+use auction::{RawAuction, read_auction};
+use document::{Kind, read_document, read_header};
 use general::read_general;
 pub use key::Key;
-use md_setting::{BuildRefusal, RawSetting, Setting, SettingFile};
+use md_num::NoMemory;
+use md_setting::{Auction, BuildRefusal, RawSetting, Setting, SettingFile};
 pub use refusal::SettingRefusal;
 use std::alloc::Global;
+use toml::Table;
+use write::file_table;
 
 /// The setting that the bytes of a file say, or the first reason to refuse them, in the order of docs/FORMATS.md.
 pub fn read_setting(alloc: Global, bytes: &[u8]) -> Result<SettingFile, SettingRefusal>
     ensures { Gives (λ file. file) result (setting_of bytes.now) }
 {
     let members = read_document(alloc, bytes)?;
-    read_header(&members)?;
-    let setting = build(alloc, read_general(alloc, &members)?)?;
-    Ok(SettingFile::General(setting))
+    let kind = read_header(&members)?;
+    read_file(alloc, kind, &members)
+}
+
+/// The bytes of a file that says this setting.
+pub fn write_setting(alloc: Global, file: &SettingFile) -> Result<Vec<u8>, NoMemory>
+    ensures reads_back { IfOk result (λ text. setting_of text.items ≡ Ok file.now) }
+{
+    let members = file_table(alloc, file)?;
+    // A document without dates is refused for want of memory alone.
+    match toml::table_to_string(alloc, &members) {
+        Ok(text) => Ok(text.into_bytes()),
+        Err(_) => Err(NoMemory),
+    }
+}
+
+// What the document says of its kind of setting.
+fn read_file(alloc: Global, kind: Kind, members: &Table) -> Result<SettingFile, SettingRefusal>
+    ensures { Gives (λ file. file) result (file_of kind (table_view members.now)) }
+{
+    match kind {
+        Kind::General => {
+            let setting = build(alloc, read_general(alloc, members)?)?;
+            Ok(SettingFile::General(setting))
+        }
+        Kind::Auction => {
+            let auction = build_auction(alloc, read_auction(alloc, members)?)?;
+            Ok(SettingFile::Auction(auction))
+        }
+    }
 }
 
 // The setting that was written, unless it is refused.
@@ -35,6 +74,25 @@ fn build(alloc: Global, raw: RawSetting) -> Result<Setting, SettingRefusal>
 {
     match Setting::new(alloc, raw) {
         Ok(setting) => Ok(setting),
+        Err(BuildRefusal::Memory) => Err(SettingRefusal::Memory),
+        Err(refusal) => Err(SettingRefusal::Build(refusal)),
+    }
+}
+
+// The auction that was written, unless it is refused.
+fn build_auction(alloc: Global, raw: RawAuction) -> Result<Auction, SettingRefusal>
+    ensures { Gives (λ auction. auction) result (built_auction (said_auction raw)) }
+{
+    match Auction::new(
+        alloc,
+        raw.bidders,
+        &raw.values,
+        &raw.weights,
+        raw.revenue,
+        raw.welfare,
+        raw.keep,
+    ) {
+        Ok(auction) => Ok(auction),
         Err(BuildRefusal::Memory) => Err(SettingRefusal::Memory),
         Err(refusal) => Err(SettingRefusal::Build(refusal)),
     }

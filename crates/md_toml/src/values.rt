@@ -5,7 +5,7 @@ ghost use Rattle.toml.specs.View.{view, table_view, items_view};
 ghost use Rattle.md_setting.specs.Setting.{names_of, rows_of};
 ghost use Rattle.md_toml.specs.Keys.{member_name};
 ghost use Rattle.md_toml.specs.Reading.{Gives};
-ghost use Rattle.md_toml.specs.Values.{text_in, integer_in, truth_value_in, table_in, list_in, each_item, members_of_all, value_at};
+ghost use Rattle.md_toml.specs.Values.{text_in, integer_in, truth_value_in, table_in, list_in, each_item, members_of_all, value_at, defaulted};
 
 use crate::{Key, SettingRefusal};
 use std::alloc::Global;
@@ -43,6 +43,16 @@ pub(crate) fn read_integer(key: Key, value: &Value) -> Result<i64, SettingRefusa
     match value {
         Value::Integer(number) => Ok(*number),
         _ => Err(SettingRefusal::WrongKind(key)),
+    }
+}
+
+/// A number that may be absent, and is then the one given.
+pub(crate) fn number_at(members: &Table, key: Key, absent: i64) -> Result<i64, SettingRefusal>
+    ensures { Gives (λ number. number) result (defaulted integer_in absent key (table_view members.now)) }
+{
+    match member_at(members, key) {
+        Some(value) => read_integer(key, value),
+        None => Ok(absent),
     }
 }
 

@@ -1,7 +1,8 @@
 pub mod Words
+pub mod Orders
 pub mod Saying
-pub mod Commands
 pub mod Texts
 pub mod Refused
 pub mod Reading
+pub mod Verdicts
 pub mod Reply

@@ -5,7 +5,7 @@ use Rattle.md_toml.specs.declared.refusal.SettingRefusal.TheVariants as setting
 use Rattle.md_answer.specs.declared.answer.AnswerRefusal.{AnswerRefusal}
 use Rattle.md_answer.specs.declared.answer.AnswerRefusal.TheVariants as answer
 use Rattle.md_top.specs.declared.refusal.Refusal.{Refusal}
-use Rattle.md_top.specs.declared.refusal.Refusal.TheVariants.{Usage, SettingTooLong, Setting, AnswerTooLong, Answer, ReadFault, Memory}
+use Rattle.md_top.specs.declared.refusal.Refusal.TheVariants.{Usage, SettingTooLong, Setting, OtherKind, AnswerTooLong, Answer, NoTable, ReadFault, Memory}
 use Rattle.md_top.specs.Saying.{Saying}
 use Rattle.md_top.specs.Texts.{line, want_of_memory, setting_text, answer_text}
 
@@ -13,8 +13,10 @@ abbrev pub status_of : Refusal → ℕ
 status_of Usage = 64
 status_of SettingTooLong = 65
 status_of (Setting _) = 65
+status_of OtherKind = 65
 status_of AnswerTooLong = 66
 status_of (Answer _) = 66
+status_of NoTable = 66
 status_of ReadFault = 70
 status_of Memory = 72
 
@@ -22,8 +24,10 @@ abbrev pub text_of : Refusal → List ℕ
 text_of Usage = line (codes "usage")
 text_of SettingTooLong = line (codes "setting refused: too long")
 text_of (Setting refusal) = setting_text refusal
+text_of OtherKind = line (codes "setting refused: other kind")
 text_of AnswerTooLong = line (codes "answer refused: too long")
 text_of (Answer refusal) = answer_text refusal
+text_of NoTable = line (codes "answer refused: no table")
 text_of ReadFault = line (codes "read fault")
 text_of Memory = want_of_memory
 

@@ -1,10 +1,12 @@
 -- What each command says of the files that it names.
-use Rattle.std.specs.Prelude.{◌≡◌, ◌≢◌, ◌⊎◌, ◌++◌, ◌∷◌, [], ℕ, ℤ, List, Option, None, Some, Result, Ok, Err, codes}
+use Rattle.std.specs.Prelude.{◌≡◌, ◌≢◌, ◌⊎◌, ◌++◌, ◌∷◌, [], ℕ, ℤ, List, Option, None, Some, Result, Ok, Err, codes, slice_get}
 use Rattle.std.specs.Option.{ForSome}
 use Rattle.md_num.specs.WholeText.{text_of}
+use Rattle.md_num.specs.declared.frac.Frac.{Frac}
+use Rattle.md_top.specs.Words.{Order, audit, rows, check}
 use Rattle.md_setting.specs.Setting.{GeneralSetting}
 use Rattle.md_setting.specs.declared.file.SettingFile.{SettingFile}
-use Rattle.md_setting.specs.declared.file.SettingFile.TheVariants.{General}
+use Rattle.md_setting.specs.declared.file.SettingFile.TheVariants.{General, Auction}
 use Rattle.md_toml.specs.File.{setting_of}
 use Rattle.md_toml.specs.declared.refusal.SettingRefusal.{SettingRefusal}
 use Rattle.md_mech.specs.declared.broken.Broken.{Broken}
@@ -12,18 +14,21 @@ use Rattle.md_mech.specs.declared.mechanism.Mechanism.{Mechanism}
 use Rattle.md_mech.specs.Admissible.{IsAdmissible}
 use Rattle.md_mech.specs.Rows.{Row, IsFirstBroken, rows_of}
 use Rattle.md_mech.specs.RowName.{name_of}
+use Rattle.md_listing.specs.Listing.{IsListing}
 use Rattle.md_answer.specs.Answers.{answer_of}
 use Rattle.md_answer.specs.declared.answer.Answer.{Answer}
-use Rattle.md_answer.specs.declared.answer.Answer.TheVariants.{Table}
+use Rattle.md_answer.specs.declared.answer.Answer.TheVariants.{Table, Optimal, Infeasible, Unbounded, TooWide}
 use Rattle.md_answer.specs.declared.answer.AnswerRefusal.{AnswerRefusal}
+use Rattle.md_check.specs.declared.verdict.Verdict.{Verdict}
+use Rattle.md_check.specs.Verdicts.{IsVerdict as IsVerdictOn}
 use Rattle.md_top.specs.declared.refusal.Refusal.{Refusal}
 use Rattle.md_top.specs.declared.refusal.Refusal.TheVariants as refusal
 use Rattle.md_ports.specs.Faults.{Rose}
-use Rattle.md_top.specs.declared.audit.Answered.{Answered}
-use Rattle.md_top.specs.Words.{Command, audit, setting_name, second_name}
+use Rattle.md_top.specs.declared.answered.Answered.{Answered}
 use Rattle.md_top.specs.Saying.{Saying, said}
 use Rattle.md_top.specs.Refused.{refused}
 use Rattle.md_top.specs.Reading.{file_of}
+use Rattle.md_top.specs.Verdicts.{TellsVerdict}
 
 -- the greatest length of a setting file, and of a second file
 abbrev pub setting_limit : ℕ
@@ -37,30 +42,46 @@ abbrev pub and_then : {A B : Type 0} → Result A Refusal → (A → Result B Re
 and_then (Ok x) next = next x
 and_then (Err e) next = Err e
 
--- the general setting of a file
-abbrev pub general_of : SettingFile → GeneralSetting
-general_of (General setting) = setting
+-- the general setting of a file: an auction is refused
+abbrev pub general_of : SettingFile → Result GeneralSetting Refusal
+general_of (General setting) = Ok setting
+general_of (Auction _) = Err refusal.OtherKind
 
 abbrev pub setting_or_refusal : Result SettingFile SettingRefusal → Result GeneralSetting Refusal
-setting_or_refusal (Ok file) = Ok (general_of file)
+setting_or_refusal (Ok file) = general_of file
 setting_or_refusal (Err e) = Err (refusal.Setting e)
 
 -- the setting that a file says, or the first reason to refuse it
 abbrev pub setting_in : List ℕ → Result GeneralSetting Refusal
 setting_in bytes = and_then (file_of setting_limit refusal.SettingTooLong bytes) (λ short. setting_or_refusal (setting_of short))
 
--- the mechanism of an answer
-abbrev pub mechanism_of : Answer → Mechanism
-mechanism_of (Table mechanism) = mechanism
+-- the mechanism of an answer, where it has one
+abbrev pub mechanism_of : Answer → Result Mechanism Refusal
+mechanism_of (Table mechanism) = Ok mechanism
+mechanism_of (Optimal value mechanism bound) = Ok mechanism
+mechanism_of (Infeasible face) = Err refusal.NoTable
+mechanism_of (Unbounded mechanism ray) = Ok mechanism
+mechanism_of (TooWide cuts path entry) = Err refusal.NoTable
 
 abbrev pub mechanism_or_refusal : Result Answer AnswerRefusal → Result Mechanism Refusal
-mechanism_or_refusal (Ok answer) = Ok (mechanism_of answer)
+mechanism_or_refusal (Ok answer) = mechanism_of answer
 mechanism_or_refusal (Err e) = Err (refusal.Answer e)
 
 -- the mechanism that a second file says, or the first reason to refuse it
 abbrev pub mechanism_in : GeneralSetting → List ℕ → Result Mechanism Refusal
 mechanism_in s bytes =
     and_then (file_of answer_limit refusal.AnswerTooLong bytes) (λ short. mechanism_or_refusal (answer_of s short))
+
+abbrev pub answer_or_refusal : Result Answer AnswerRefusal → Result Answer Refusal
+answer_or_refusal (Ok answer) = Ok answer
+answer_or_refusal (Err e) = Err (refusal.Answer e)
+
+-- the answer that a second file says, or the first reason to refuse it
+abbrev pub answer_in : GeneralSetting → List ℕ → Result Answer Refusal
+answer_in s bytes =
+    and_then (file_of answer_limit refusal.AnswerTooLong bytes) (λ short. answer_or_refusal (answer_of s short))
+
+-- ---- audit
 
 abbrev pub admissible_text : List ℕ
 admissible_text = codes "admissible" ++ 10 ∷ []
@@ -87,47 +108,97 @@ pub record IsAdmissibleSaying (s : GeneralSetting) (m : Mechanism) (saying : Say
 abbrev pub IsVerdict : GeneralSetting → Mechanism → Saying → Type 0
 IsVerdict s m saying = IsAdmissibleSaying s m saying ⊎ IsBrokenSaying s m saying
 
--- what `audit` says of a setting and the second file
+-- what `audit` says of a setting and what the second file says
 abbrev pub IsAuditOf : GeneralSetting → Result Mechanism Refusal → Saying → Type 0
 IsAuditOf s (Ok m) saying = IsVerdict s m saying
 IsAuditOf s (Err e) saying = saying ≡ refused e
 
--- What `audit` says of its two files, as far as the shelf tells them: a refusal of the setting comes first,
--- whatever the second file holds.
-abbrev pub IsAudit : Result GeneralSetting Refusal → Option (List ℕ) → Saying → Type 0
-IsAudit (Err e) second saying = saying ≡ refused e
-IsAudit (Ok s) second saying = (saying.status ≢ 65) × ForSome second (λ bytes. IsAuditOf s (mechanism_in s bytes) saying)
+abbrev pub IsAudit : GeneralSetting → List ℕ → Saying → Type 0
+IsAudit s bytes saying = IsAuditOf s (mechanism_in s bytes) saying
 
--- the same of a setting that was read, where the second file was tried or a fault or want of memory came first
-abbrev pub IsTried : GeneralSetting → Option (List ℕ) → Result Answered Refusal → Type 0
-IsTried s second (Ok answered) = IsAudit (Ok s) second (said answered)
-IsTried s second (Err e) = IsAudit (Ok s) second (refused e) ⊎ ((e ≡ refusal.ReadFault) ⊎ (e ≡ refusal.Memory))
-
--- the statuses with which `audit` replies
+-- the statuses of what `audit` answers
 abbrev pub IsAuditStatus : ℕ → Type 0
-IsAuditStatus status = (status ≡ 0) ⊎ ((status ≡ 20) ⊎ ((status ≡ 65) ⊎ (status ≡ 66)))
+IsAuditStatus status = (status ≡ 0) ⊎ (status ≡ 20)
+
+-- ---- rows
+
+-- what `rows` says of a setting: its linear program
+pub record IsRows (s : GeneralSetting) (saying : Saying) : Type 0 where
+  pub status : saying.status ≡ 0
+  pub text : IsListing s saying.text
+
+abbrev pub IsRowsStatus : ℕ → Type 0
+IsRowsStatus status = status ≡ 0
+
+-- ---- check
+
+-- the verdict on an answer, and what is said of it
+pub record IsChecked (s : GeneralSetting) (answer : Answer) (saying : Saying) : Type 0 where
+  pub verdict : Verdict
+  pub is_verdict : IsVerdictOn s answer verdict
+  pub told : TellsVerdict s verdict saying
+
+-- what `check` says of a setting and what the second file says
+abbrev pub IsCheckOf : GeneralSetting → Result Answer Refusal → Saying → Type 0
+IsCheckOf s (Ok answer) saying = IsChecked s answer saying
+IsCheckOf s (Err e) saying = saying ≡ refused e
+
+abbrev pub IsCheck : GeneralSetting → List ℕ → Saying → Type 0
+IsCheck s bytes saying = IsCheckOf s (answer_in s bytes) saying
+
+abbrev pub IsCheckStatus : ℕ → Type 0
+IsCheckStatus status = (status ≡ 0) ⊎ ((status ≡ 20) ⊎ (status ≡ 22))
+
+-- ---- commands
+
+-- What a command says of its one file: P where a setting was read.
+abbrev pub IsOfOne : (GeneralSetting → Saying → Type 0) → Result GeneralSetting Refusal → Saying → Type 0
+IsOfOne P (Err e) saying = saying ≡ refused e
+IsOfOne P (Ok s) saying = P s saying
+
+-- What a command says of its two files, as far as the shelf tells them: P where a setting was read. A refusal of the
+-- setting comes first, whatever the second file holds.
+abbrev pub IsOfTwo : (GeneralSetting → List ℕ → Saying → Type 0) → Result GeneralSetting Refusal → Option (List ℕ) → Saying → Type 0
+IsOfTwo P (Err e) second saying = saying ≡ refused e
+IsOfTwo P (Ok s) second saying = (saying.status ≢ 65) × ForSome second (λ bytes. P s bytes saying)
+
+-- a reply about the setting of this name, by what the shelf tells; the statuses of what is answered come before 65
+pub record IsReplyToOne (P : GeneralSetting → Saying → Type 0) (IsOwn : ℕ → Type 0) (setting : List ℕ) (content : List ℕ → Option (List ℕ)) (saying : Saying) : Type 0 where
+  pub status : IsOwn saying.status ⊎ (saying.status ≡ 65)
+  pub said_of : ForSome (content setting) (λ bytes. IsOfOne P (setting_in bytes) saying)
+
+-- the same about a second file, which is refused with 66
+pub record IsReplyToTwo (P : GeneralSetting → List ℕ → Saying → Type 0) (IsOwn : ℕ → Type 0) (setting second : List ℕ) (content : List ℕ → Option (List ℕ)) (saying : Saying) : Type 0 where
+  pub status : IsOwn saying.status ⊎ ((saying.status ≡ 65) ⊎ (saying.status ≡ 66))
+  pub said_of : ForSome (content setting) (λ bytes. IsOfTwo P (setting_in bytes) (content second) saying)
 
 -- what a command says, by what the shelf tells under each name
-abbrev pub IsReply : Command → (List ℕ → Option (List ℕ)) → Saying → Type 0
-IsReply (audit setting answer) content saying =
-    IsAuditStatus saying.status × ForSome (content setting) (λ bytes. IsAudit (setting_in bytes) (content answer) saying)
+abbrev pub IsReply : Order → (List ℕ → Option (List ℕ)) → Saying → Type 0
+IsReply (audit setting answer) content saying = IsReplyToTwo IsAudit IsAuditStatus setting answer content saying
+IsReply (rows setting) content saying = IsReplyToOne IsRows IsRowsStatus setting content saying
+IsReply (check setting answer) content saying = IsReplyToTwo IsCheck IsCheckStatus setting answer content saying
 
 -- the count of one of the command's names rose
-abbrev pub HasFaulted : Command → (List ℕ → ℕ) → (List ℕ → ℕ) → Type 0
-HasFaulted command before after =
-    Rose (before (setting_name command)) (after (setting_name command)) ⊎ Rose (before (second_name command)) (after (second_name command))
+abbrev pub HasFaulted : Order → (List ℕ → ℕ) → (List ℕ → ℕ) → Type 0
+HasFaulted (audit setting answer) before after = Rose (before setting) (after setting) ⊎ Rose (before answer) (after answer)
+HasFaulted (rows setting) before after = Rose (before setting) (after setting)
+HasFaulted (check setting answer) before after = Rose (before setting) (after setting) ⊎ Rose (before answer) (after answer)
 
 -- What a call says: of words that are no command, that; of a command, its reply, unless a read of one of its files
 -- failed or memory ran out. No count of faults changes but where a read failed.
-abbrev pub IsSaid : Option Command → (List ℕ → Option (List ℕ)) → (List ℕ → ℕ) → (List ℕ → ℕ) → Saying → Type 0
+abbrev pub IsSaid : Option Order → (List ℕ → Option (List ℕ)) → (List ℕ → ℕ) → (List ℕ → ℕ) → Saying → Type 0
 IsSaid None content before after saying = (saying ≡ refused refusal.Usage) × ((name : List ℕ) → after name ≡ before name)
-IsSaid (Some command) content before after saying =
-    (IsReply command content saying × ((name : List ℕ) → after name ≡ before name))
-    ⊎ (((saying ≡ refused refusal.ReadFault) × HasFaulted command before after)
+IsSaid (Some order) content before after saying =
+    (IsReply order content saying × ((name : List ℕ) → after name ≡ before name))
+    ⊎ (((saying ≡ refused refusal.ReadFault) × HasFaulted order before after)
     ⊎ ((saying ≡ refused refusal.Memory) × ((name : List ℕ) → after name ≡ before name)))
 
--- the same of a command that was carried out or not
-abbrev pub IsOutcome : Command → (List ℕ → Option (List ℕ)) → Result Answered Refusal → Type 0
-IsOutcome command content (Ok answered) = IsReply command content (said answered)
-IsOutcome command content (Err e) =
-    (IsReply command content (refused e) × (e ≢ refusal.ReadFault)) ⊎ ((e ≡ refusal.ReadFault) ⊎ (e ≡ refusal.Memory))
+-- What came of a command: an answer or a refusal that belongs to its reply, or a fault or want of memory.
+abbrev pub IsOutcome : (Saying → Type 0) → Result Answered Refusal → Type 0
+IsOutcome Replies (Ok answered) = Replies (said answered)
+IsOutcome Replies (Err e) = (Replies (refused e) × (e ≢ refusal.ReadFault)) ⊎ ((e ≡ refusal.ReadFault) ⊎ (e ≡ refusal.Memory))
+
+-- the same of a second file, where a fault or want of memory may come first
+abbrev pub IsTried : (Saying → Type 0) → Result Answered Refusal → Type 0
+IsTried Replies (Ok answered) = Replies (said answered)
+IsTried Replies (Err e) = Replies (refused e) ⊎ ((e ≡ refusal.ReadFault) ⊎ (e ≡ refusal.Memory))

@@ -1,38 +1,42 @@
 //! The command `audit`: whether a mechanism meets all conditions of a setting.
-ghost use Rattle.std.specs.Prelude.{◌≡◌, ◌≢◌, ◌⊎◌, ◌≤◌, ℕ, List, IfOk, IfErr, Err, map};
+ghost use Rattle.std.specs.Prelude.{◌≡◌, ◌≢◌, ◌⊎◌, ◌≤◌, ℕ, List, IfOk, IfErr, MatchResult, Ok, Err, map};
 ghost use Rattle.md_mech.specs.Accepted.{IsAccepted};
 ghost use Rattle.md_top.specs.declared.refusal.Refusal.TheVariants as refusal;
 ghost use Rattle.md_top.specs.Reading.{Follows};
 ghost use Rattle.md_top.specs.Refused.{status_of};
-ghost use Rattle.md_top.specs.Reply.{IsVerdict, broken_text, setting_or_refusal, mechanism_or_refusal};
+ghost use Rattle.md_top.specs.Reply.{IsAuditStatus, IsVerdict, broken_text, mechanism_of, mechanism_or_refusal};
 ghost use Rattle.md_top.specs.Saying.{said};
-ghost use Rattle.md_toml.specs.File.{setting_of};
+ghost use Rattle.md_setting.specs.Setting.{GeneralSetting};
 ghost use Rattle.md_answer.specs.Answers.{answer_of};
+ghost use Rattle.md_answer.specs.AnswerTo.{IsAnswerTo};
 
+use crate::answered::Answered;
 use crate::refusal::Refusal;
 use md_answer::{Answer, AnswerRefusal, read_answer};
 use md_mech::{Broken, Mechanism, audit, row_name};
 use md_num::{NoMemory, write_whole};
-use md_setting::{Setting, SettingFile};
-use md_toml::{SettingRefusal, read_setting};
-use std::alloc::{AllocError, Global};
+use md_setting::Setting;
+use std::alloc::Global;
 
-/// What a command answers: a status below 64 and the text for standard output.
-#[derive(Drop)]
-pub(crate) struct Answered {
-    pub(crate) status: u8,
-    pub(crate) text: Vec<u8>,
-}
-
-/// The setting that a file says.
-pub(crate) fn setting_from(alloc: Global, bytes: &[u8]) -> Result<Setting, Refusal>
-    ensures follows { Follows (λ setting. setting) result (setting_or_refusal (setting_of bytes.now)) }
-    ensures errors { IfErr result (λ e. (e ≡ refusal.Memory) ⊎ (status_of e ≡ 65)) }
+// The mechanism of an answer about the setting, where it has one.
+fn mechanism_in(answer: Answer) -> Result<Mechanism, Refusal>
+    ensures given { MatchResult result (λ mechanism. mechanism_of answer ≡ Ok mechanism) (λ e. (mechanism_of answer ≡ Err e) × (e ≡ refusal.NoTable)) }
+    ensures accepted { (s : GeneralSetting) → IsAnswerTo s answer → IfOk result (IsAccepted s) }
 {
-    match read_setting(alloc, bytes) {
-        Ok(SettingFile::General(setting)) => Ok(setting),
-        Err(SettingRefusal::Memory) => Err(Refusal::Memory),
-        Err(e) => Err(Refusal::Setting(e)),
+    match answer {
+        Answer::Table(mechanism) => Ok(mechanism),
+        Answer::Optimal {
+            mechanism,
+            value: _,
+            bound: _,
+        } => Ok(mechanism),
+        Answer::Unbounded { mechanism, ray: _ } => Ok(mechanism),
+        Answer::Infeasible { face: _ } => Err(Refusal::NoTable),
+        Answer::TooWide {
+            cuts: _,
+            path: _,
+            entry: _,
+        } => Err(Refusal::NoTable),
     }
 }
 
@@ -47,7 +51,7 @@ pub(crate) fn mechanism_from(
     ensures errors { IfErr result (λ e. (e ≡ refusal.Memory) ⊎ (status_of e ≡ 66)) }
 {
     match read_answer(alloc, bytes, setting) {
-        Ok(Answer::Table(mechanism)) => Ok(mechanism),
+        Ok(answer) => mechanism_in(answer),
         Err(AnswerRefusal::Memory) => Err(Refusal::Memory),
         Err(e) => Err(Refusal::Answer(e)),
     }
@@ -61,7 +65,7 @@ pub(crate) fn verdict(
 ) -> Result<Answered, NoMemory>
     requires { IsAccepted setting.now mechanism.now }
     ensures verdict { IfOk result (λ answered. IsVerdict setting.now mechanism.now (said answered)) }
-    ensures status { IfOk result (λ answered. (answered.status ≡ 0) ⊎ (answered.status ≡ 20)) }
+    ensures status { IfOk result (λ answered. IsAuditStatus answered.status) }
 {
     match audit(setting, mechanism) {
         None => Ok(Answered {

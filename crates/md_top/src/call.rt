@@ -9,7 +9,7 @@ ghost use Rattle.md_top.specs.Words.{command_of};
 use crate::refusal::Refusal;
 use crate::run::run;
 use crate::send::send;
-use crate::words::Command;
+use crate::words::Order;
 use md_ports::{Shelf, Sink};
 use std::alloc::Global;
 
@@ -32,10 +32,10 @@ pub fn mechdes<F: Shelf, O: Sink, E: Sink>(
         record { before = O.written out.old; after = O.written out.new; faults_before = O.faults out.old; faults_after = O.faults out.new }
         record { before = E.written err.old; after = E.written err.new; faults_before = E.faults err.old; faults_after = E.faults err.new }) }
 {
-    let Some(command) = Command::of_words(words) else {
+    let Some(order) = Order::of_words(words) else {
         return send(err, 64, b"mechdes: usage\n");
     };
-    match run(alloc, command, shelf) {
+    match run(alloc, order, shelf) {
         Ok(answered) => send(out, answered.status, &answered.text),
         Err(refusal) => say_refusal(alloc, refusal, err),
     }

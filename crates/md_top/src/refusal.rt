@@ -16,10 +16,14 @@ pub enum Refusal {
     SettingTooLong,
     /// The setting file says no setting.
     Setting(SettingRefusal),
+    /// The command is for the other kind of setting.
+    OtherKind,
     /// The second file is longer than its limit.
     AnswerTooLong,
     /// The second file says no answer.
     Answer(AnswerRefusal),
+    /// The answer that the second file says has no mechanism.
+    NoTable,
     /// A file could not be read.
     ReadFault,
     /// There is no memory left.
@@ -102,8 +106,8 @@ impl Refusal {
     {
         match self {
             Refusal::Usage => 64,
-            Refusal::SettingTooLong | Refusal::Setting(_) => 65,
-            Refusal::AnswerTooLong | Refusal::Answer(_) => 66,
+            Refusal::SettingTooLong | Refusal::Setting(_) | Refusal::OtherKind => 65,
+            Refusal::AnswerTooLong | Refusal::Answer(_) | Refusal::NoTable => 66,
             Refusal::ReadFault => 70,
             Refusal::Memory => 72,
         }
@@ -120,11 +124,13 @@ impl Refusal {
                 "mechdes: setting refused: too long\n",
             ),
             Refusal::Setting(refusal) => setting_refusal_text(alloc, refusal),
+            Refusal::OtherKind => String::from_str(alloc, "mechdes: setting refused: other kind\n"),
             Refusal::AnswerTooLong => String::from_str(
                 alloc,
                 "mechdes: answer refused: too long\n",
             ),
             Refusal::Answer(refusal) => answer_refusal_text(alloc, refusal),
+            Refusal::NoTable => String::from_str(alloc, "mechdes: answer refused: no table\n"),
             Refusal::ReadFault => String::from_str(alloc, "mechdes: read fault\n"),
             Refusal::Memory => String::from_str(alloc, "mechdes: want of memory\n"),
         }

@@ -1,4 +1,4 @@
-//! The command `audit` over files in memory.
+//! The commands over files in memory.
 use crate::mechdes;
 use md_ports::{CleanShelf, CleanSink, MemShelf, MemSink};
 use std::alloc::{AllocError, Global};
@@ -16,10 +16,16 @@ const VOTE: &str =
 const CORRELATED: &str =
     "format = \"mechanism-setting\"\nversion = 1\nkind = \"general\"\ntruth = \"bayes\"\nrational = \"interim\"\npayments = true\noutcomes = [\"keep\", \"first\", \"second\"]\nprior = [2, 1, 1, 2]\n[objective]\nrevenue = 1\n[[agent]]\nname = \"one\"\ntypes = [\"v1\", \"v2\"]\nutility = [[0, 1, 0], [0, 2, 0]]\n[[agent]]\nname = \"two\"\ntypes = [\"v1\", \"v2\"]\nutility = [[0, 0, 1], [0, 0, 2]]\n";
 
+const OUTSIDE: &str =
+    "format = \"mechanism-setting\"\nversion = 1\nkind = \"general\"\ntruth = \"dominant\"\nrational = \"ex-post\"\npayments = false\noutcomes = [\"only\"]\n[[agent]]\nname = \"a\"\ntypes = [\"t\"]\nweights = [1]\noutside = [1]\nutility = [[0]]\n";
+
+const FREE_PAYMENTS: &str =
+    "format = \"mechanism-setting\"\nversion = 1\nkind = \"general\"\ntruth = \"dominant\"\nrational = \"none\"\npayments = true\noutcomes = [\"only\"]\n[objective]\nrevenue = 1\n[[agent]]\nname = \"a\"\ntypes = [\"t\"]\nweights = [1]\nutility = [[0]]\n";
+
 const ONE_TYPE_TABLE: &str = "answer,1,general,table\ntable,1\nlottery,t,1\nend\n";
 
 // A setting file, an answer file, the status, what is printed and what is said on the other stream.
-static CASES: [(&str, &str, u8, &str, &str); 15] = [
+static CASES: [(&str, &str, u8, &str, &str); 23] = [
     (ONE_TYPE, ONE_TYPE_TABLE, 0, "admissible\n", ""),
     (
         VOTE,
@@ -94,6 +100,55 @@ static CASES: [(&str, &str, u8, &str, &str); 15] = [
         "mechdes: answer refused: line 5: record\n",
     ),
     (
+        POSTED_PRICE,
+        "answer,1,general,optimal\nvalue,3,2\ntable,1\nlottery,low,1,0\nlottery,high,0,1\npay,low,0\npay,high,3\nbound,2\nrow,1,0,1\nrow,2,0,3\nrow,3,0,1\nrow,5,0,6\nend\n",
+        0,
+        "admissible\n",
+        "",
+    ),
+    (
+        POSTED_PRICE,
+        "answer,1,general,optimal\nvalue,3,2\ntable,1\nlottery,low,1,0\nlottery,high,0,1\npay,low,0\npay,high,3\nbound,2\nrow,1,0,1\nrow,2,0,3\nrow,3,0,1\nrow,5,0,6\n",
+        66,
+        "",
+        "mechdes: answer refused: line 12: ended\n",
+    ),
+    (
+        POSTED_PRICE,
+        "answer,1,general,optimal\nvalue,3,2\ntable,1\nlottery,low,1,1\n",
+        66,
+        "",
+        "mechdes: answer refused: line 4: sum\n",
+    ),
+    (
+        POSTED_PRICE,
+        "answer,1,general,optimal\nvalue,3,2\ntable,1\nlottery,high,1,0\n",
+        66,
+        "",
+        "mechdes: answer refused: line 4: field 2\n",
+    ),
+    (
+        OUTSIDE,
+        "answer,1,general,infeasible\nrow,0,1\nend\n",
+        66,
+        "",
+        "mechdes: answer refused: no table\n",
+    ),
+    (
+        FREE_PAYMENTS,
+        "answer,1,general,unbounded\ntable,1\nlottery,t,1\npay,t,0\nray,t,1\nend\n",
+        0,
+        "admissible\n",
+        "",
+    ),
+    (
+        POSTED_PRICE,
+        "answer,1,general,toowide\npivot,4,0\npivot,1,1\nwide,3,3,-25,5\nend\n",
+        66,
+        "",
+        "mechdes: answer refused: no table\n",
+    ),
+    (
         ONE_TYPE,
         "answer,1,general,table\ntable,4611686018427387903\nlottery,t,4611686018427387903\nend\n",
         0,
@@ -106,6 +161,13 @@ static CASES: [(&str, &str, u8, &str, &str); 15] = [
         66,
         "",
         "mechdes: answer refused: line 2: field 2\n",
+    ),
+    (
+        "format = \"mechanism-setting\"\nversion = 1\nkind = \"auction\"\nbidders = 2\nvalues = [1, 2]\nweights = [1, 1]\n",
+        ONE_TYPE_TABLE,
+        65,
+        "",
+        "mechdes: setting refused: other kind\n",
     ),
 ];
 
@@ -174,5 +236,155 @@ fn tells_faults_and_wrong_words(rt: HostRuntime) -> Result<(), Fail> {
     );
     assert!(rt; err.bytes() == "mechdes: read fault\nmecmechdes: usage\n".as_bytes());
     assert!(rt; out.bytes().is_empty());
+    Ok(())
+}
+
+// One agent that has 1 outside, and gets 0 at the one outcome.
+const OUT_OF_REACH: &str =
+    "format = \"mechanism-setting\"\nversion = 1\nkind = \"general\"\ntruth = \"dominant\"\nrational = \"ex-post\"\npayments = false\noutcomes = [\"only\"]\n[[agent]]\nname = \"a\"\ntypes = [\"t\"]\nweights = [1]\noutside = [1]\nutility = [[0]]\n";
+
+// The designer would like the outcome that gives the agent less than it has outside.
+const TWO_OUTCOMES: &str =
+    "format = \"mechanism-setting\"\nversion = 1\nkind = \"general\"\ntruth = \"dominant\"\nrational = \"ex-post\"\npayments = false\noutcomes = [\"x\", \"y\"]\n[objective]\nvalue = [0, 5]\n[[agent]]\nname = \"a\"\ntypes = [\"t\"]\nweights = [1]\noutside = [1]\nutility = [[1, 0]]\n";
+
+// The designer would like to pay, and may not pay more than it takes.
+const PAYING: &str =
+    "format = \"mechanism-setting\"\nversion = 1\nkind = \"general\"\ntruth = \"dominant\"\nrational = \"none\"\npayments = true\nno_deficit = true\noutcomes = [\"only\"]\n[objective]\nrevenue = -1\n[[agent]]\nname = \"a\"\ntypes = [\"t\"]\nweights = [1]\nutility = [[0]]\n";
+
+const TAKING: &str =
+    "format = \"mechanism-setting\"\nversion = 1\nkind = \"general\"\ntruth = \"dominant\"\nrational = \"none\"\npayments = true\noutcomes = [\"only\"]\n[objective]\nrevenue = 1\n[[agent]]\nname = \"a\"\ntypes = [\"t\"]\nweights = [1]\nutility = [[0]]\n";
+
+// A setting and its linear program.
+static PROGRAMS: [(&str, &str); 2] = [
+    (
+        OUT_OF_REACH,
+        "program,1,2\ncost\nrow,0,rational/a/t,atmost,-1\nrow,1,profile/t,exact,1,0,1\nend\n",
+    ),
+    (
+        TWO_OUTCOMES,
+        "program,2,2\ncost,1,1\nrow,0,rational/a/t,atmost,-1,0,-1\nrow,1,profile/t,exact,1,0,1,1,1\nend\n",
+    ),
+];
+
+// A setting, an answer, the status and what `check` prints.
+static CHECKS: [(&str, &str, u8, &str); 15] = [
+    (ONE_TYPE, ONE_TYPE_TABLE, 22, "undecided\n"),
+    (
+        POSTED_PRICE,
+        "answer,1,general,optimal\nvalue,3,2\ntable,1\nlottery,low,1,0\nlottery,high,0,1\npay,low,0\npay,high,3\nbound,2\nrow,1,0,1\nrow,2,0,3\nrow,3,0,1\nrow,5,0,6\nend\n",
+        0,
+        "valid\n",
+    ),
+    (
+        POSTED_PRICE,
+        "answer,1,general,optimal\nvalue,3,2\ntable,1\nlottery,low,1,0\nlottery,high,0,1\npay,low,0\npay,high,4\nbound,2\nrow,1,0,1\nrow,2,0,3\nrow,3,0,1\nrow,5,0,6\nend\n",
+        20,
+        "rejected,1,truth/buyer/high/low/high,-1,0\n",
+    ),
+    (
+        POSTED_PRICE,
+        "answer,1,general,optimal\nvalue,2,1\ntable,1\nlottery,low,1,0\nlottery,high,0,1\npay,low,0\npay,high,3\nbound,2\nrow,1,0,1\nrow,2,0,3\nrow,3,0,1\nrow,5,0,6\nend\n",
+        20,
+        "rejected,2,3,2\n",
+    ),
+    (
+        POSTED_PRICE,
+        "answer,1,general,optimal\nvalue,3,2\ntable,1\nlottery,low,1,0\nlottery,high,0,1\npay,low,0\npay,high,3\nbound,2\nrow,1,0,-1\nrow,2,0,3\nrow,3,0,1\nrow,5,0,6\nend\n",
+        20,
+        "rejected,3,1,0,-1\n",
+    ),
+    (
+        POSTED_PRICE,
+        "answer,1,general,optimal\nvalue,3,2\ntable,1\nlottery,low,1,0\nlottery,high,0,1\npay,low,0\npay,high,3\nbound,2\nrow,1,0,1\nrow,2,0,3\nrow,5,0,6\nend\n",
+        20,
+        "rejected,4,5,0,-1\n",
+    ),
+    (
+        POSTED_PRICE,
+        "answer,1,general,optimal\nvalue,3,2\ntable,1\nlottery,low,1,0\nlottery,high,0,1\npay,low,0\npay,high,3\nbound,2\nrow,1,0,1\nrow,2,0,3\nrow,3,0,1\nrow,4,1,0\nrow,5,0,6\nend\n",
+        20,
+        "rejected,5,1\n",
+    ),
+    (
+        POSTED_PRICE,
+        "answer,1,general,optimal\nvalue,0,1\ntable,1\nlottery,low,1,0\nlottery,high,1,0\npay,low,0\npay,high,0\nbound,2\nrow,1,0,1\nrow,2,0,3\nrow,3,0,1\nrow,5,0,6\nend\n",
+        20,
+        "rejected,6,3,1,0,1\n",
+    ),
+    (
+        OUT_OF_REACH,
+        "answer,1,general,infeasible\nrow,0,1\nend\n",
+        0,
+        "valid\n",
+    ),
+    (
+        OUT_OF_REACH,
+        "answer,1,general,infeasible\nrow,0,-1\nend\n",
+        20,
+        "rejected,3,0,-1,0\n",
+    ),
+    (
+        OUT_OF_REACH,
+        "answer,1,general,infeasible\nrow,1,-1\nend\n",
+        20,
+        "rejected,4,0,-1,0\n",
+    ),
+    (
+        OUT_OF_REACH,
+        "answer,1,general,infeasible\nrow,1,1\nend\n",
+        20,
+        "rejected,5,1\n",
+    ),
+    (
+        TAKING,
+        "answer,1,general,unbounded\ntable,1\nlottery,t,1\npay,t,0\nray,t,1\nend\n",
+        0,
+        "valid\n",
+    ),
+    (
+        TAKING,
+        "answer,1,general,unbounded\ntable,1\nlottery,t,1\npay,t,0\nray,t,0\nend\n",
+        20,
+        "rejected,8,0\n",
+    ),
+    (
+        PAYING,
+        "answer,1,general,unbounded\ntable,1\nlottery,t,1\npay,t,0\nray,t,-1\nend\n",
+        20,
+        "rejected,7,0,1\n",
+    ),
+];
+
+#[test]
+fn lists_programs(rt: HostRuntime) -> Result<(), Fail> {
+    let alloc = rt.alloc();
+    let words = words(alloc, &["rows", "setting"])?;
+    for (setting, printed) in &PROGRAMS {
+        let mut shelf = MemShelf::new(alloc);
+        shelf.put("setting", setting.as_bytes())?;
+        let mut out = MemSink::new(alloc, 200)?;
+        let mut err = MemSink::new(alloc, 100)?;
+        assert_eq!(rt; mechdes(alloc, &words, &mut shelf, &mut out, &mut err), 0);
+        assert!(rt; out.bytes() == printed.as_bytes(), "at {setting}");
+        assert!(rt; err.bytes().is_empty(), "at {setting}");
+    }
+    Ok(())
+}
+
+#[test]
+fn checks_answers(rt: HostRuntime) -> Result<(), Fail> {
+    let alloc = rt.alloc();
+    let words = words(alloc, &["check", "setting", "answer"])?;
+    for (setting, answer, status, printed) in &CHECKS {
+        let mut shelf = MemShelf::new(alloc);
+        shelf.put("setting", setting.as_bytes())?;
+        shelf.put("answer", answer.as_bytes())?;
+        let mut out = MemSink::new(alloc, 100)?;
+        let mut err = MemSink::new(alloc, 100)?;
+        let got = mechdes(alloc, &words, &mut shelf, &mut out, &mut err);
+        assert_eq!(rt; got, *status, "at {answer}");
+        assert!(rt; out.bytes() == printed.as_bytes(), "at {answer}");
+        assert!(rt; err.bytes().is_empty(), "at {answer}");
+    }
     Ok(())
 }

@@ -1,5 +1,8 @@
-use Rattle.md_answer.proofs.MechanismRead.{mechanism-accepted}
+use Rattle.md_answer.proofs.AnswerRead.{answer-known}
 use Rattle.md_answer.proofs.read.read_answer.Goals as goal
 
 pub returns-clause-accepted : goal.returns-clause-accepted
-returns-clause-accepted c = mechanism-accepted c.args.setting.now c.in_ok-mechanism.mechanism c.read_first.new.reader c.read_mechanism.new.reader c.in_ok-mechanism.ensures
+returns-clause-accepted c = (answer-known c.args.setting.now c.in_ok-kind.kind c.read_first.new.reader c.read_by_kind.new.reader c.in_ok-answer.answer c.in_ok-answer.ensures).0
+
+pub returns-clause-places : goal.returns-clause-places
+returns-clause-places c = (answer-known c.args.setting.now c.in_ok-kind.kind c.read_first.new.reader c.read_by_kind.new.reader c.in_ok-answer.answer c.in_ok-answer.ensures).1

@@ -14,6 +14,6 @@ returns-in_err-word-2 c =
 
 pub returns : goal.returns
 returns c =
-    MatchResult-weaker c.word-3.result c.word-3.ensures
-    (λ _ last. head-read c.args.reader.now c.next.new.self c.in_ok-fields.fields c.word.new.self c.word-2.new.self c.word-3.new.self c.in_ok-fields.ensures c.in_ok-word.ensures c.in_ok-word-2.ensures last)
+    MatchResult-weaker c.kind.result c.kind.ensures
+    (λ kind last. head-read c.args.reader.now c.next.new.self c.in_ok-fields.fields c.word.new.self c.word-2.new.self c.kind.new.self kind c.in_ok-fields.ensures c.in_ok-word.ensures c.in_ok-word-2.ensures last)
     (λ refusal fails _. head-which c.args.reader.now c.next.new.self c.in_ok-fields.fields c.word.new.self c.word-2.new.self refusal c.in_ok-fields.ensures c.in_ok-word.ensures c.in_ok-word-2.ensures fails)

@@ -4,4 +4,4 @@ use Rattle.md_answer.proofs.EachProfile.{IsRead}
 use Rattle.md_answer.proofs.table.read_all_payments.Given as goal
 
 abbrev pub invariant-loop-rank : goal.invariant-loop-rank
-invariant-loop-rank l = IsRead (sizes_of l.setting) (payments_of l.setting) l.rank l.fn.reader l.reader l.pays
+invariant-loop-rank l = IsRead (sizes_of l.setting) (payments_of l.word l.setting) l.rank l.fn.reader l.reader l.pays

@@ -1,4 +1,4 @@
-use Rattle.std.proofs.Common.{to_z, ◌≡◌, ◌<◌, ◌≤◌, ◌+◌, ◌*◌, ◌^◌, ◌+ℤ◌, ◌∙◌, arith, ap, sym, lit<, subst}
+use Rattle.std.proofs.Common.{to_z, ◌≡◌, ◌+◌, ◌*◌, ◌^◌, ◌+ℤ◌, ◌∙◌, arith, ap, sym, lit<, subst}
 use mir.Syntax.{w128}
 use Rattle.md_math.specs.Sizes.{IsWithin}
 use Rattle.md_math.specs.Sums.{sum_to}

@@ -1,10 +1,8 @@
-use Rattle.std.proofs.Common.{◌≡◌, ◌<◌, ◌≤◌, ◌*◌, ◌^◌, ◌*ℤ◌, ◌∙◌, true, arith, ap, sym, subst, slice_index, unsigned_abs, mul-le-mul, eq-eqb, refl}
+use Rattle.std.proofs.Common.{◌≡◌, ◌≤◌, ◌*◌, ◌^◌, ◌*ℤ◌, ◌∙◌, true, arith, ap, sym, slice_index, unsigned_abs, mul-le-mul, eq-eqb, refl}
 use Rattle.std.specs.Prelude.{◌==◌}
-use Rattle.std.proofs.lemmas.Bool.Decides.{nat_tests}
-use Rattle.md_math.specs.Sizes.{IsWithin}
 use Rattle.md_space.specs.Profiles.{profile_at, replaced}
-use Rattle.md_setting.specs.Meaning.{sizes_of, weight_of}
-use Rattle.md_mech.specs.Utility.{utility_as, expected_utility, average_term}
+use Rattle.md_setting.specs.Meaning.{sizes_of}
+use Rattle.md_mech.specs.Utility.{utility_as, expected_utility}
 use Rattle.md_mech.proofs.Reading.{read_result}
 use Rattle.md_mech.proofs.averages.term_at.Goals as goal
 

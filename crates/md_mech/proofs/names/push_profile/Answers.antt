@@ -1,7 +1,7 @@
-use Rattle.std.proofs.Common.{◌≡◌, ◌<◌, ◌++◌, ◌∷◌, [], List, ℕ, length, get_or, slice_index, ap, sym, ◌∙◌, subst, arith}
+use Rattle.std.proofs.Common.{◌≡◌, ◌<◌, ◌++◌, [], length, get_or, slice_index, ap, sym, ◌∙◌, arith}
 use Rattle.std.specs.Prelude.{slice_index_or}
 use Rattle.std.proofs.lemmas.List.{length-map}
-use Rattle.md_space.specs.Profiles.{profile_count, profile_at}
+use Rattle.md_space.specs.Profiles.{profile_at}
 use Rattle.md_space.proofs.Ranks.{length-IsProfile, profile_at-IsProfile}
 use Rattle.md_setting.specs.Meaning.{agent_at, agent_count, sizes_of}
 use Rattle.md_mech.specs.RowName.{type_names}

@@ -1,8 +1,7 @@
-use Rattle.std.proofs.Common.{◌≡◌, ◌<◌, ◌+◌, ◌∙◌, [], ◌∷◌, arith, subst, sym, ap, slice_index}
+use Rattle.std.proofs.Common.{◌≡◌, arith, subst}
 use Rattle.std.proofs.lemmas.Result.{err_from_is_err_and}
 use Rattle.md_math.specs.Lists.{up_to}
-use Rattle.md_space.specs.Profiles.{profile_at, profile_count}
-use Rattle.md_setting.specs.Meaning.{agent_count, sizes_of}
+use Rattle.md_setting.specs.Meaning.{agent_count}
 use Rattle.md_mech.specs.Rows.{bayes_rows}
 use Rattle.md_mech.specs.Scanned.{IsPassed}
 use Rattle.md_mech.proofs.ScanLaws.{broken-at, passed-more}

@@ -1,4 +1,4 @@
-use Rattle.std.proofs.Common.{◌≤◌, ◌+◌, ◌*◌, [], ◌∷◌}
+use Rattle.std.proofs.Common.{◌≤◌, ◌+◌, ◌*◌}
 use Rattle.md_math.specs.Lists.{up_to}
 use Rattle.md_space.specs.Profiles.{profile_at}
 use Rattle.md_setting.specs.Meaning.{sizes_of}

@@ -1,7 +1,5 @@
-use Rattle.std.proofs.Common.{◌≤◌, ◌+◌, ◌*◌, [], ◌∷◌}
+use Rattle.std.proofs.Common.{◌≤◌, ◌+◌, ◌*◌}
 use Rattle.md_math.specs.Lists.{up_to}
-use Rattle.md_space.specs.Profiles.{profile_at}
-use Rattle.md_setting.specs.Meaning.{sizes_of}
 use Rattle.md_mech.specs.Rows.{ex_post_rows}
 use Rattle.md_mech.specs.Scanned.{IsPassed}
 use Rattle.md_mech.proofs.scan.scan_ex_post.Given as goal

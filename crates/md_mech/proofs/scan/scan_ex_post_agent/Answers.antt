@@ -1,12 +1,11 @@
-use Rattle.std.proofs.Common.{◌≡◌, ◌<◌, ◌+◌, ◌∙◌, [], ◌∷◌, arith, subst, sym, ap, slice_index}
+use Rattle.std.proofs.Common.{◌≡◌, ◌∙◌, [], ◌∷◌, arith, subst, ap}
 use Rattle.std.proofs.lemmas.Result.{err_from_is_err_and}
 use Rattle.md_math.specs.Lists.{up_to}
 use Rattle.md_space.specs.Profiles.{profile_at, profile_count}
-use Rattle.md_setting.specs.Meaning.{agent_count, sizes_of}
+use Rattle.md_setting.specs.Meaning.{sizes_of}
 use Rattle.md_mech.specs.Rows.{ex_post_row}
 use Rattle.md_mech.specs.Scanned.{IsPassed}
 use Rattle.md_mech.proofs.ScanLaws.{broken-at, passed-more}
-use Rattle.md_mech.proofs.UtilityLaws.{agents_are}
 use Rattle.md_mech.proofs.scan.scan_ex_post_agent.Goals as goal
 
 pub returns-in_err-row-clause-scanned : goal.returns-in_err-row-clause-scanned

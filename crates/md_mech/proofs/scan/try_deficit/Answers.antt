@@ -1,4 +1,4 @@
-use Rattle.std.proofs.Common.{◌≡◌, pos, refl}
+use Rattle.std.proofs.Common.{pos, refl}
 use Rattle.md_space.specs.Profiles.{profile_at}
 use Rattle.md_setting.specs.Meaning.{sizes_of}
 use Rattle.md_mech.specs.Rows.{deficit_row}

@@ -1,4 +1,3 @@
-use Rattle.std.proofs.Common.{◌≡◌}
 use Rattle.md_mech.specs.Rows.{interim_row}
 use Rattle.md_mech.proofs.Reading.{read_result}
 use Rattle.md_mech.proofs.ScanLaws.{scanned-one}

@@ -1,12 +1,8 @@
-use Rattle.std.proofs.Common.{to_z, ◌≡◌, ◌<◌, ◌≤◌, ◌*ℤ◌, ◌+ℤ◌, ◌∙◌, arith, ap, sym, subst}
+use Rattle.std.proofs.Common.{to_z, ◌≤◌, ◌*ℤ◌, ◌∙◌, arith, sym}
 use mir.Syntax.{w128}
-use Rattle.md_math.specs.Sizes.{IsWithin}
-use Rattle.md_math.specs.Sums.{sum_to}
-use Rattle.md_math.proofs.SizeLaws.{IsWithin-wider}
 use Rattle.md_math.proofs.SumLaws.{sum_to-more}
 use Rattle.md_space.specs.Profiles.{profile_at}
-use Rattle.md_setting.specs.Meaning.{sizes_of, type_utility, outcome_count}
-use Rattle.md_mech.specs.Accepted.{number_limit}
+use Rattle.md_setting.specs.Meaning.{sizes_of, type_utility}
 use Rattle.md_mech.specs.Mechanism.{chance_of}
 use Rattle.md_mech.proofs.Reading.{read_result, step_fits, partial_small}
 use Rattle.md_mech.proofs.UtilityLaws.{expected-within}

@@ -1,15 +1,14 @@
-use Rattle.std.proofs.Common.{to_z, ◌+ℤ◌, ◌≡◌, ◌<◌, ◌≤◌, ◌+◌, ◌*◌, ◌^◌, ◌∙◌, arith, ap, sym, lit<, mul-le-mul, le_refl}
+use Rattle.std.proofs.Common.{to_z, ◌+ℤ◌, ◌≤◌, ◌+◌, ◌*◌, ◌^◌, ◌∙◌, arith, sym, lit<, mul-le-mul, le_refl}
 use mir.Syntax.{w128}
 use Rattle.md_math.specs.Sizes.{IsWithin}
-use Rattle.md_math.specs.Sums.{sum_to}
 use Rattle.md_math.proofs.SizeLaws.{IsWithin-wider, IsWithin-+ℤ, fits_from_IsWithin}
 use Rattle.md_math.proofs.SumLaws.{sum_to-more}
 use Rattle.md_space.specs.Profiles.{profile_at}
-use Rattle.md_setting.specs.Meaning.{agent_count, sizes_of}
+use Rattle.md_setting.specs.Meaning.{sizes_of}
 use Rattle.md_mech.specs.Accepted.{number_limit}
 use Rattle.md_mech.specs.Mechanism.{pay_of}
 use Rattle.md_mech.proofs.Reading.{read_result, read_wide}
-use Rattle.md_mech.proofs.UtilityLaws.{agents_are, payments-within}
+use Rattle.md_mech.proofs.UtilityLaws.{payments-within}
 use Rattle.md_mech.proofs.utilities.payments.Goals as goal
 
 pub overflow_add-sum : goal.overflow_add-sum

@@ -1,4 +1,4 @@
-use Rattle.std.proofs.Common.{sym, ◌∙◌}
+use Rattle.std.proofs.Common.{sym}
 use Rattle.md_setting.specs.Setting.{written}
 use Rattle.md_setting.proofs.Accepted.{listed, small}
 use Rattle.md_setting.proofs.check.check_lists.Goals as goal

@@ -1,4 +1,4 @@
-use Rattle.std.proofs.Common.{ap, sym, ◌∙◌, string_bytes}
+use Rattle.std.proofs.Common.{ap, ◌∙◌, string_bytes}
 use Rattle.md_setting.proofs.Apart.{Next, stands_twice, stands_once, name_added}
 use Rattle.md_setting.proofs.names.are_apart.Goals as goal
 

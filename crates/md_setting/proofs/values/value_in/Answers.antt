@@ -1,10 +1,10 @@
-use Rattle.std.proofs.Common.{◌≡◌, ℕ, ◌<◌, ◌+◌, ℤ, length, ap, sym, ◌∙◌, arith, lit<, slice_index}
+use Rattle.std.proofs.Common.{◌≡◌, length, ap, ◌∙◌, arith, lit<, slice_index}
 use Rattle.std.proofs.lemmas.List.{length-map}
 use Rattle.md_space.specs.Profiles.{profile_at}
 use Rattle.md_setting.specs.Setting.{written}
-use Rattle.md_setting.specs.Meaning.{sizes_of, utility_of, type_utility, agent_count}
+use Rattle.md_setting.specs.Meaning.{sizes_of, utility_of, type_utility}
 use Rattle.md_setting.proofs.Reading.{read_result, read_short, read_within}
-use Rattle.md_setting.proofs.ValueLaws.{value_so_far, value_fits, value_more, value_end}
+use Rattle.md_setting.proofs.ValueLaws.{value_fits, value_more, value_end}
 use Rattle.md_setting.proofs.values.value_in.Goals as goal
 
 pub add_product-value-requires : goal.add_product-value-requires

@@ -1,4 +1,4 @@
-use Rattle.std.proofs.Common.{◌≡◌, ◌<◌, ◌≤◌, ◌+◌, ℤ, pos, ap, sym, ◌∙◌, subst, arith, lit<, to_z, of_z}
+use Rattle.std.proofs.Common.{◌≡◌, ◌≤◌, ◌+◌, pos, ap, sym, ◌∙◌, arith, lit<, to_z, of_z}
 use Rattle.std.specs.Prelude.{◌<ℤ◌, ◌+ℤ◌}
 use mir.Syntax.{w128}
 use Rattle.md_math.specs.Sums.{sum_to}

@@ -1,14 +1,13 @@
-use Rattle.std.proofs.Common.{◌≡◌, ℕ, ◌<◌, ◌+◌, ◌*◌, ◌^◌, ℤ, length, ap, sym, ◌∙◌, subst, arith, lit<, slice_index, get_or}
-use Rattle.std.specs.Prelude.{◌*ℤ◌}
+use Rattle.std.proofs.Common.{◌≡◌, ◌<◌, length, ap, sym, ◌∙◌, subst, arith, slice_index}
 use Rattle.std.proofs.lemmas.List.{length-map}
 use Rattle.md_math.specs.Lists.{number_at}
 use Rattle.md_math.specs.Sizes.{IsWithin}
 use Rattle.md_space.specs.Profiles.{profile_at, profile_count}
 use Rattle.md_space.proofs.Ranks.{length-IsProfile, profile_at-IsProfile}
 use Rattle.md_setting.specs.Setting.{written}
-use Rattle.md_setting.specs.Meaning.{sizes_of, agent_at, agent_count, nobody, type_weights}
+use Rattle.md_setting.specs.Meaning.{sizes_of, agent_at, agent_count}
 use Rattle.md_setting.proofs.Reading.{read_result, read_short}
-use Rattle.md_setting.proofs.WeightLaws.{weights-more, weights-end, weights_fit, weights_within, weights_small}
+use Rattle.md_setting.proofs.WeightLaws.{weights-more, weights_fit, weights_within, weights_small}
 use Rattle.md_setting.proofs.weights.type_product.Goals as goal
 
 pub product-weight-requires : goal.product-weight-requires

@@ -1,4 +1,4 @@
-use Rattle.std.proofs.Common.{◌≡◌, ◌<◌, ℤ, List, Some, None, to_z, of_z, ap, sym, ◌∙◌, subst, lit<}
+use Rattle.std.proofs.Common.{◌≡◌, ◌<◌, Some, to_z, of_z, ap, sym, ◌∙◌, subst, lit<}
 use Rattle.std.specs.Option.{option_map}
 use mir.Syntax.{w64}
 use Rattle.md_math.specs.Lists.{number_at}

@@ -1,6 +1,5 @@
-use Rattle.std.proofs.Common.{◌≡◌, ◌<◌, ◌∷◌, [], ◌++◌, ℤ, List, to_z, of_z, ap, sym, ◌∙◌, subst, arith, lit<}
+use Rattle.std.proofs.Common.{◌≡◌, ◌<◌, ◌∷◌, [], ◌++◌, to_z, of_z, ap, sym, ◌∙◌, arith, lit<}
 use mir.Syntax.{w64, w128}
-use mir.Val.{SFits}
 use Rattle.md_math.specs.Lists.{list_to}
 use Rattle.md_math.specs.Sizes.{IsWithin}
 use Rattle.md_math.proofs.Builders.{list_to-more}

@@ -1,12 +1,13 @@
 use Rattle.std.proofs.Common.{◌≡◌, ◌≢◌, ℕ, ◌∙◌, sym, subst, inr}
 use Rattle.md_ports.specs.Faults.{Rose}
 use Rattle.md_top.specs.declared.refusal.Refusal.TheVariants as refusal
-use Rattle.md_top.proofs.Outcomes.{outcome-from}
+use Rattle.md_top.specs.Reply.{IsAudit, IsAuditStatus}
+use Rattle.md_top.proofs.Outcomes.{outcome-from, setting_refused}
 use Rattle.md_top.proofs.run.run_audit.Goals as goal
 
 pub returns-clause-outcome : goal.returns-clause-outcome
 returns-clause-outcome g c =
-    outcome-from (g.F.Shelf.content c.args.shelf.now) c.args.setting.now c.args.answer.now c.in_ok-setting.setting
+    outcome-from IsAudit IsAuditStatus (g.F.Shelf.content c.args.shelf.now) c.args.setting.now c.args.answer.now c.in_ok-setting.setting
     (g.F.Shelf.content c.read_setting_file.new.shelf c.args.answer.now) c.audit_file.result
     c.in_ok-setting.ensures.told (c.read_setting_file.ensures.stays c.args.answer.now) c.audit_file.ensures.status c.audit_file.ensures.errors c.audit_file.ensures.tried
 

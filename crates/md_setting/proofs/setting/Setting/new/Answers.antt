@@ -1,10 +1,10 @@
-use Rattle.std.proofs.Common.{ap, sym, ◌∙◌, subst, lit<}
+use Rattle.std.proofs.Common.{sym, ◌∙◌, subst, lit<}
 use Rattle.md_math.specs.Sizes.{IsWithin}
 use Rattle.md_setting.specs.Shaped.{IsShaped}
 use Rattle.md_setting.proofs.Reading.{read_within}
 use Rattle.md_setting.specs.Setting.{written}
 use Rattle.md_setting.proofs.Accepted.{listed, small}
-use Rattle.md_setting.proofs.FirstRefusal.{totals_shaped}
+use Rattle.md_setting.proofs.FirstRefusal.{none, totals_shaped}
 use Rattle.md_setting.proofs.setting.Setting.new.Goals as goal
 
 pub weights_by_rank-requires-clause-listed : goal.weights_by_rank-requires-clause-listed
@@ -19,6 +19,7 @@ invariant_of-result c =
     let shaped : IsShaped (written c.args.raw) = totals_shaped (written c.args.raw) c.in_ok-totals.ensures.ok in
     let small : IsWithin 1000000 c.in_ok-totals.totals.total = subst (IsWithin 1000000) (sym c.in_ok-totals.ensures.total) shaped.total.within in
     record {
+      accepted = none (written c.args.raw) c.in_ok-totals.ensures.ok;
       shaped = shaped;
       sizes_are = c.in_ok-space.ensures.ok;
       weights_are = c.in-Ok.ensures;

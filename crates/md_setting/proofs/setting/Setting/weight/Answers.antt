@@ -1,4 +1,4 @@
-use Rattle.std.proofs.Common.{◌≡◌, ℕ, ◌<◌, ℤ, pos, List, length, get_or, to_z, of_z, ap, sym, ◌∙◌, subst, arith, lit<}
+use Rattle.std.proofs.Common.{◌≡◌, ℕ, ◌<◌, ℤ, pos, List, length, to_z, of_z, ap, sym, ◌∙◌, subst, arith, lit<}
 use Rattle.md_math.specs.Lists.{number_at, list_to}
 use Rattle.md_math.proofs.Builders.{length-list_to, get_or-list_to}
 use Rattle.md_space.specs.Profiles.{profile_count, profile_at}

@@ -1,0 +1,31 @@
+-- The records of a path of pivots, and of an entry that is too wide.
+use Rattle.std.specs.Prelude.{ℕ, ℤ, List, [], ◌∷◌, map, codes, unsigned_abs}
+use Rattle.md_math.specs.Lists.{number_at}
+use Rattle.md_lp.specs.declared.pivot.Pivot.{Pivot}
+use Rattle.md_lp.specs.declared.entry.Entry.{Entry}
+use Rattle.md_answer.specs.Fields.{Field, table_place, wide_number, wide_denominator}
+use Rattle.md_answer.specs.Reading.{Reading, ◌>>=◌, nothing_more, read_record}
+use Rattle.md_answer.specs.Repeated.{repeated}
+
+-- the row and the column of a pivot, whatever pivot comes before it
+abbrev pub pivot_fields : ℕ → List Field
+pivot_fields least = table_place ∷ table_place ∷ []
+
+abbrev pub pivot_of : List ℤ → Pivot
+pivot_of numbers = record { row = unsigned_abs (number_at numbers 0); column = unsigned_abs (number_at numbers 1) }
+
+abbrev pub path_of : Reading (List Pivot)
+path_of = do
+  records ← repeated (codes "pivot") pivot_fields 0
+  nothing_more (map pivot_of records)
+
+-- an entry with its place and its denominator
+abbrev pub entry_of : Reading Entry
+entry_of = do
+  numbers ← read_record (codes "wide") (table_place ∷ table_place ∷ wide_number ∷ wide_denominator ∷ [])
+  nothing_more record {
+    row = unsigned_abs (number_at numbers 0);
+    column = unsigned_abs (number_at numbers 1);
+    num = number_at numbers 2;
+    den = number_at numbers 3;
+  }

@@ -1,0 +1,401 @@
+//! Answers read and written, and answers that are refused. The texts come from outside.
+use super::*;
+use md_setting::{Rational, RawAgent, RawSetting, Setting, Truth};
+use std::alloc::{AllocError, Global};
+use std::test::Fail;
+
+fn names(alloc: Global, texts: &[&str]) -> Result<Vec<String>, AllocError> {
+    let mut names = Vec::new(alloc);
+    for text in texts {
+        names.push(String::from_str(alloc, text)?)?;
+    }
+    Ok(names)
+}
+
+// A seller, and a buyer whose value is 1 or 3.
+fn buyer(alloc: Global) -> Result<RawSetting, AllocError> {
+    let agent = RawAgent {
+        name: String::from_str(alloc, "buyer")?,
+        types: names(alloc, &["low", "high"])?,
+        weights: vec![in alloc; 1, 1]?,
+        outside: vec![in alloc; 0, 0]?,
+        utility: vec![in alloc; vec![in alloc; 0, 1]?, vec![in alloc; 0, 3]?]?,
+    };
+    Ok(RawSetting {
+        agents: vec![in alloc; agent]?,
+        outcomes: names(alloc, &["keep", "sell"])?,
+        prior: None,
+        values: vec![in alloc; 0, 0]?,
+        welfare: 0,
+        revenue: 1,
+        truth: Truth::Dominant,
+        rational: Rational::ExPost,
+        payments: true,
+        no_deficit: false,
+    })
+}
+
+fn voter(alloc: Global, name: &str) -> Result<RawAgent, AllocError> {
+    Ok(RawAgent {
+        name: String::from_str(alloc, name)?,
+        types: names(alloc, &["l", "r"])?,
+        weights: vec![in alloc; 1, 1]?,
+        outside: vec![in alloc; 0, 0]?,
+        utility: vec![in alloc; vec![in alloc; 1, 0]?, vec![in alloc; 0, 1]?]?,
+    })
+}
+
+// Two voters who choose between two outcomes.
+fn vote(alloc: Global) -> Result<RawSetting, AllocError> {
+    Ok(RawSetting {
+        agents: vec![in alloc; voter(alloc, "first")?, voter(alloc, "second")?]?,
+        outcomes: names(alloc, &["a", "b"])?,
+        prior: None,
+        values: vec![in alloc; 0, 0]?,
+        welfare: 1,
+        revenue: 0,
+        truth: Truth::Dominant,
+        rational: Rational::None,
+        payments: false,
+        no_deficit: false,
+    })
+}
+
+// One agent of one type, and one outcome.
+fn lone(
+    alloc: Global,
+    rational: Rational,
+    payments: bool,
+    no_deficit: bool,
+) -> Result<RawSetting, AllocError> {
+    let agent = RawAgent {
+        name: String::from_str(alloc, "a")?,
+        types: names(alloc, &["t"])?,
+        weights: vec![in alloc; 1]?,
+        outside: vec![in alloc; 1]?,
+        utility: vec![in alloc; vec![in alloc; 0]?]?,
+    };
+    Ok(RawSetting {
+        agents: vec![in alloc; agent]?,
+        outcomes: names(alloc, &["only"])?,
+        prior: None,
+        values: vec![in alloc; 0]?,
+        welfare: 0,
+        revenue: 1,
+        truth: Truth::Dominant,
+        rational,
+        payments,
+        no_deficit,
+    })
+}
+
+// One agent of one type, and two outcomes.
+fn choice(alloc: Global) -> Result<RawSetting, AllocError> {
+    let agent = RawAgent {
+        name: String::from_str(alloc, "a")?,
+        types: names(alloc, &["t"])?,
+        weights: vec![in alloc; 1]?,
+        outside: vec![in alloc; 1]?,
+        utility: vec![in alloc; vec![in alloc; 1, 0]?]?,
+    };
+    Ok(RawSetting {
+        agents: vec![in alloc; agent]?,
+        outcomes: names(alloc, &["x", "y"])?,
+        prior: None,
+        values: vec![in alloc; 0, 5]?,
+        welfare: 0,
+        revenue: 0,
+        truth: Truth::Dominant,
+        rational: Rational::ExPost,
+        payments: false,
+        no_deficit: false,
+    })
+}
+
+fn built(alloc: Global, raw: RawSetting) -> Result<Setting, Fail> {
+    let Ok(setting) = Setting::new(alloc, raw) else {
+        return Err("no setting")?;
+    };
+    Ok(setting)
+}
+
+const BUYER: usize = 0;
+
+const VOTE: usize = 1;
+
+const UNMET: usize = 2;
+
+const UNBOUNDED: usize = 3;
+
+const NO_DEFICIT: usize = 4;
+
+const CHOICE: usize = 5;
+
+// The settings of the tests, in the order of their numbers.
+fn settings(alloc: Global) -> Result<Vec<Setting>, Fail> {
+    let mut settings = Vec::new(alloc);
+    settings.push(built(alloc, buyer(alloc)?)?)?;
+    settings.push(built(alloc, vote(alloc)?)?)?;
+    settings.push(built(alloc, lone(alloc, Rational::ExPost, false, false)?)?)?;
+    settings.push(built(alloc, lone(alloc, Rational::None, true, false)?)?)?;
+    settings.push(built(alloc, lone(alloc, Rational::None, true, true)?)?)?;
+    settings.push(built(alloc, choice(alloc)?)?)?;
+    Ok(settings)
+}
+
+// A setting and an answer as it is written.
+static WRITTEN: [(usize, &str); 9] = [
+    (
+        BUYER,
+        "answer,1,general,optimal\nvalue,3,2\ntable,1\nlottery,low,1,0\nlottery,high,0,1\npay,low,0\npay,high,3\nbound,2\nrow,1,0,1\nrow,2,0,3\nrow,3,0,1\nrow,5,0,6\nend\n",
+    ),
+    (
+        VOTE,
+        "answer,1,general,optimal\nvalue,3,2\ntable,1\nlottery,l,l,1,0\nlottery,l,r,1,0\nlottery,r,l,0,1\nlottery,r,r,0,1\nbound,1\nrow,8,0,2\nrow,9,0,1\nrow,10,0,1\nrow,11,0,2\nend\n",
+    ),
+    (UNMET, "answer,1,general,infeasible\nrow,0,1\nend\n"),
+    (
+        UNBOUNDED,
+        "answer,1,general,unbounded\ntable,1\nlottery,t,1\npay,t,0\nray,t,1\nend\n",
+    ),
+    (
+        NO_DEFICIT,
+        "answer,1,general,optimal\nvalue,0,1\ntable,1\nlottery,t,1\npay,t,0\nbound,1\nrow,0,0,1\nend\n",
+    ),
+    (
+        CHOICE,
+        "answer,1,general,optimal\nvalue,0,1\ntable,1\nlottery,t,1,0\nbound,1\nrow,0,1,0\nrow,1,1,0\nend\n",
+    ),
+    (BUYER, "answer,1,general,toowide\nwide,1,1,20,1\nend\n"),
+    (
+        BUYER,
+        "answer,1,general,toowide\npivot,4,0\npivot,1,1\nwide,3,3,-25,5\nend\n",
+    ),
+    (
+        BUYER,
+        "answer,1,general,table\ntable,4\nlottery,low,4,0\nlottery,high,1,3\npay,low,0\npay,high,-2\nend\n",
+    ),
+];
+
+#[test]
+fn writes_what_was_read(rt: HostRuntime) -> Result<(), Fail> {
+    let alloc = rt.alloc();
+    let settings = settings(alloc)?;
+    for (setting, text) in &WRITTEN {
+        let Some(setting) = settings.get(*setting) else {
+            return Err("no setting")?;
+        };
+        let answer = read_answer(alloc, text.as_bytes(), setting)?;
+        let written = write_answer(alloc, setting, &answer)?;
+        assert!(rt; written.as_slice() == text.as_bytes(), "at {text}");
+    }
+    Ok(())
+}
+
+#[test]
+fn tells_where_a_file_ends_early(rt: HostRuntime) -> Result<(), Fail> {
+    let alloc = rt.alloc();
+    let settings = settings(alloc)?;
+    for (setting, text) in &WRITTEN {
+        let Some(setting) = settings.get(*setting) else {
+            return Err("no setting")?;
+        };
+        let bytes = text.as_bytes();
+        let mut records: u64 = 0;
+        for place in 0..bytes.len() {
+            let front = &bytes[..place];
+            if front.ends_with(b"\n") {
+                records = records.saturating_add(1);
+                let refusal = read_answer(alloc, front, setting).err();
+                assert!(rt;
+                    refusal == Some(AnswerRefusal::End(records)),
+                    "at {records} of {text}"
+                );
+            }
+        }
+    }
+    Ok(())
+}
+
+// A setting, an answer that is not written so, and the same as it is written.
+static REWRITTEN: [(usize, &str, &str); 3] = [
+    (
+        UNMET,
+        "answer,1,general,infeasible\r\nrow,0,1\r\nrow,1,0\r\nend\r\n",
+        "answer,1,general,infeasible\nrow,0,1\nend\n",
+    ),
+    (
+        CHOICE,
+        "answer,1,general,optimal\nvalue,0,1\ntable,2\nlottery,t,\"2\",0\nbound,2\nrow,0,0,0\nrow,1,0,-2\nend\n",
+        "answer,1,general,optimal\nvalue,0,1\ntable,2\nlottery,t,2,0\nbound,2\nrow,1,0,-2\nend\n",
+    ),
+    (
+        BUYER,
+        "answer,1,general,toowide\npivot,4294967295,0\nwide,0,4294967295,85070591730234615865843651857942052863,1\nend",
+        "answer,1,general,toowide\npivot,4294967295,0\nwide,0,4294967295,85070591730234615865843651857942052863,1\nend\n",
+    ),
+];
+
+#[test]
+fn writes_an_answer_in_one_way(rt: HostRuntime) -> Result<(), Fail> {
+    let alloc = rt.alloc();
+    let settings = settings(alloc)?;
+    for (setting, text, wanted) in &REWRITTEN {
+        let Some(setting) = settings.get(*setting) else {
+            return Err("no setting")?;
+        };
+        let answer = read_answer(alloc, text.as_bytes(), setting)?;
+        let written = write_answer(alloc, setting, &answer)?;
+        assert!(rt; written.as_slice() == wanted.as_bytes(), "at {text}");
+    }
+    Ok(())
+}
+
+// A setting, a text and the first reason to refuse it.
+static REFUSED: [(usize, &str, AnswerRefusal); 29] = [
+    (BUYER, "", AnswerRefusal::End(0)),
+    (
+        BUYER,
+        "answer,1,general,best\nend\n",
+        AnswerRefusal::Cell(1, 4),
+    ),
+    (BUYER, "answer,2,general,table\n", AnswerRefusal::Cell(1, 2)),
+    (
+        BUYER,
+        "answer,1,auction,optimal\n",
+        AnswerRefusal::Cell(1, 3),
+    ),
+    (BUYER, "answer,1,general\n", AnswerRefusal::Line(1)),
+    (BUYER, "table,1\n", AnswerRefusal::Line(1)),
+    (
+        BUYER,
+        "answer,1,general,optimal\nvalue,3,2\ntable,1\nlottery,low,1,0\nlottery,high,0,1\npay,low,0\npay,high,3\nbound,2\nrow,1,0,1\nrow,2,0,3\nrow,3,0,1\nrow,5,0,6\n",
+        AnswerRefusal::End(12),
+    ),
+    (
+        BUYER,
+        "answer,1,general,optimal\nvalue,3,2\ntable,1\nlottery,low,1,1\n",
+        AnswerRefusal::Sum(4),
+    ),
+    (
+        BUYER,
+        "answer,1,general,optimal\nvalue,3,2\ntable,1\nlottery,high,1,0\n",
+        AnswerRefusal::Cell(4, 2),
+    ),
+    (
+        BUYER,
+        "answer,1,general,optimal\nvalue,3,0\n",
+        AnswerRefusal::Cell(2, 3),
+    ),
+    (
+        BUYER,
+        "answer,1,general,optimal\nvalue,85070591730234615865843651857942052864,1\n",
+        AnswerRefusal::Cell(2, 2),
+    ),
+    (
+        BUYER,
+        "answer,1,general,optimal\ntable,1\n",
+        AnswerRefusal::Line(2),
+    ),
+    (
+        BUYER,
+        "answer,1,general,table\ntable,4611686018427387904\n",
+        AnswerRefusal::Cell(2, 2),
+    ),
+    (
+        BUYER,
+        "answer,1,general,table\ntable,1\nlottery,low,1,0\nlottery,high,1,0\npay,low,0\npay,high,0\n",
+        AnswerRefusal::End(6),
+    ),
+    (
+        VOTE,
+        "answer,1,general,table\ntable,1\nlottery,l,l,1,0\nlottery,l,r,1,0\nlottery,r,l,0,1\nlottery,r,r,0,1\npay,l,l,0,0\n",
+        AnswerRefusal::Line(7),
+    ),
+    (
+        UNMET,
+        "answer,1,general,infeasible\nrow,1,1\nrow,1,1\nend\n",
+        AnswerRefusal::Cell(3, 2),
+    ),
+    (
+        UNMET,
+        "answer,1,general,infeasible\nrow,1,1\nrow,0,1\nend\n",
+        AnswerRefusal::Cell(3, 2),
+    ),
+    (
+        UNMET,
+        "answer,1,general,infeasible\nrow,2,1\nend\n",
+        AnswerRefusal::Cell(2, 2),
+    ),
+    (
+        UNMET,
+        "answer,1,general,infeasible\nrow,-1,1\nend\n",
+        AnswerRefusal::Cell(2, 2),
+    ),
+    (
+        UNMET,
+        "answer,1,general,infeasible\nrow,0,4611686018427387904\nend\n",
+        AnswerRefusal::Cell(2, 3),
+    ),
+    (
+        UNMET,
+        "answer,1,general,infeasible\nrow,0,1,1\nend\n",
+        AnswerRefusal::Line(2),
+    ),
+    (
+        UNMET,
+        "answer,1,general,infeasible\nend\nrow,0,1\n",
+        AnswerRefusal::Line(3),
+    ),
+    (
+        UNBOUNDED,
+        "answer,1,general,unbounded\ntable,1\nlottery,t,1\npay,t,0\nend\n",
+        AnswerRefusal::Line(5),
+    ),
+    (
+        UNBOUNDED,
+        "answer,1,general,unbounded\ntable,1\nlottery,t,1\npay,t,0\nray,t,x\nend\n",
+        AnswerRefusal::Cell(5, 3),
+    ),
+    (
+        BUYER,
+        "answer,1,general,toowide\npivot,4294967296,0\n",
+        AnswerRefusal::Cell(2, 2),
+    ),
+    (
+        BUYER,
+        "answer,1,general,toowide\npivot,4,-1\n",
+        AnswerRefusal::Cell(2, 3),
+    ),
+    (
+        BUYER,
+        "answer,1,general,toowide\nend\n",
+        AnswerRefusal::Line(2),
+    ),
+    (
+        BUYER,
+        "answer,1,general,toowide\nwide,1,1,20,0\n",
+        AnswerRefusal::Cell(2, 5),
+    ),
+    (
+        BUYER,
+        "answer,1,general,toowide\nwide,1,1,20,1\npivot,1,1\nend\n",
+        AnswerRefusal::Line(3),
+    ),
+];
+
+#[test]
+fn tells_the_first_reason_to_refuse(rt: HostRuntime) -> Result<(), Fail> {
+    let alloc = rt.alloc();
+    let settings = settings(alloc)?;
+    for (setting, text, refusal) in &REFUSED {
+        let Some(setting) = settings.get(*setting) else {
+            return Err("no setting")?;
+        };
+        assert!(rt;
+            read_answer(alloc, text.as_bytes(), setting).err() == Some(*refusal),
+            "at {text}"
+        );
+    }
+    Ok(())
+}

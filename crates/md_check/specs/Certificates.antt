@@ -1,0 +1,63 @@
+-- What an answer's multipliers and rays say as a certificate of the setting's program, and how its faults are told.
+use Rattle.std.specs.Prelude.{ℤ, List}
+use Rattle.md_math.specs.Lists.{number_at}
+use Rattle.md_setting.specs.Setting.{GeneralSetting}
+use Rattle.md_mech.specs.declared.mechanism.Mechanism.{Mechanism}
+use Rattle.md_lp.specs.Program.{Program}
+use Rattle.md_lp.specs.Point.{Meets}
+use Rattle.md_cert.specs.declared.bound.Bound.{Bound}
+use Rattle.md_cert.specs.declared.certificate.Certificate.{Certificate}
+use Rattle.md_cert.specs.declared.certificate.Certificate.TheVariants as certificate
+use Rattle.md_cert.specs.declared.cert_fault.CertFault.{CertFault}
+use Rattle.md_cert.specs.declared.cert_fault.CertFault.TheVariants as fault
+use Rattle.md_cert.specs.Certified.{Certified}
+use Rattle.md_cert.specs.Fault.{IsFirstFault}
+use Rattle.md_rows.specs.Points.{point_of}
+use Rattle.md_rows.specs.ProgramOf.{IsProgramOf}
+use Rattle.md_claims.specs.Rays.{ray_of}
+use Rattle.md_check.specs.declared.verdict.Reject.{Reject}
+use Rattle.md_check.specs.declared.verdict.Reject.TheVariants.{Audit, Value, Pair, Column, FaceRight, MainRight, RayRow, RayGain}
+use Rattle.md_check.specs.declared.verdict.Verdict.{Verdict}
+use Rattle.md_check.specs.declared.verdict.Verdict.TheVariants.{Valid, Undecided, Rejected}
+
+-- the point of the mechanism with these multipliers
+abbrev pub optimal_certificate : GeneralSetting → Mechanism → Bound → Certificate
+optimal_certificate s m bound = certificate.Optimal m.den (point_of s m) bound
+
+-- the point of the mechanism with the ray of these payments
+abbrev pub unbounded_certificate : GeneralSetting → Mechanism → List ℤ → Certificate
+unbounded_certificate s m pays = certificate.Unbounded m.den (point_of s m) (ray_of s pays)
+
+-- the point of the certificate, if it has one, meets the program
+abbrev pub HasMetPoint : Program → Certificate → Type 0
+HasMetPoint p (certificate.Optimal den point bound) = Meets p den (number_at point)
+HasMetPoint p (certificate.Infeasible face) = Unit {0}
+HasMetPoint p (certificate.Unbounded den point ray) = Meets p den (number_at point)
+
+-- the fault is one of the multipliers or of the ray
+abbrev pub IsBehindPoint : CertFault → Type 0
+IsBehindPoint (fault.Point row left right) = ⊥
+IsBehindPoint _ = Unit {0}
+
+-- it tells the first condition of the certificate that fails, with its numbers
+abbrev pub TellsFault : Program → Certificate → Reject → Type 0
+TellsFault p c (Audit broken) = ⊥
+TellsFault p c (Value right) = ⊥
+TellsFault p c (Pair row face main) = IsFirstFault p c (fault.Pair row face main)
+TellsFault p c (Column column face main) = IsFirstFault p c (fault.Column column face main)
+TellsFault p c (FaceRight sum) = IsFirstFault p c (fault.FaceRight sum)
+TellsFault p c (MainRight bound cost) = IsFirstFault p c (fault.MainRight bound cost)
+TellsFault p c (RayRow row sum) = IsFirstFault p c (fault.RayRow row sum)
+TellsFault p c (RayGain sum) = IsFirstFault p c (fault.RayGain sum)
+
+-- valid where the certificate is certified, else rejected with the first condition that fails
+abbrev pub Judges : Program → Certificate → Verdict → Type 0
+Judges p c Valid = Certified p c
+Judges p c Undecided = ⊥
+Judges p c (Rejected reject) = TellsFault p c reject
+
+-- the setting's program judges so, whichever way it is written down
+pub record IsJudged (s : GeneralSetting) (c : Certificate) (verdict : Verdict) : Type 0 where
+  pub program : Program
+  pub is_program : IsProgramOf s program
+  pub judged : (p : Program) → IsProgramOf s p → Judges p c verdict

@@ -1,0 +1,164 @@
+//! Verdicts on answers. The answers and the numbers come from outside.
+use super::*;
+use md_answer::read_answer;
+use md_mech::Broken;
+use md_num::Frac;
+use md_setting::{Rational, RawAgent, RawSetting, Setting, Truth};
+use std::alloc::{AllocError, Global};
+use std::process::Abort;
+use std::test::Fail;
+
+fn names(alloc: Global, texts: &[&str]) -> Result<Vec<String>, AllocError> {
+    let mut names = Vec::new(alloc);
+    for text in texts {
+        names.push(String::from_str(alloc, text)?)?;
+    }
+    Ok(names)
+}
+
+// A seller, and a buyer whose value is 1 or 3.
+fn sale(alloc: Global) -> Result<RawSetting, AllocError> {
+    let buyer = RawAgent {
+        name: String::from_str(alloc, "buyer")?,
+        types: names(alloc, &["low", "high"])?,
+        weights: vec![in alloc; 1, 1]?,
+        outside: vec![in alloc; 0, 0]?,
+        utility: vec![in alloc; vec![in alloc; 0, 1]?, vec![in alloc; 0, 3]?]?,
+    };
+    Ok(RawSetting {
+        agents: vec![in alloc; buyer]?,
+        outcomes: names(alloc, &["keep", "sell"])?,
+        prior: None,
+        values: vec![in alloc; 0, 0]?,
+        welfare: 0,
+        revenue: 1,
+        truth: Truth::Dominant,
+        rational: Rational::ExPost,
+        payments: true,
+        no_deficit: false,
+    })
+}
+
+// One agent of one type, who has 1 outside, and one outcome.
+fn lone(alloc: Global, rational: Rational, payments: bool) -> Result<RawSetting, AllocError> {
+    let agent = RawAgent {
+        name: String::from_str(alloc, "a")?,
+        types: names(alloc, &["t"])?,
+        weights: vec![in alloc; 1]?,
+        outside: vec![in alloc; 1]?,
+        utility: vec![in alloc; vec![in alloc; 0]?]?,
+    };
+    Ok(RawSetting {
+        agents: vec![in alloc; agent]?,
+        outcomes: names(alloc, &["only"])?,
+        prior: None,
+        values: vec![in alloc; 0]?,
+        welfare: 0,
+        revenue: 1,
+        truth: Truth::Dominant,
+        rational,
+        payments,
+        no_deficit: false,
+    })
+}
+
+// An answer as its text, and the verdict that is wanted.
+struct Case {
+    text: &'static str,
+    verdict: Verdict,
+}
+
+fn judge(rt: &impl Abort, alloc: Global, raw: RawSetting, cases: &[Case]) -> Result<(), Fail> {
+    let Ok(setting) = Setting::new(alloc, raw) else {
+        return Err("no setting")?;
+    };
+    for case in cases {
+        let answer = read_answer(alloc, case.text.as_bytes(), &setting)?;
+        assert_eq!(rt; check(alloc, &setting, &answer)?, case.verdict);
+    }
+    Ok(())
+}
+
+const SALE: [Case; 8] = [
+    Case {
+        text: "answer,1,general,optimal\nvalue,6,4\ntable,1\nlottery,low,1,0\nlottery,high,0,1\npay,low,0\npay,high,3\nbound,2\nrow,1,0,1\nrow,2,0,3\nrow,3,0,1\nrow,5,0,6\nend\n",
+        verdict: Verdict::Valid,
+    },
+    Case {
+        text: "answer,1,general,optimal\nvalue,2,1\ntable,1\nlottery,low,1,0\nlottery,high,0,1\npay,low,0\npay,high,4\nbound,2\nrow,1,0,1\nrow,2,0,3\nrow,3,0,1\nrow,5,0,6\nend\n",
+        verdict: Verdict::Rejected(Reject::Audit {
+            broken: Broken {
+                row: 1,
+                left: -1,
+                right: 0,
+            },
+        }),
+    },
+    Case {
+        text: "answer,1,general,optimal\nvalue,2,1\ntable,1\nlottery,low,1,0\nlottery,high,0,1\npay,low,0\npay,high,3\nbound,2\nrow,1,0,-1\nend\n",
+        verdict: Verdict::Rejected(Reject::Value {
+            right: Frac { num: 3, den: 2 },
+        }),
+    },
+    Case {
+        text: "answer,1,general,optimal\nvalue,3,2\ntable,1\nlottery,low,1,0\nlottery,high,0,1\npay,low,0\npay,high,3\nbound,2\nrow,1,0,-1\nend\n",
+        verdict: Verdict::Rejected(Reject::Pair {
+            row: 1,
+            face: 0,
+            main: -1,
+        }),
+    },
+    Case {
+        text: "answer,1,general,optimal\nvalue,3,2\ntable,1\nlottery,low,1,0\nlottery,high,0,1\npay,low,0\npay,high,3\nbound,2\nrow,1,0,1\nrow,2,0,3\nrow,4,1,0\nrow,5,0,6\nend\n",
+        verdict: Verdict::Rejected(Reject::Column {
+            column: 5,
+            face: 0,
+            main: -1,
+        }),
+    },
+    Case {
+        text: "answer,1,general,optimal\nvalue,3,2\ntable,1\nlottery,low,1,0\nlottery,high,0,1\npay,low,0\npay,high,3\nbound,2\nrow,1,0,1\nrow,2,0,3\nrow,3,0,1\nrow,4,1,0\nrow,5,0,7\nend\n",
+        verdict: Verdict::Rejected(Reject::FaceRight { sum: 1 }),
+    },
+    Case {
+        text: "answer,1,general,optimal\nvalue,0,1\ntable,1\nlottery,low,1,0\nlottery,high,1,0\npay,low,0\npay,high,0\nbound,2\nrow,1,0,1\nrow,2,0,3\nrow,3,0,1\nrow,5,0,6\nend\n",
+        verdict: Verdict::Rejected(Reject::MainRight {
+            bound: Frac { num: 3, den: 1 },
+            cost: Frac { num: 0, den: 1 },
+        }),
+    },
+    Case {
+        text: "answer,1,general,toowide\npivot,4,0\nwide,1,1,20,1\nend\n",
+        verdict: Verdict::Undecided,
+    },
+];
+
+const LONE: [Case; 2] = [
+    Case {
+        text: "answer,1,general,infeasible\nrow,0,1\nend\n",
+        verdict: Verdict::Valid,
+    },
+    Case {
+        text: "answer,1,general,infeasible\nrow,1,1\nend\n",
+        verdict: Verdict::Rejected(Reject::FaceRight { sum: 1 }),
+    },
+];
+
+const PAID: [Case; 2] = [
+    Case {
+        text: "answer,1,general,unbounded\ntable,1\nlottery,t,1\npay,t,0\nray,t,1\nend\n",
+        verdict: Verdict::Valid,
+    },
+    Case {
+        text: "answer,1,general,unbounded\ntable,1\nlottery,t,1\npay,t,0\nray,t,-1\nend\n",
+        verdict: Verdict::Rejected(Reject::RayGain { sum: -1 }),
+    },
+];
+
+#[test]
+fn judges_answers(rt: HostRuntime) -> Result<(), Fail> {
+    let alloc = rt.alloc();
+    judge(&rt, alloc, sale(alloc)?, &SALE)?;
+    judge(&rt, alloc, lone(alloc, Rational::ExPost, false)?, &LONE)?;
+    judge(&rt, alloc, lone(alloc, Rational::None, true)?, &PAID)
+}

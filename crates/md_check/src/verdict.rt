@@ -1,0 +1,38 @@
+//! What a check finds.
+use md_mech::Broken;
+use md_num::Frac;
+
+/// The verdict on an answer.
+#[derive(Clone, Copy, Debug, PartialEq, Eq)]
+pub enum Verdict {
+    /// All conditions hold, so that what the answer claims is so.
+    Valid,
+    /// The answer claims nothing that could be checked: it is a table, or too wide.
+    Undecided,
+    /// The first condition that fails.
+    Rejected(Reject),
+}
+
+/// The first condition that an answer breaks, with its numbers. Rows and columns are those of the setting's program,
+/// numbered from 0; fractions are in least terms.
+#[derive(Clone, Copy, Debug, PartialEq, Eq)]
+pub enum Reject {
+    /// The mechanism breaks a condition of the setting.
+    Audit { broken: Broken },
+    /// The mechanism has another value than the answer says: this one.
+    Value { right: Frac },
+    /// The multipliers of this row are negative: the face multiplier, or it is 0 and the main multiplier is.
+    /// Where no mechanism is said to be, the main multiplier is 0.
+    Pair { row: u32, face: i128, main: i128 },
+    /// The sums of this column are negative: the face sum, or it is 0 and the main sum less the cost is.
+    /// Where no mechanism is said to be, the main sum is 0.
+    Column { column: u32, face: i128, main: i128 },
+    /// The face multipliers times the right sides: not 0, or not negative where no mechanism is said to be.
+    FaceRight { sum: i128 },
+    /// The bound is another number than the cost of the mechanism's point, both in units of the program's divided cost.
+    MainRight { bound: Frac, cost: Frac },
+    /// The ray breaks this row: the row's sum along it.
+    RayRow { row: u32, sum: i128 },
+    /// The ray gains nothing: its cost.
+    RayGain { sum: i128 },
+}

@@ -1,0 +1,2 @@
+pub mod RayLaws
+pub mod SettingClaims

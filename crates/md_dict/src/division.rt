@@ -1,0 +1,108 @@
+ghost use Rattle.std.specs.Prelude.{◌≡◌, ◌*◌, ◌^◌, ◌<◌, pos, neg_ℤ, ◌*ℤ◌, ◌<ℤ◌, IfSome, IsTrue, if◌then◌else◌, unsigned_abs};
+ghost use Rattle.md_math.specs.Divisors.{Divides, IsGcdOfTwo};
+
+use md_num::{exact_quotient, gcd};
+
+// A positive number by which many are divided, with its lowest 64 bits, how often 2 divides it, and what its odd part is to be multiplied by to give 1 in 64 bits. With these a quotient is guessed by one multiplication; a guess counts only where it is right.
+#[derive(Clone, Copy)]
+pub struct Divider {
+    pub value: i128,
+    low: u64,
+    shift: u32,
+    inverse: u64,
+}
+
+impl Divider {
+    pub fn new(value: i128) -> Divider
+        ensures { result.value ≡ value }
+    {
+        let low = lowest_bits(value.unsigned_abs());
+        let shift = low.trailing_zeros() % 64;
+        Divider {
+            value,
+            low,
+            shift,
+            inverse: inverse(low >> shift),
+        }
+    }
+
+    // The quotient of a size, where the guess is right.
+    fn guess(&self, size: u128) -> Option<u64>
+        ensures { IfSome result (λ q. unsigned_abs self.now.value * q ≡ size) }
+    {
+        let quotient = lowest_bits(size >> (self.shift % 64)).wrapping_mul(self.inverse);
+        let product = u128::from(self.low) * u128::from(quotient);
+        if product == size && u128::from(self.low) == self.value.unsigned_abs() {
+            Some(quotient)
+        } else {
+            None
+        }
+    }
+
+    // Whether it divides a number.
+    pub fn divides(&self, x: i128) -> bool
+        requires positive { pos 0 <ℤ self.now.value }
+        requires size { unsigned_abs self.now.value < 2 ^ 126 }
+        ensures { IsTrue result → Divides self.now.value x }
+    {
+        self.guess(x.unsigned_abs()).is_some()
+            || is_multiple(x.unsigned_abs(), self.value.unsigned_abs())
+    }
+
+    // The quotient of a number that it divides.
+    pub fn quotient(&self, x: i128) -> i128
+        requires positive { pos 0 <ℤ self.now.value }
+        requires exact { Divides self.now.value x }
+        ensures value { self.now.value *ℤ result ≡ x }
+    {
+        match self.guess(x.unsigned_abs()) {
+            Some(size) => with_sign(x < 0, size),
+            None => exact_quotient(x, self.value),
+        }
+    }
+
+    // The greatest common divisor with another number.
+    pub fn common(&self, x: i128) -> Divider
+        requires positive { pos 0 <ℤ self.now.value }
+        requires value_size { unsigned_abs self.now.value < 2 ^ 126 }
+        requires size { unsigned_abs x < 2 ^ 126 }
+        ensures divisor { IsGcdOfTwo self.now.value x result.value }
+        ensures size { unsigned_abs result.value < 2 ^ 126 }
+    {
+        if self.divides(x) {
+            *self
+        } else {
+            Divider::new(gcd(self.value, x))
+        }
+    }
+}
+
+// What an odd number is multiplied by to give 1 in 64 bits: each step doubles how many of the lowest bits are right, beginning with five.
+fn inverse(odd: u64) -> u64 {
+    let mut inverse = odd.wrapping_mul(3) ^ 2;
+    for _ in 0..4 {
+        inverse = inverse.wrapping_mul(2u64.wrapping_sub(odd.wrapping_mul(inverse)));
+    }
+    inverse
+}
+
+// The lowest 64 bits.
+fn lowest_bits(size: u128) -> u64 {
+    (size & u128::from(u64::MAX)) as u64
+}
+
+// The number of a size, or its negative.
+fn with_sign(is_negative: bool, size: u64) -> i128
+    ensures { result ≡ (if is_negative then neg_ℤ (pos size) else pos size) }
+{
+    let number = i128::from(size);
+    if is_negative { -number } else { number }
+}
+
+// Whether a size is a multiple of another.
+fn is_multiple(size: u128, divisor: u128) -> bool
+    requires { 0 < divisor }
+    ensures { IsTrue result → Divides (pos divisor) (pos size) }
+{
+    size % divisor == 0
+}

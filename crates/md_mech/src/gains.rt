@@ -1,0 +1,119 @@
+//! What a mechanism is worth to the designer.
+ghost use Rattle.std.specs.Prelude.{◌≡◌, ◌<◌, ◌^◌, pos, ◌<ℤ◌, ◌*ℤ◌};
+ghost use Rattle.md_math.specs.Divisors.{IsLeastTerms};
+ghost use Rattle.md_math.specs.Sizes.{IsWithin};
+ghost use Rattle.md_math.specs.Sums.{sum_to};
+ghost use Rattle.md_space.specs.Profiles.{profile_count, profile_at};
+ghost use Rattle.md_setting.specs.Meaning.{outcome_count, sizes_of, weight_of, total_of, value_of};
+ghost use Rattle.md_mech.specs.Accepted.{IsAccepted};
+ghost use Rattle.md_mech.specs.Mechanism.{chance_of};
+ghost use Rattle.md_mech.specs.Optimal.{objective_at, worth_of};
+
+use crate::Mechanism;
+use crate::utilities::{chance, payments};
+use md_num::{Frac, add_product, product};
+use md_setting::Setting;
+
+/// The designer's expected objective, in least terms: what the designer gets over all profiles by weight, over
+/// the denominator times the weight of all profiles.
+pub fn worth(setting: &Setting, mechanism: &Mechanism) -> Frac
+    requires { IsAccepted setting.now mechanism.now }
+    ensures value { result.num *ℤ (mechanism.now.den *ℤ total_of setting.now) ≡ worth_of setting.now mechanism.now *ℤ result.den }
+    ensures least { IsLeastTerms result.num result.den }
+{
+    Frac::reduced(
+        weighted_objective(setting, mechanism),
+        whole(setting, mechanism),
+    )
+}
+
+// The denominator times the weight of all profiles.
+fn whole(setting: &Setting, mechanism: &Mechanism) -> i128
+    requires { IsAccepted setting.now mechanism.now }
+    ensures value { result ≡ mechanism.now.den *ℤ total_of setting.now }
+    ensures positive { pos 0 <ℤ result }
+    ensures size { IsWithin (2 ^ 82) result }
+{
+    product(mechanism.den, total(setting))
+}
+
+fn total(setting: &Setting) -> i128
+    ensures value { result ≡ total_of setting.now }
+    ensures positive { pos 0 <ℤ result }
+    ensures size { IsWithin 1000000 result }
+{
+    i128::from(setting.total())
+}
+
+// What the designer gets over all profiles by weight.
+fn weighted_objective(setting: &Setting, mechanism: &Mechanism) -> i128
+    requires { IsAccepted setting.now mechanism.now }
+    ensures value { result ≡ worth_of setting.now mechanism.now }
+    ensures size { IsWithin (2 ^ 121) result }
+{
+    let mut sum = 0;
+    for rank in 0..setting.space().profiles() {
+        sum = add_product(
+            sum,
+            weight(setting, rank),
+            objective(setting, mechanism, rank),
+        );
+    }
+    sum
+}
+
+fn weight(setting: &Setting, rank: u32) -> i128
+    requires { rank < profile_count (sizes_of setting.now) }
+    ensures value { result ≡ weight_of setting.now (profile_at (sizes_of setting.now) rank) }
+    ensures size { IsWithin 1000000 result }
+{
+    i128::from(setting.weight(rank))
+}
+
+// What the designer gets at the profile of a rank.
+fn objective(setting: &Setting, mechanism: &Mechanism, rank: u32) -> i128
+    requires accepted { IsAccepted setting.now mechanism.now }
+    requires rank_in { rank < profile_count (sizes_of setting.now) }
+    ensures value { result ≡ objective_at setting.now mechanism.now (profile_at (sizes_of setting.now) rank) }
+    ensures size { IsWithin (2 ^ 91) result }
+{
+    add_product(
+        lottery_value(setting, mechanism, rank),
+        revenue(setting),
+        payments(setting, mechanism, rank),
+    )
+}
+
+fn revenue(setting: &Setting) -> i128
+    ensures value { result ≡ setting.now.revenue }
+    ensures size { IsWithin 1000 result }
+{
+    i128::from(setting.revenue())
+}
+
+// What the lottery at the profile of a rank is worth to the designer.
+fn lottery_value(setting: &Setting, mechanism: &Mechanism, rank: u32) -> i128
+    requires accepted { IsAccepted setting.now mechanism.now }
+    requires rank_in { rank < profile_count (sizes_of setting.now) }
+    ensures value { result ≡ sum_to (outcome_count setting.now) (λ o. chance_of setting.now mechanism.now (profile_at (sizes_of setting.now) rank) o *ℤ value_of setting.now (profile_at (sizes_of setting.now) rank) o) }
+    ensures size { IsWithin (2 ^ 90) result }
+{
+    let mut sum = 0;
+    for outcome in 0..setting.outcomes() {
+        sum = add_product(
+            sum,
+            chance(setting, mechanism, rank, outcome),
+            outcome_value(setting, rank, outcome),
+        );
+    }
+    sum
+}
+
+fn outcome_value(setting: &Setting, rank: u32, outcome: u32) -> i128
+    requires rank_in { rank < profile_count (sizes_of setting.now) }
+    requires outcome_in { outcome < outcome_count setting.now }
+    ensures value { result ≡ value_of setting.now (profile_at (sizes_of setting.now) rank) outcome }
+    ensures size { IsWithin 10000000 result }
+{
+    i128::from(setting.value(rank, outcome))
+}

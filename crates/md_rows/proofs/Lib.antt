@@ -1,0 +1,10 @@
+pub mod RowForms
+pub mod Bits
+pub mod TermLaws
+pub mod ShareLaws
+pub mod FormLaws
+pub mod BuiltLaws
+pub mod CountLaws
+pub mod PointLaws
+pub mod Law
+pub mod CostLaws

@@ -1,0 +1,30 @@
+use Rattle.std.proofs.Common.{◌≢◌, ◌<◌, [], ◌∷◌, ap, sym, ◌∙◌, arith, refl, length}
+use Rattle.std.proofs.lemmas.Bool.{ne_eqb}
+use Rattle.std.proofs.lemmas.List.{length-map}
+use Rattle.md_space.specs.Profiles.{profile_at}
+use Rattle.md_setting.specs.Meaning.{sizes_of}
+use Rattle.md_mech.specs.Rows.{bayes_row}
+use Rattle.md_rows.specs.Built.{Extends}
+use Rattle.md_rows.specs.Sides.{utility_in}
+use Rattle.md_rows.specs.Terms.{sum_at}
+use Rattle.md_rows.proofs.RowForms.{on_ok}
+use Rattle.md_rows.proofs.ShareLaws.{bayes-sum}
+use Rattle.md_rows.proofs.conditions.push_bayes_row.Goals as goal
+
+pub returns : goal.returns
+returns c =
+    let s = c.args.setting.now in
+    let apart : c.args.report ≢ c.args.kind = λ e. c.if-report-kind.false e in
+    let inside : c.args.agent < length (sizes_of s) = omega (arith, c.requires.agent_in, length-map s.agents (λ agent. length agent.types)) in
+    rw (ne_eqb c.args.report c.args.kind apart)
+    (on_ok c.push_row.result _ (Extends s (bayes_row c.args.agent c.args.kind c.args.report ∷ []) c.args.lp.now c.push_row.new.lp)
+    (λ f. f s (bayes_row c.args.agent c.args.kind c.args.report) c.requires.room.columns (record {
+      kind_is = refl;
+      left_is = λ x.
+          ap (sum_at x) c.deref-2.ensures.value
+          ∙ c.in_ok-terms.ensures.sum x
+          ∙ ap (sum_at (λ r. utility_in s x c.args.agent c.args.kind (profile_at (sizes_of s) r))) c.deref.ensures.value
+          ∙ c.in_ok-shares.ensures.sum (λ r. utility_in s x c.args.agent c.args.kind (profile_at (sizes_of s) r))
+          ∙ bayes-sum s c.args.agent c.args.kind c.args.report (λ t a. utility_in s x c.args.agent a t) inside c.requires.kind_in c.requires.report_in (λ e. apart (sym e));
+      right_is = refl;
+    })) c.push_row.ensures)

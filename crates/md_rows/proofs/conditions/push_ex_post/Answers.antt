@@ -1,0 +1,17 @@
+use Rattle.std.proofs.Common.{◌≡◌, arith}
+use Rattle.md_setting.specs.Meaning.{agent_count}
+use Rattle.md_mech.specs.Rows.{ex_post_rows}
+use Rattle.md_rows.proofs.BuiltLaws.{room-at, extends-more}
+use Rattle.md_rows.proofs.CountLaws.{agents_are}
+use Rattle.md_rows.proofs.conditions.push_ex_post.Goals as goal
+
+pub push_ex_post_agent-requires-clause-room : goal.push_ex_post_agent-requires-clause-room
+push_ex_post_agent-requires-clause-room c =
+    let s = c.args.setting.now in
+    let count : c.agents-agent-end.result ≡ agent_count s = agents_are s c.agents-agent-end.result _ c.agents-agent-end.ensures.count c.space.ensures.sizes in
+    room-at s (agent_count s) c.loop-agent.agent (ex_post_rows s) c.args.lp.now c.loop-agent.lp c.requires (omega (arith, count)) c.loop-agent.invariant
+
+pub loop-agent-preserved : goal.loop-agent-preserved
+loop-agent-preserved c =
+    let s = c.args.setting.now in
+    extends-more s c.loop-agent.agent (ex_post_rows s) c.args.lp.now c.loop-agent.lp c.push_ex_post_agent.new.lp c.loop-agent.invariant c.in_ok-push_ex_post_agent.ensures

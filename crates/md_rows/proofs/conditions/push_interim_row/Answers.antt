@@ -1,0 +1,26 @@
+use Rattle.std.proofs.Common.{[], ◌∷◌, ap, ◌∙◌, refl}
+use Rattle.md_space.specs.Profiles.{profile_at}
+use Rattle.md_setting.specs.Meaning.{sizes_of}
+use Rattle.md_mech.specs.Rows.{interim_row}
+use Rattle.md_rows.specs.Built.{Extends}
+use Rattle.md_rows.specs.Sides.{utility_in}
+use Rattle.md_rows.specs.Terms.{sum_at}
+use Rattle.md_rows.proofs.Bits.{read_result}
+use Rattle.md_rows.proofs.RowForms.{on_ok}
+use Rattle.md_rows.proofs.ShareLaws.{interim-sum}
+use Rattle.md_rows.proofs.conditions.push_interim_row.Goals as goal
+
+pub returns : goal.returns
+returns c =
+    let s = c.args.setting.now in
+    on_ok c.push_row.result _ (Extends s (interim_row c.args.agent c.args.kind ∷ []) c.args.lp.now c.push_row.new.lp)
+    (λ f. f s (interim_row c.args.agent c.args.kind) c.requires.room.columns (record {
+      kind_is = refl;
+      left_is = λ x.
+          ap (sum_at x) c.deref-2.ensures.value
+          ∙ c.in_ok-terms.ensures.sum x
+          ∙ ap (sum_at (λ r. utility_in s x c.args.agent c.args.kind (profile_at (sizes_of s) r))) c.deref.ensures.value
+          ∙ c.in_ok-shares.ensures.sum (λ r. utility_in s x c.args.agent c.args.kind (profile_at (sizes_of s) r))
+          ∙ interim-sum s c.args.agent c.args.kind (λ t a. utility_in s x c.args.agent a t);
+      right_is = read_result c.lacking.result c.lacking.type_inv ∙ c.lacking.ensures.value;
+    })) c.push_row.ensures

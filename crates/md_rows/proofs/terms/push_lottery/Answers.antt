@@ -1,0 +1,26 @@
+use Rattle.std.proofs.Common.{◌≡◌, ◌+◌, ◌*◌, ◌^◌, ◌*ℤ◌, ap, subst, arith, to_z, of_z, lit<}
+use mir.Syntax.{w128}
+use Rattle.md_rows.proofs.Bits.{read_result, read_within}
+use Rattle.md_setting.specs.Meaning.{outcome_count, type_utility}
+use Rattle.md_math.specs.Sums.{sum_to}
+use Rattle.md_rows.specs.Terms.{AddsTerms}
+use Rattle.md_rows.proofs.TermLaws.{adds-place}
+use Rattle.md_rows.proofs.terms.push_lottery.Goals as goal
+
+pub loop-outcome-preserved : goal.loop-outcome-preserved
+loop-outcome-preserved c =
+    let s = c.args.setting.now in
+    let small : to_z w128 (of_z w128 c.args.share.now.value) ≡ c.args.share.now.value = read_within 1000000 c.args.share.now.value c.requires.small (lit< tt) in
+    let value = rw small at c.scaled_utility-value.ensures.value in
+    let f = rw (read_result c.scaled_utility-value.result c.scaled_utility-value.type_inv, c.outcomes.ensures.count) at c.in_ok-push_term.ensures in
+    adds-place (2 ^ 44) (c.args.share.now.column * outcome_count s) (c.args.share.now.column * outcome_count s) c.loop-outcome.outcome
+    (λ x o. (c.args.share.now.value *ℤ type_utility s c.args.agent c.args.kind o) *ℤ x (c.args.share.now.column * outcome_count s + o)) c.scaled_utility-value.result
+    c.args.terms.now.items c.loop-outcome.terms.items c.push_term.new.terms.items c.loop-outcome.invariant (f (2 ^ 44) c.scaled_utility-value.ensures.size)
+    (λ x. ap (λ z. z *ℤ x (c.args.share.now.column * outcome_count s + c.loop-outcome.outcome)) value)
+
+pub returns : goal.returns
+returns c =
+    let s = c.args.setting.now in
+    let end : c.loop-outcome.outcome ≡ outcome_count s = omega (arith, c.outcomes-outcome-end.ensures.count) in
+    subst (λ n. AddsTerms (2 ^ 44) (c.args.share.now.column * outcome_count s) (c.args.share.now.column * outcome_count s + n)
+    (λ x. sum_to n (λ o. (c.args.share.now.value *ℤ type_utility s c.args.agent c.args.kind o) *ℤ x (c.args.share.now.column * outcome_count s + o))) c.args.terms.now.items c.loop-outcome.terms.items) end c.loop-outcome.invariant

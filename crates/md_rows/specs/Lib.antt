@@ -1,0 +1,10 @@
+pub mod Columns
+pub mod Sides
+pub mod ProgramOf
+pub mod Points
+pub mod Law
+pub mod Terms
+pub mod Shares
+pub mod Parts
+pub mod Costs
+pub mod Built

@@ -1,0 +1,41 @@
+-- Terms that are written down column by column. Weights of profiles are terms too, whose columns are ranks.
+use Rattle.std.specs.Prelude.{ℕ, ◌≡◌, ◌≤◌, ◌+◌, ◌*◌, ℤ, ◌+ℤ◌, ◌*ℤ◌, List, All}
+use Rattle.md_math.specs.Sizes.{IsWithin}
+use Rattle.md_math.specs.Sums.{sum_to, total_by}
+use Rattle.md_space.specs.Profiles.{profile_count, profile_at}
+use Rattle.md_setting.specs.Setting.{GeneralSetting}
+use Rattle.md_setting.specs.Meaning.{outcome_count, sizes_of, type_utility}
+use Rattle.md_lp.specs.declared.term.Term.{Term}
+use Rattle.md_lp.specs.Shape.{HasPlaces}
+use Rattle.md_rows.specs.Columns.{payment_in}
+
+-- the sum of the terms, each value times the number of its column
+abbrev pub sum_at : (ℕ → ℤ) → List Term → ℤ
+sum_at x terms = total_by (λ term. term.value *ℤ x term.column) terms
+
+-- the terms stand at ascending columns below `next`, with values of at most the limit in size
+pub record AreTermsBelow (limit next : ℕ) (terms : List Term) : Type 0 where
+  pub places : HasPlaces next terms
+  pub sizes : All (λ term. IsWithin limit term.value) terms
+
+-- terms at columns from `first` on and below `next` were added, which have this sum at each x
+pub record AddsTerms (limit first next : ℕ) (form : (ℕ → ℤ) → ℤ) (old new : List Term) : Type 0 where
+  pub below : (start : ℕ) → start ≤ first → AreTermsBelow limit start old → AreTermsBelow limit next new
+  pub sum : (x : ℕ → ℤ) → sum_at x new ≡ sum_at x old +ℤ form x
+
+-- what a type of an agent has of the lottery at the rank of a share, by the share's weight
+abbrev pub chances_at : GeneralSetting → ℕ → ℕ → (ℕ → ℤ) → Term → ℤ
+chances_at s i a x share =
+    sum_to (outcome_count s) (λ o. (share.value *ℤ type_utility s i a o) *ℤ x (share.column * outcome_count s + o))
+
+-- what an agent pays at the rank of a share, by the share's weight
+abbrev pub paid_at : GeneralSetting → ℕ → (ℕ → ℤ) → Term → ℤ
+paid_at s i x share = share.value *ℤ payment_in s x i (profile_at (sizes_of s) share.column)
+
+-- one part of it, where the parts by rank stand from the column `start` on
+abbrev pub part_at : ℕ → ℤ → (ℕ → ℤ) → Term → ℤ
+part_at start sign x share = (sign *ℤ share.value) *ℤ x (start + share.column)
+
+-- one part of what an agent pays at a rank, where the parts of all agents stand from the column `first` on
+abbrev pub part_of_all : GeneralSetting → ℕ → ℕ → ℤ → (ℕ → ℤ) → ℕ → ℤ
+part_of_all s first rank sign x i = sign *ℤ x (first + (i * profile_count (sizes_of s) + rank))

@@ -1,0 +1,346 @@
+ghost use Rattle.md_mech.specs.Accepted.{IsAccepted};
+ghost use Rattle.md_mech.specs.Admissible.{IsAdmissible};
+
+use super::*;
+use md_lp::{Lp, RowKind};
+use md_mech::{Mechanism, audit};
+use md_num::{NoMemory, Nums};
+use md_setting::{Rational, RawAgent, RawSetting, Setting, Truth};
+use std::alloc::{AllocError, Global};
+use std::process::Abort;
+use std::test::Fail;
+
+fn names(alloc: Global, words: &[&str]) -> Result<Vec<String>, AllocError> {
+    let mut list = Vec::new(alloc);
+    for word in words {
+        list.push(String::from_str(alloc, word)?)?;
+    }
+    Ok(list)
+}
+
+fn nums(alloc: Global, numbers: &[i128]) -> Result<Nums, NoMemory> {
+    let mut list = Nums::new(alloc);
+    for number in numbers {
+        list.push(*number)?;
+    }
+    Ok(list)
+}
+
+// An agent of one type, which has 1 outside.
+fn guest(alloc: Global, utility: &[i64]) -> Result<RawAgent, AllocError> {
+    Ok(RawAgent {
+        name: String::from_str(alloc, "a")?,
+        types: names(alloc, &["t"])?,
+        weights: vec![in alloc; 1]?,
+        outside: vec![in alloc; 1]?,
+        utility: vec![in alloc; Vec::from_slice(alloc, utility)?]?,
+    })
+}
+
+// A setting with one guest, who may stay outside.
+fn party(
+    alloc: Global,
+    utility: &[i64],
+    outcomes: &[&str],
+    values: &[i64],
+) -> Result<RawSetting, AllocError> {
+    Ok(RawSetting {
+        agents: vec![in alloc; guest(alloc, utility)?]?,
+        outcomes: names(alloc, outcomes)?,
+        prior: None,
+        values: Vec::from_slice(alloc, values)?,
+        welfare: 0,
+        revenue: 0,
+        truth: Truth::Dominant,
+        rational: Rational::ExPost,
+        payments: false,
+        no_deficit: false,
+    })
+}
+
+// One buyer of two types, who pays.
+fn sale(alloc: Global) -> Result<RawSetting, AllocError> {
+    let buyer = RawAgent {
+        name: String::from_str(alloc, "buyer")?,
+        types: names(alloc, &["low", "high"])?,
+        weights: vec![in alloc; 1, 2]?,
+        outside: vec![in alloc; 0, 0]?,
+        utility: vec![in alloc; vec![in alloc; 0, 1]?, vec![in alloc; 0, 3]?]?,
+    };
+    Ok(RawSetting {
+        agents: vec![in alloc; buyer]?,
+        outcomes: names(alloc, &["keep", "sell"])?,
+        prior: None,
+        values: vec![in alloc; 0, 0]?,
+        welfare: 0,
+        revenue: 1,
+        truth: Truth::Dominant,
+        rational: Rational::ExPost,
+        payments: true,
+        no_deficit: false,
+    })
+}
+
+// Two agents with a joint prior, of whom the first has two types; both pay, with no deficit.
+fn pair(alloc: Global) -> Result<RawSetting, AllocError> {
+    let first = RawAgent {
+        name: String::from_str(alloc, "one")?,
+        types: names(alloc, &["l", "h"])?,
+        weights: Vec::new(alloc),
+        outside: vec![in alloc; 0, 1]?,
+        utility: vec![in alloc; vec![in alloc; 1]?, vec![in alloc; 3]?]?,
+    };
+    let second = RawAgent {
+        name: String::from_str(alloc, "two")?,
+        types: names(alloc, &["z"])?,
+        weights: Vec::new(alloc),
+        outside: vec![in alloc; 1]?,
+        utility: vec![in alloc; vec![in alloc; 2]?]?,
+    };
+    Ok(RawSetting {
+        agents: vec![in alloc; first, second]?,
+        outcomes: names(alloc, &["o"])?,
+        prior: Some(vec![in alloc; 1, 2]?),
+        values: vec![in alloc; 0]?,
+        welfare: 1,
+        revenue: 1,
+        truth: Truth::Bayes,
+        rational: Rational::Interim,
+        payments: true,
+        no_deficit: true,
+    })
+}
+
+// A row that is wanted: its kind, its numbers by column, and its right side.
+struct Wanted {
+    kind: RowKind,
+    numbers: &'static [i128],
+    right: i128,
+}
+
+fn judge(
+    rt: &impl Abort,
+    alloc: Global,
+    raw: RawSetting,
+    factor: i128,
+    cost: &[i128],
+    rows: &[Wanted],
+) -> Result<(), Fail> {
+    let Ok(setting) = Setting::new(alloc, raw) else {
+        return Err("no setting")?;
+    };
+    let lp = rows_of(alloc, &setting)?;
+    assert_eq!(rt; lp.rows() as usize, rows.len());
+    assert_eq!(rt; lp.columns() as usize, cost.len());
+    assert_eq!(rt; lp.cost_factor(), factor);
+    for (column, number) in cost.iter().enumerate() {
+        assert_eq!(rt; cost_at(&lp, column as u32), Some(*number));
+    }
+    for (row, wanted) in rows.iter().enumerate() {
+        judge_row(rt, &lp, row as u32, wanted)?;
+    }
+    Ok(())
+}
+
+fn cost_at(lp: &Lp, column: u32) -> Option<i128> {
+    if column < lp.columns() {
+        Some(lp.cost(column))
+    } else {
+        None
+    }
+}
+
+fn judge_row(rt: &impl Abort, lp: &Lp, row: u32, wanted: &Wanted) -> Result<(), Fail> {
+    if row >= lp.rows() {
+        return Err("no row")?;
+    }
+    assert_eq!(rt; lp.kind(row), wanted.kind);
+    assert_eq!(rt; lp.right(row), wanted.right);
+    assert_eq!(rt; wanted.numbers.len(), lp.columns() as usize);
+    for (column, number) in wanted.numbers.iter().enumerate() {
+        assert_eq!(rt; coefficient_at(lp, row, column as u32), Some(*number));
+    }
+    Ok(())
+}
+
+fn coefficient_at(lp: &Lp, row: u32, column: u32) -> Option<i128> {
+    if row < lp.rows() && column < lp.columns() {
+        Some(lp.coefficient(row, column))
+    } else {
+        None
+    }
+}
+
+// At most the outside utility's negative, and the chances add to 1.
+static ALONE: [Wanted; 2] = [
+    Wanted {
+        kind: RowKind::AtMost,
+        numbers: &[0],
+        right: -1,
+    },
+    Wanted {
+        kind: RowKind::Exact,
+        numbers: &[1],
+        right: 1,
+    },
+];
+
+static CHOICE: [Wanted; 2] = [
+    Wanted {
+        kind: RowKind::AtMost,
+        numbers: &[-1, 0],
+        right: -1,
+    },
+    Wanted {
+        kind: RowKind::Exact,
+        numbers: &[1, 1],
+        right: 1,
+    },
+];
+
+// The columns: keep and sell at low, keep and sell at high, the plus parts at low and high, the minus parts.
+// The gain of high for low is x3 - x1 + pay(low) - pay(high), that of low for high 3*x1 - 3*x3 + pay(high) - pay(low).
+static SALE: [Wanted; 6] = [
+    Wanted {
+        kind: RowKind::AtMost,
+        numbers: &[0, -1, 0, 1, 1, -1, -1, 1],
+        right: 0,
+    },
+    Wanted {
+        kind: RowKind::AtMost,
+        numbers: &[0, 3, 0, -3, -1, 1, 1, -1],
+        right: 0,
+    },
+    Wanted {
+        kind: RowKind::AtMost,
+        numbers: &[0, -1, 0, 0, 1, 0, -1, 0],
+        right: 0,
+    },
+    Wanted {
+        kind: RowKind::AtMost,
+        numbers: &[0, 0, 0, -3, 0, 1, 0, -1],
+        right: 0,
+    },
+    Wanted {
+        kind: RowKind::Exact,
+        numbers: &[1, 1, 0, 0, 0, 0, 0, 0],
+        right: 1,
+    },
+    Wanted {
+        kind: RowKind::Exact,
+        numbers: &[0, 0, 1, 1, 0, 0, 0, 0],
+        right: 1,
+    },
+];
+
+// The columns: the chances at l and h, the plus parts of one at l and h and of two at l and h, the minus parts.
+// The profile l weighs 1, and h weighs 2. The second row, 2*(3*x0 - 3*x1 + pay(h) - pay(l)) <= 0, is divided by 2,
+// and so is the fourth, 2*(pay(h) - 3*x1) <= -2.
+static PAIR: [Wanted; 9] = [
+    Wanted {
+        kind: RowKind::AtMost,
+        numbers: &[-1, 1, 1, -1, 0, 0, -1, 1, 0, 0],
+        right: 0,
+    },
+    Wanted {
+        kind: RowKind::AtMost,
+        numbers: &[3, -3, -1, 1, 0, 0, 1, -1, 0, 0],
+        right: 0,
+    },
+    Wanted {
+        kind: RowKind::AtMost,
+        numbers: &[-1, 0, 1, 0, 0, 0, -1, 0, 0, 0],
+        right: 0,
+    },
+    Wanted {
+        kind: RowKind::AtMost,
+        numbers: &[0, -3, 0, 1, 0, 0, 0, -1, 0, 0],
+        right: -1,
+    },
+    Wanted {
+        kind: RowKind::AtMost,
+        numbers: &[-2, -4, 0, 0, 1, 2, 0, 0, -1, -2],
+        right: -3,
+    },
+    Wanted {
+        kind: RowKind::AtMost,
+        numbers: &[0, 0, -1, 0, -1, 0, 1, 0, 1, 0],
+        right: 0,
+    },
+    Wanted {
+        kind: RowKind::AtMost,
+        numbers: &[0, 0, 0, -1, 0, -1, 0, 1, 0, 1],
+        right: 0,
+    },
+    Wanted {
+        kind: RowKind::Exact,
+        numbers: &[1, 0, 0, 0, 0, 0, 0, 0, 0, 0],
+        right: 1,
+    },
+    Wanted {
+        kind: RowKind::Exact,
+        numbers: &[0, 1, 0, 0, 0, 0, 0, 0, 0, 0],
+        right: 1,
+    },
+];
+
+#[test]
+fn writes_the_rows_of_settings(rt: HostRuntime) -> Result<(), Fail> {
+    let alloc = rt.alloc();
+    let alone = party(alloc, &[0], &["only"], &[0])?;
+    judge(&rt, alloc, alone, 1, &[0], &ALONE)?;
+    let choice = party(alloc, &[1, 0], &["x", "y"], &[0, 5])?;
+    judge(&rt, alloc, choice, 5, &[0, 1], &CHOICE)?;
+    judge(
+        &rt,
+        alloc,
+        sale(alloc)?,
+        1,
+        &[0, 0, 0, 0, 1, 2, -1, -2],
+        &SALE,
+    )?;
+    judge(
+        &rt,
+        alloc,
+        pair(alloc)?,
+        1,
+        &[3, 10, 1, 2, 1, 2, -1, -2, -1, -2],
+        &PAIR,
+    )
+}
+
+// The mechanism of the point of a mechanism that is admissible.
+fn there_and_back(
+    alloc: Global,
+    setting: &Setting,
+    mechanism: &Mechanism,
+) -> Result<(Nums, Mechanism), NoMemory>
+    requires accepted { IsAccepted setting.now mechanism.now }
+    requires admissible { IsAdmissible setting.now mechanism.now }
+{
+    let _lp = rows_of(alloc, setting)?;
+    let point = point_of(alloc, setting, mechanism)?;
+    let back = mechanism_of(alloc, setting, mechanism.den, &point)?;
+    Ok((point, back))
+}
+
+#[test]
+fn a_mechanism_comes_back_from_its_point(rt: HostRuntime) -> Result<(), Fail> {
+    let alloc = rt.alloc();
+    let Ok(setting) = Setting::new(alloc, sale(alloc)?) else {
+        return Err("no setting")?;
+    };
+    let chances = nums(alloc, &[2, 0, 1, 1])?;
+    let Ok(mechanism) = Mechanism::new(&setting, 2, chances, nums(alloc, &[-1, 1])?) else {
+        return Err("no mechanism")?;
+    };
+    if audit(&setting, &mechanism).is_some() {
+        return Err("not admissible")?;
+    }
+    let (point, back) = there_and_back(alloc, &setting, &mechanism)?;
+    assert_eq!(rt; point.as_slice(), [2, 0, 1, 1, 0, 1, 1, 0].as_slice());
+    assert_eq!(rt; back.den, 2);
+    assert_eq!(rt; back.chances.as_slice(), [2, 0, 1, 1].as_slice());
+    assert_eq!(rt; back.pays.as_slice(), [-1, 1].as_slice());
+    Ok(())
+}

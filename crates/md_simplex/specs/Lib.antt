@@ -1,0 +1,9 @@
+pub mod Rules
+pub mod Best
+pub mod Columns
+pub mod Path
+pub mod Reading
+pub mod ReadingSteps
+pub mod Runs
+pub mod Signs
+pub mod Walk

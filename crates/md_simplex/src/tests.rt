@@ -1,0 +1,453 @@
+use super::*;
+use crate::order::Order;
+use crate::walk::walk;
+use md_cert::{Certificate, check_lp};
+use md_dict::Dict;
+use md_lp::{Entry, Lp, LpRefusal, Path, Pivot, RowKind, Term};
+use md_num::{NoMemory, Nums, Width};
+use std::alloc::Global;
+use std::process::Abort;
+use std::test::Fail;
+
+// ---- programs from tables of numbers
+
+// A row by its coefficients, of which a program takes those at its columns.
+#[derive(Clone, Copy)]
+struct Line {
+    kind: RowKind,
+    coefficients: [i128; 8],
+    right: i128,
+}
+
+fn nums(alloc: Global, numbers: &[i128]) -> Result<Nums, NoMemory> {
+    let mut list = Nums::new(alloc);
+    for number in numbers {
+        list.push(*number)?;
+    }
+    Ok(list)
+}
+
+fn terms_of(alloc: Global, coefficients: &[i128; 8]) -> Result<Vec<Term>, NoMemory> {
+    let mut terms = Vec::new(alloc);
+    let mut column = 0;
+    for value in coefficients {
+        if *value != 0 {
+            terms.push(Term {
+                column,
+                value: *value,
+            })?;
+        }
+        column = column.wrapping_add(1);
+    }
+    Ok(terms)
+}
+
+fn program(alloc: Global, cost: &[i128], lines: &[Line]) -> Result<Lp, LpRefusal> {
+    let list = nums(alloc, cost)?;
+    let columns = list.len().min(8);
+    if list.len() != columns {
+        return Err(LpRefusal::Index);
+    }
+    let mut lp = Lp::new(alloc, columns as u32, list)?;
+    for line in lines {
+        let terms = terms_of(alloc, &line.coefficients)?;
+        lp.push_row(line.kind, &terms, line.right)?;
+    }
+    Ok(lp)
+}
+
+fn at_most(coefficients: [i128; 8]) -> Line {
+    Line {
+        kind: RowKind::AtMost,
+        coefficients,
+        right: 0,
+    }
+}
+
+fn exactly_one(coefficients: [i128; 8]) -> Line {
+    Line {
+        kind: RowKind::Exact,
+        coefficients,
+        right: 1,
+    }
+}
+
+// Who buys an item for 1 or for `high`: chances to keep and to sell, payments and their negatives.
+fn buyer(alloc: Global, high: i64) -> Result<Lp, LpRefusal> {
+    let high = i128::from(high);
+    let lines = [
+        at_most([0, -1, 0, 1, 1, -1, -1, 1]),
+        at_most([0, high, 0, -high, -1, 1, 1, -1]),
+        at_most([0, -1, 0, 0, 1, 0, -1, 0]),
+        at_most([0, 0, 0, -high, 0, 1, 0, -1]),
+        exactly_one([1, 1, 0, 0, 0, 0, 0, 0]),
+        exactly_one([0, 0, 1, 1, 0, 0, 0, 0]),
+    ];
+    program(alloc, &[0, 0, 0, 0, 1, 1, -1, -1], &lines)
+}
+
+// Two voters with two types each: chances of two outcomes at four profiles.
+fn voters(alloc: Global) -> Result<Lp, LpRefusal> {
+    let lines = [
+        at_most([-1, 0, 0, 0, 1, 0, 0, 0]),
+        at_most([0, 0, -1, 0, 0, 0, 1, 0]),
+        at_most([0, 1, 0, 0, 0, -1, 0, 0]),
+        at_most([0, 0, 0, 1, 0, 0, 0, -1]),
+        at_most([-1, 0, 1, 0, 0, 0, 0, 0]),
+        at_most([0, 1, 0, -1, 0, 0, 0, 0]),
+        at_most([0, 0, 0, 0, -1, 0, 1, 0]),
+        at_most([0, 0, 0, 0, 0, 1, 0, -1]),
+        exactly_one([1, 1, 0, 0, 0, 0, 0, 0]),
+        exactly_one([0, 0, 1, 1, 0, 0, 0, 0]),
+        exactly_one([0, 0, 0, 0, 1, 1, 0, 0]),
+        exactly_one([0, 0, 0, 0, 0, 0, 1, 1]),
+    ];
+    program(alloc, &[2, 0, 1, 1, 1, 1, 0, 2], &lines)
+}
+
+// One outcome, which is worth 0 and should be worth 1.
+fn outside(alloc: Global) -> Result<Lp, LpRefusal> {
+    let too_much = Line {
+        kind: RowKind::AtMost,
+        coefficients: [0, 0, 0, 0, 0, 0, 0, 0],
+        right: -1,
+    };
+    let lines = [too_much, exactly_one([1, 0, 0, 0, 0, 0, 0, 0])];
+    program(alloc, &[0], &lines)
+}
+
+// One outcome, and a payment that is welcome.
+fn payer(alloc: Global) -> Result<Lp, LpRefusal> {
+    let lines = [exactly_one([1, 0, 0, 0, 0, 0, 0, 0])];
+    program(alloc, &[0, 1, -1], &lines)
+}
+
+// One outcome, and a payment that is not welcome and not negative.
+fn no_deficit(alloc: Global) -> Result<Lp, LpRefusal> {
+    let lines = [
+        at_most([0, -1, 1, 0, 0, 0, 0, 0]),
+        exactly_one([1, 0, 0, 0, 0, 0, 0, 0]),
+    ];
+    program(alloc, &[0, -1, 1], &lines)
+}
+
+// Two outcomes, of which only the first is worth enough, and the second is wanted.
+fn held(alloc: Global) -> Result<Lp, LpRefusal> {
+    let enough = Line {
+        kind: RowKind::AtMost,
+        coefficients: [-1, 0, 0, 0, 0, 0, 0, 0],
+        right: -1,
+    };
+    let lines = [enough, exactly_one([1, 1, 0, 0, 0, 0, 0, 0])];
+    program(alloc, &[0, 1], &lines)
+}
+
+// ---- what a run is to answer
+
+#[derive(Clone, Copy)]
+enum Problem {
+    Buyer(i64),
+    Voters,
+    Outside,
+    Payer,
+    NoDeficit,
+    Held,
+}
+
+#[derive(Clone, Copy, PartialEq, Eq)]
+enum Told {
+    Optimal,
+    Infeasible,
+    Unbounded,
+    TooWide,
+}
+
+// The pivots are those of the path, or of its part before the first wide basis; where `pivots` is empty they are not compared.
+// Of the other numbers a program takes those at its columns and rows.
+struct Case {
+    problem: Problem,
+    bits: u8,
+    told: Told,
+    pivots: &'static [(u32, u32)],
+    point: [i128; 8],
+    ray: [i128; 8],
+    over: i128,
+    main: [i128; 12],
+    face: [i128; 12],
+    entry: Entry,
+}
+
+const ZEROS: [i128; 12] = [0; 12];
+
+const NO_ENTRY: Entry = Entry {
+    row: 0,
+    column: 0,
+    num: 0,
+    den: 1,
+};
+
+static CASES: [Case; 9] = [
+    Case {
+        problem: Problem::Buyer(3),
+        bits: 62,
+        told: Told::Optimal,
+        pivots: &[(4, 0), (1, 1), (5, 2), (2, 4), (0, 8), (3, 5), (5, 3)],
+        point: [1, 0, 0, 1, 0, 3, 0, 0],
+        ray: [0; 8],
+        over: 2,
+        main: [0, 1, 3, 1, 0, 6, 0, 0, 0, 0, 0, 0],
+        face: ZEROS,
+        entry: NO_ENTRY,
+    },
+    Case {
+        problem: Problem::Buyer(4),
+        bits: 4,
+        told: Told::TooWide,
+        pivots: &[(4, 0), (1, 1)],
+        point: [0; 8],
+        ray: [0; 8],
+        over: 1,
+        main: ZEROS,
+        face: ZEROS,
+        entry: Entry {
+            row: 3,
+            column: 3,
+            num: -16,
+            den: 4,
+        },
+    },
+    Case {
+        problem: Problem::Buyer(5),
+        bits: 4,
+        told: Told::TooWide,
+        pivots: &[(4, 0), (1, 1)],
+        point: [0; 8],
+        ray: [0; 8],
+        over: 1,
+        main: ZEROS,
+        face: ZEROS,
+        entry: Entry {
+            row: 3,
+            column: 3,
+            num: -25,
+            den: 5,
+        },
+    },
+    Case {
+        problem: Problem::Buyer(20),
+        bits: 4,
+        told: Told::TooWide,
+        pivots: &[],
+        point: [0; 8],
+        ray: [0; 8],
+        over: 1,
+        main: ZEROS,
+        face: ZEROS,
+        entry: Entry {
+            row: 1,
+            column: 1,
+            num: 20,
+            den: 1,
+        },
+    },
+    Case {
+        problem: Problem::Voters,
+        bits: 62,
+        told: Told::Optimal,
+        pivots: &[],
+        point: [1, 0, 1, 0, 0, 1, 0, 1],
+        ray: [0; 8],
+        over: 1,
+        main: [0, 0, 0, 0, 0, 0, 0, 0, 2, 1, 1, 2],
+        face: ZEROS,
+        entry: NO_ENTRY,
+    },
+    Case {
+        problem: Problem::Outside,
+        bits: 62,
+        told: Told::Infeasible,
+        pivots: &[(1, 0)],
+        point: [0; 8],
+        ray: [0; 8],
+        over: 1,
+        main: ZEROS,
+        face: [1, 0, 0, 0, 0, 0, 0, 0, 0, 0, 0, 0],
+        entry: NO_ENTRY,
+    },
+    Case {
+        problem: Problem::Payer,
+        bits: 62,
+        told: Told::Unbounded,
+        pivots: &[(0, 0)],
+        point: [1, 0, 0, 0, 0, 0, 0, 0],
+        ray: [0, 1, 0, 0, 0, 0, 0, 0],
+        over: 1,
+        main: ZEROS,
+        face: ZEROS,
+        entry: NO_ENTRY,
+    },
+    Case {
+        problem: Problem::NoDeficit,
+        bits: 62,
+        told: Told::Optimal,
+        pivots: &[(1, 0), (0, 2)],
+        point: [1, 0, 0, 0, 0, 0, 0, 0],
+        ray: [0; 8],
+        over: 1,
+        main: [1, 0, 0, 0, 0, 0, 0, 0, 0, 0, 0, 0],
+        face: ZEROS,
+        entry: NO_ENTRY,
+    },
+    Case {
+        problem: Problem::Held,
+        bits: 62,
+        told: Told::Optimal,
+        pivots: &[(1, 0)],
+        point: [1, 0, 0, 0, 0, 0, 0, 0],
+        ray: [0; 8],
+        over: 1,
+        main: ZEROS,
+        face: [1, 1, 0, 0, 0, 0, 0, 0, 0, 0, 0, 0],
+        entry: NO_ENTRY,
+    },
+];
+
+fn program_of(alloc: Global, problem: Problem) -> Result<Lp, LpRefusal> {
+    match problem {
+        Problem::Buyer(high) => buyer(alloc, high),
+        Problem::Voters => voters(alloc),
+        Problem::Outside => outside(alloc),
+        Problem::Payer => payer(alloc),
+        Problem::NoDeficit => no_deficit(alloc),
+        Problem::Held => held(alloc),
+    }
+}
+
+// ---- what it answers
+
+// Whether a list has the first numbers of a row of a table.
+fn begins(numbers: &[i128], list: &Nums) -> bool {
+    list.len() <= numbers.len() && list.as_slice() == &numbers[..list.len().min(numbers.len())]
+}
+
+fn has_pivots(pivots: &[(u32, u32)], path: &Path) -> bool {
+    let mut same = path.len() == pivots.len();
+    for ((row, column), pivot) in pivots.iter().zip(path.as_slice()) {
+        same = same && *row == pivot.row && *column == pivot.column;
+    }
+    same
+}
+
+fn is_certificate(case: &Case, certificate: &Certificate) -> bool {
+    match certificate {
+        Certificate::Optimal { den, point, bound } => {
+            case.told == Told::Optimal
+                && *den == 1
+                && bound.den == case.over
+                && begins(&case.point, point)
+                && begins(&case.main, &bound.main)
+                && begins(&case.face, &bound.face)
+        }
+        Certificate::Infeasible { face } => {
+            case.told == Told::Infeasible && begins(&case.face, face)
+        }
+        Certificate::Unbounded { den, point, ray } => {
+            case.told == Told::Unbounded
+                && *den == 1
+                && begins(&case.point, point)
+                && begins(&case.ray, ray)
+        }
+    }
+}
+
+fn judge(rt: &impl Abort, alloc: Global, case: &Case) -> Result<(), Fail> {
+    let lp = program_of(alloc, case.problem)?;
+    let width = Width::new(case.bits).ok_or("no width")?;
+    match run(alloc, &lp, width) {
+        Ok(end) => {
+            assert!(rt; case.pivots.is_empty() || has_pivots(case.pivots, &end.path));
+            assert!(rt; is_certificate(case, &end.certificate));
+            assert_eq!(rt; check_lp(&lp, &end.certificate), None);
+        }
+        Err(SimplexError::TooWide { path, entry }) => {
+            assert!(rt; case.told == Told::TooWide);
+            assert!(rt; has_pivots(case.pivots, &path));
+            assert_eq!(rt; entry, case.entry);
+        }
+        Err(SimplexError::Memory) => return Err("memory ran out".into()),
+    }
+    Ok(())
+}
+
+#[test]
+fn answers_what_the_path_shows(rt: HostRuntime) -> Result<(), Fail> {
+    for case in &CASES {
+        judge(&rt, rt.alloc(), case)?;
+    }
+    Ok(())
+}
+
+// ---- the rules, one pivot after another
+
+fn pivot_at(dict: &mut Dict, pivot: Pivot) -> bool {
+    pivot.row < dict.rows()
+        && pivot.column < dict.columns()
+        && dict.entry(pivot.row, pivot.column) > 0
+        && dict.pivot(pivot.row, pivot.column).is_ok()
+}
+
+#[test]
+fn names_each_pivot(rt: HostRuntime) -> Result<(), Fail> {
+    let lp = buyer(rt.alloc(), 3)?;
+    let width = Width::new(62).ok_or("no width")?;
+    let mut dict = Dict::start(rt.alloc(), &lp, width)?;
+    for (row, column) in [(4, 0), (1, 1), (5, 2), (2, 4), (0, 8), (3, 5), (5, 3)] {
+        let pivot = Pivot { row, column };
+        assert_eq!(rt; next(&dict), Step::Pivot(pivot));
+        assert!(rt; pivot_at(&mut dict, pivot));
+    }
+    assert_eq!(rt; next(&dict), Step::Optimal);
+    Ok(())
+}
+
+// ---- the greatest column first
+
+const BACKWARD: [(u32, u32); 11] = [
+    (3, 11),
+    (2, 10),
+    (1, 9),
+    (0, 8),
+    (0, 3),
+    (5, 6),
+    (5, 1),
+    (4, 8),
+    (1, 5),
+    (2, 4),
+    (3, 0),
+];
+
+#[test]
+fn walks_backward(rt: HostRuntime) -> Result<(), Fail> {
+    let width = Width::new(4).ok_or("no width")?;
+    let lp = buyer(rt.alloc(), 5)?;
+    let Err(SimplexError::TooWide { path, entry }) = walk(rt.alloc(), &lp, width, Order::Backward)
+    else {
+        return Err("the walk came to an end".into());
+    };
+    assert!(rt; has_pivots(&BACKWARD, &path));
+    let wide = Entry {
+        row: 1,
+        column: 2,
+        num: 20,
+        den: 4,
+    };
+    assert_eq!(rt; entry, wide);
+    let lp = buyer(rt.alloc(), 4)?;
+    let Ok(walked) = walk(rt.alloc(), &lp, width, Order::Backward) else {
+        return Err("the walk did not come to an end".into());
+    };
+    assert!(rt; has_pivots(&BACKWARD, &walked.path));
+    assert_eq!(rt; walked.step, Step::Optimal);
+    assert_eq!(rt; walked.dict.greatest(), 12);
+    Ok(())
+}

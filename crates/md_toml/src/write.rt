@@ -1,0 +1,180 @@
+//! The document that a setting is printed as.
+ghost use Rattle.std.specs.Prelude.{◌≡◌, IfOk, OnOk, map, option_map, ℤ, pos, string_bytes};
+ghost use Rattle.toml.specs.Data.{no_members, table};
+ghost use Rattle.toml.specs.View.{view, table_view};
+ghost use Rattle.md_setting.specs.Setting.{written_agent, written, names_of, rows_of};
+ghost use Rattle.md_toml.specs.Writing.{put, header_with, with_demands, objective_table, with_weights, agent_table, agents_data, with_prior, general_table, auction_table, file_table, IsAccepted, numbers_data, texts_data, rows_data, truth_word, rational_word};
+
+use crate::Key;
+use crate::print::{put, put_integer, put_numbers, put_text, put_texts, rows_value, sizes_value};
+use md_num::NoMemory;
+use md_setting::{Auction, Rational, RawAgent, RawSetting, Setting, SettingFile, Truth};
+use std::alloc::Global;
+use toml::{Table, Value};
+
+fn truth_word(truth: Truth) -> &'static str
+    ensures { result.now ≡ truth_word truth }
+{
+    match truth {
+        Truth::Dominant => "dominant",
+        Truth::Bayes => "bayes",
+    }
+}
+
+fn rational_word(rational: Rational) -> &'static str
+    ensures { result.now ≡ rational_word rational }
+{
+    match rational {
+        Rational::None => "none",
+        Rational::ExPost => "ex-post",
+        Rational::Interim => "interim",
+    }
+}
+
+// The first keys, with the word for the kind.
+fn header_table(alloc: Global, kind: &str) -> Result<Table, NoMemory>
+    ensures { IfOk result (λ members. table_view members ≡ header_with kind.now) }
+{
+    let mut members = Table::new(alloc);
+    put_text(alloc, &mut members, Key::Format, "mechanism-setting")?;
+    put_integer(alloc, &mut members, Key::Version, 1)?;
+    put_text(alloc, &mut members, Key::Kind, kind)?;
+    Ok(members)
+}
+
+fn put_demands(alloc: Global, members: &mut Table, raw: &RawSetting) -> Result<(), NoMemory>
+    ensures { OnOk result (table_view members.new ≡ with_demands raw.now.truth raw.now.rational raw.now.payments raw.now.no_deficit (table_view members.old)) }
+{
+    put_text(alloc, members, Key::Truth, truth_word(raw.truth))?;
+    put_text(alloc, members, Key::Rational, rational_word(raw.rational))?;
+    put(alloc, members, Key::Payments, Value::Boolean(raw.payments))?;
+    put(
+        alloc,
+        members,
+        Key::NoDeficit,
+        Value::Boolean(raw.no_deficit),
+    )?;
+    Ok(())
+}
+
+fn objective_table(alloc: Global, raw: &RawSetting) -> Result<Table, NoMemory>
+    ensures { IfOk result (λ members. table_view members ≡ objective_table raw.now.welfare raw.now.revenue raw.now.values.items) }
+{
+    let mut members = Table::new(alloc);
+    put_integer(alloc, &mut members, Key::ObjectiveWelfare, raw.welfare)?;
+    put_integer(alloc, &mut members, Key::ObjectiveRevenue, raw.revenue)?;
+    put_numbers(alloc, &mut members, Key::ObjectiveValue, &raw.values)?;
+    Ok(members)
+}
+
+// Weights stand where there is no joint prior.
+fn put_weights(
+    alloc: Global,
+    members: &mut Table,
+    prior: &Option<Vec<i64>>,
+    weights: &[i64],
+) -> Result<(), NoMemory>
+    ensures { OnOk result (table_view members.new ≡ with_weights (option_map (λ weights. weights.items) prior.now) weights.now (table_view members.old)) }
+{
+    match prior {
+        Some(_) => Ok(()),
+        None => put_numbers(alloc, members, Key::AgentWeights, weights),
+    }
+}
+
+fn agent_table(alloc: Global, prior: &Option<Vec<i64>>, agent: &RawAgent) -> Result<Table, NoMemory>
+    ensures { IfOk result (λ members. table_view members ≡ agent_table (option_map (λ weights. weights.items) prior.now) (written_agent agent.now)) }
+{
+    let mut members = Table::new(alloc);
+    put_text(alloc, &mut members, Key::AgentName, agent.name.as_str())?;
+    put_texts(alloc, &mut members, Key::AgentTypes, &agent.types)?;
+    put_weights(alloc, &mut members, prior, &agent.weights)?;
+    put_numbers(alloc, &mut members, Key::AgentOutside, &agent.outside)?;
+    put(
+        alloc,
+        &mut members,
+        Key::AgentUtility,
+        rows_value(alloc, &agent.utility)?,
+    )?;
+    Ok(members)
+}
+
+fn agents_value(
+    alloc: Global,
+    prior: &Option<Vec<i64>>,
+    agents: &[RawAgent],
+) -> Result<Value, NoMemory>
+    ensures { IfOk result (λ value. view value ≡ agents_data (option_map (λ weights. weights.items) prior.now) (map written_agent agents.now)) }
+{
+    let mut tables = Vec::new(alloc);
+    for agent in agents {
+        tables.push(Value::Table(agent_table(alloc, prior, agent)?))?;
+    }
+    Ok(Value::Array(tables))
+}
+
+fn put_prior(alloc: Global, members: &mut Table, prior: &Option<Vec<i64>>) -> Result<(), NoMemory>
+    ensures { OnOk result (table_view members.new ≡ with_prior (option_map (λ weights. weights.items) prior.now) (table_view members.old)) }
+{
+    match prior {
+        Some(weights) => put_numbers(alloc, members, Key::Prior, weights),
+        None => Ok(()),
+    }
+}
+
+fn general_table(alloc: Global, raw: &RawSetting) -> Result<Table, NoMemory>
+    ensures { IfOk result (λ members. table_view members ≡ general_table (written raw.now)) }
+{
+    let mut members = header_table(alloc, "general")?;
+    put_demands(alloc, &mut members, raw)?;
+    put_texts(alloc, &mut members, Key::Outcomes, &raw.outcomes)?;
+    put(
+        alloc,
+        &mut members,
+        Key::Objective,
+        Value::Table(objective_table(alloc, raw)?),
+    )?;
+    put_prior(alloc, &mut members, &raw.prior)?;
+    put(
+        alloc,
+        &mut members,
+        Key::Agent,
+        agents_value(alloc, &raw.prior, &raw.agents)?,
+    )?;
+    Ok(members)
+}
+
+fn auction_table(alloc: Global, auction: &Auction, values: &[i64]) -> Result<Table, NoMemory>
+    requires { values.now ≡ auction.now.values }
+    ensures { IfOk result (λ members. table_view members ≡ auction_table auction.now) }
+{
+    let mut members = header_table(alloc, "auction")?;
+    put_integer(
+        alloc,
+        &mut members,
+        Key::Bidders,
+        i64::from(auction.bidders()),
+    )?;
+    put_numbers(alloc, &mut members, Key::Values, values)?;
+    put(
+        alloc,
+        &mut members,
+        Key::Weights,
+        sizes_value(alloc, auction.weights())?,
+    )?;
+    put_integer(alloc, &mut members, Key::Revenue, auction.revenue())?;
+    put_integer(alloc, &mut members, Key::Welfare, auction.welfare())?;
+    put_integer(alloc, &mut members, Key::Keep, auction.keep())?;
+    Ok(members)
+}
+
+/// The document of a setting.
+pub(crate) fn file_table(alloc: Global, file: &SettingFile) -> Result<Table, NoMemory>
+    ensures members { IfOk result (λ members. table_view members ≡ file_table file.now) }
+    ensures accepted { IsAccepted file.now }
+{
+    match file {
+        SettingFile::General(setting) => general_table(alloc, setting.as_written()),
+        SettingFile::Auction(auction) => { auction_table(alloc, auction, auction.values()) }
+    }
+}

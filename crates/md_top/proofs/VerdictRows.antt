@@ -1,0 +1,37 @@
+-- The broken row that a verdict tells.
+use Rattle.std.proofs.Common.{◌≡◌, ℕ, zero, suc, ◌+◌, ◌<◌, List, [], ◌∷◌, Some, ◌++◌, codes, length, length-append, refl, ap, ◌∙◌, arith}
+use Rattle.std.specs.Prelude.{slice_get}
+use Rattle.md_top.specs.Verdicts.{rejected}
+use Rattle.md_setting.specs.Setting.{GeneralSetting}
+use Rattle.md_mech.specs.declared.broken.Broken.{Broken}
+use Rattle.md_mech.specs.declared.mechanism.Mechanism.{Mechanism}
+use Rattle.md_mech.specs.Rows.{IsFirstBroken, rows_of}
+use Rattle.md_answer.specs.declared.answer.Answer.{Answer}
+use Rattle.md_answer.specs.declared.answer.Answer.TheVariants.{Table, Optimal, Infeasible, Unbounded, TooWide}
+use Rattle.md_check.specs.declared.verdict.Reject.TheVariants.{Audit}
+use Rattle.md_check.specs.declared.verdict.Verdict.TheVariants.{Rejected}
+use Rattle.md_check.specs.Verdicts.{IsVerdict}
+
+-- the first broken row is one of the setting's
+first-in : (s : GeneralSetting) (m : Mechanism) (broken : Broken) → IsFirstBroken s m (rows_of s) 0 broken → broken.row < length (rows_of s)
+first-in s m broken h =
+    let size : length (rows_of s) ≡ length h.before + length (h.row ∷ h.after) = ap length h.parts ∙ length-append h.before (h.row ∷ h.after) in
+    omega (arith, h.number, size)
+
+pub told-in : (s : GeneralSetting) (answer : Answer) (broken : Broken) → IsVerdict s answer (Rejected (Audit broken)) → broken.row < length (rows_of s)
+told-in s (Table m) broken h = absurd (let e = h in cc)
+told-in s (Optimal value m bound) broken h = first-in s m broken h
+told-in s (Infeasible face) broken h = absurd (h.judged h.program h.is_program)
+told-in s (Unbounded m ray) broken h = first-in s m broken h
+told-in s (TooWide cuts path entry) broken h = absurd (let e = h in cc)
+
+-- the element at a place
+pub element : {X : Type 0} → (xs : List X) (r : ℕ) → r < length xs → (y : X) × (slice_get xs r ≡ Some y)
+element [] r b = absurd (omega arith)
+element (x ∷ xs) zero b = (x, refl)
+element (x ∷ xs) (suc r) b = element xs r (omega arith)
+
+-- the record of a broken row, field by field
+pub broken-record : (begun named numbered filled : List (List ℕ)) {name row left right : List ℕ} → begun ≡ rejected (codes "1") [] → named ≡ begun ++ name ∷ [] → name ≡ row → numbered ≡ named ++ left ∷ [] → filled ≡ numbered ++ right ∷ [] → filled ≡ rejected (codes "1") (row ∷ left ∷ right ∷ [])
+broken-record begun named numbered filled {name} {row} {left} {right} b n e m f =
+    f ∙ ap (λ xs. xs ++ right ∷ []) (m ∙ ap (λ xs. xs ++ left ∷ []) (n ∙ ap (λ x. begun ++ x ∷ []) e ∙ ap (λ xs. xs ++ row ∷ []) b))

@@ -1,0 +1,21 @@
+use Rattle.std.proofs.Common.{◌≡◌, ◌≢◌, ℕ, ◌∙◌, sym, subst, inr}
+use Rattle.md_ports.specs.Faults.{Rose}
+use Rattle.md_top.specs.declared.refusal.Refusal.TheVariants as refusal
+use Rattle.md_top.specs.Reply.{IsCheck, IsCheckStatus}
+use Rattle.md_top.proofs.Outcomes.{outcome-from, setting_refused}
+use Rattle.md_top.proofs.run.run_check.Goals as goal
+
+pub returns-clause-outcome : goal.returns-clause-outcome
+returns-clause-outcome g c =
+    outcome-from IsCheck IsCheckStatus (g.F.Shelf.content c.args.shelf.now) c.args.setting.now c.args.answer.now c.in_ok-setting.setting
+    (g.F.Shelf.content c.read_setting_file.new.shelf c.args.answer.now) c.check_file.result
+    c.in_ok-setting.ensures.told (c.read_setting_file.ensures.stays c.args.answer.now) c.check_file.ensures.status c.check_file.ensures.errors c.check_file.ensures.tried
+
+pub returns-clause-fault : goal.returns-clause-fault
+returns-clause-fault g c = λ failed.
+    inr (subst (λ before. Rose before (g.F.Shelf.faults c.check_file.new.shelf c.args.answer.now))
+    (c.in_ok-setting.ensures.quiet c.args.answer.now (λ e. cc)) (c.check_file.ensures.fault failed))
+
+pub returns-clause-quiet : goal.returns-clause-quiet
+returns-clause-quiet g c = λ n fine.
+    c.check_file.ensures.quiet n fine ∙ c.in_ok-setting.ensures.quiet n (λ e. cc)

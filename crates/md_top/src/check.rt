@@ -1,0 +1,130 @@
+//! The command `check`: whether what an answer claims of a setting is so.
+ghost use Rattle.std.specs.Prelude.{◌≡◌, ◌⊎◌, ◌<◌, ◌∷◌, [], IfOk, IfErr, length, codes};
+ghost use Rattle.md_num.specs.WholeText.{text_of};
+ghost use Rattle.md_mech.specs.declared.broken.Broken.{Broken};
+ghost use Rattle.md_mech.specs.Rows.{rows_of};
+ghost use Rattle.md_records.specs.Written.{record_text};
+ghost use Rattle.md_answer.specs.Answers.{answer_of};
+ghost use Rattle.md_answer.specs.AnswerTo.{IsAnswerTo};
+ghost use Rattle.md_check.specs.declared.verdict.Reject.TheVariants as rejects;
+ghost use Rattle.md_top.specs.declared.refusal.Refusal.TheVariants as refusal;
+ghost use Rattle.md_top.specs.Reading.{Follows};
+ghost use Rattle.md_top.specs.Refused.{status_of};
+ghost use Rattle.md_top.specs.Reply.{IsChecked, IsCheckStatus, answer_or_refusal};
+ghost use Rattle.md_top.specs.Saying.{said};
+ghost use Rattle.md_top.specs.Verdicts.{IsRejected, rejected};
+
+use crate::answered::Answered;
+use crate::refusal::Refusal;
+use md_answer::{Answer, AnswerRefusal, read_answer};
+use md_check::{Reject, Verdict, check};
+use md_mech::{Broken, row_name};
+use md_num::{Frac, NoMemory};
+use md_records::{Row, write_records};
+use md_setting::Setting;
+use std::alloc::Global;
+
+/// The answer that a file says.
+pub(crate) fn answer_from(alloc: Global, bytes: &[u8], setting: &Setting) -> Result<Answer, Refusal>
+    ensures follows { Follows (λ answer. answer) result (answer_or_refusal (answer_of setting.now bytes.now)) }
+    ensures accepted { IfOk result (IsAnswerTo setting.now) }
+    ensures errors { IfErr result (λ e. (e ≡ refusal.Memory) ⊎ (status_of e ≡ 66)) }
+{
+    match read_answer(alloc, bytes, setting) {
+        Ok(answer) => Ok(answer),
+        Err(AnswerRefusal::Memory) => Err(Refusal::Memory),
+        Err(e) => Err(Refusal::Answer(e)),
+    }
+}
+
+/// The verdict on an answer.
+pub(crate) fn checked(
+    alloc: Global,
+    setting: &Setting,
+    answer: &Answer,
+) -> Result<Answered, NoMemory>
+    requires { IsAnswerTo setting.now answer.now }
+    ensures checked { IfOk result (λ answered. IsChecked setting.now answer.now (said answered)) }
+    ensures status { IfOk result (λ answered. IsCheckStatus answered.status) }
+{
+    match check(alloc, setting, answer)? {
+        Verdict::Valid => Ok(Answered {
+            status: 0,
+            text: b"valid\n".to_vec(alloc)?,
+        }),
+        Verdict::Undecided => Ok(Answered {
+            status: 22,
+            text: b"undecided\n".to_vec(alloc)?,
+        }),
+        Verdict::Rejected(reject) => {
+            let record = rejected_record(alloc, setting, reject)?;
+            Ok(Answered {
+                status: 20,
+                text: record_text(alloc, record)?,
+            })
+        }
+    }
+}
+
+// The text of one record.
+fn record_text(alloc: Global, fields: Row) -> Result<Vec<u8>, NoMemory>
+    ensures { IfOk result (λ text. text.items ≡ record_text fields) }
+{
+    write_records(alloc, &[fields])
+}
+
+// A record that begins with the condition's number.
+fn rejected_by(alloc: Global, condition: &[u8]) -> Result<Row, NoMemory>
+    ensures { IfOk result (λ fields. fields ≡ rejected condition.now []) }
+{
+    Row::new(alloc).with(b"rejected")?.with(condition)
+}
+
+// The record of the first condition that fails.
+fn rejected_record(alloc: Global, setting: &Setting, reject: Reject) -> Result<Row, NoMemory>
+    requires { (broken : Broken) → reject ≡ rejects.Audit broken → broken.row < length (rows_of setting.now) }
+    ensures { IfOk result (IsRejected setting.now reject) }
+{
+    match reject {
+        Reject::Audit { broken } => broken_record(alloc, setting, broken),
+        Reject::Value { right } => rejected_by(alloc, b"2")?
+            .with_number(right.num)?
+            .with_number(right.den),
+        Reject::Pair { row, face, main } => rejected_by(alloc, b"3")?
+            .with_number(i128::from(row))?
+            .with_number(face)?
+            .with_number(main),
+        Reject::Column { column, face, main } => rejected_by(alloc, b"4")?
+            .with_number(i128::from(column))?
+            .with_number(face)?
+            .with_number(main),
+        Reject::FaceRight { sum } => rejected_by(alloc, b"5")?.with_number(sum),
+        Reject::MainRight { bound, cost } => bound_record(alloc, bound, cost),
+        Reject::RayRow { row, sum } => rejected_by(alloc, b"7")?
+            .with_number(i128::from(row))?
+            .with_number(sum),
+        Reject::RayGain { sum } => rejected_by(alloc, b"8")?.with_number(sum),
+    }
+}
+
+// The record of a broken row of the setting.
+fn broken_record(alloc: Global, setting: &Setting, broken: Broken) -> Result<Row, NoMemory>
+    requires { broken.row < length (rows_of setting.now) }
+    ensures { IfOk result (IsRejected setting.now (rejects.Audit broken)) }
+{
+    let name = row_name(alloc, setting, broken.row)?;
+    let named = rejected_by(alloc, b"1")?.with(&name)?;
+    let filled = named.with_number(broken.left)?.with_number(broken.right)?;
+    Ok(filled)
+}
+
+// The record of a bound that is another number than the cost.
+fn bound_record(alloc: Global, bound: Frac, cost: Frac) -> Result<Row, NoMemory>
+    ensures { IfOk result (λ fields. fields ≡ rejected (codes "6") (text_of bound.num ∷ text_of bound.den ∷ text_of cost.num ∷ text_of cost.den ∷ [])) }
+{
+    rejected_by(alloc, b"6")?
+        .with_number(bound.num)?
+        .with_number(bound.den)?
+        .with_number(cost.num)?
+        .with_number(cost.den)
+}
