@@ -12,7 +12,6 @@ use md_num::product;
 use md_setting::Setting;
 
 /// What an agent of a type gets, by weight, over the profiles in which it has the type and tells it.
-
 pub(crate) fn average_truth(setting: &Setting, mechanism: &Mechanism, agent: u8, kind: u8) -> i128
     requires accepted { IsAccepted setting.now mechanism.now }
     requires agent_in { agent < agent_count setting.now }
@@ -116,8 +115,9 @@ fn weight_given(setting: &Setting, agent: u8, kind: u8, rank: u32) -> i128
     ensures value { result ≡ marginal_term setting.now agent kind (profile_at (sizes_of setting.now) rank) }
     ensures size { IsWithin 1000000 result }
 {
-    if setting.space().report(rank, agent) != kind {
-        return 0;
+    if setting.space().report(rank, agent) == kind {
+        weight_at(setting, rank)
+    } else {
+        0
     }
-    weight_at(setting, rank)
 }
