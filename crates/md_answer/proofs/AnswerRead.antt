@@ -209,7 +209,7 @@ all-pivots (ns ∷ records) all =
     let P : List ℤ → Type 0 = λ (ns : List ℤ). IsPlaced (pivot_of ns) in
     All-cons IsPlaced (pivot_of ns) (map pivot_of records) (All-head P ns records all) (all-pivots records (All-tail P ns records all))
 
-path-known : (rest after : Rest) (path : List Pivot) → path_of rest ≡ Ok (path, after) → All IsPlaced path
+pub path-known : (rest after : Rest) (path : List Pivot) → path_of rest ≡ Ok (path, after) → All (λ (p : Pivot). IsTablePlace p.row p.column) path
 path-known rest after path h =
     let two = in_two (repeated (codes "pivot") pivot_fields 0 rest) _ path after h in
     let all = repeated-left (λ (ns : List ℤ). IsPlaced (pivot_of ns)) (codes "pivot") pivot_fields

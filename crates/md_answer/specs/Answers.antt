@@ -72,8 +72,8 @@ whole_answer s = do
   _ ← read_end
   nothing_more answer
 
--- the answer alone
-abbrev pub answered : Result (Answer × Rest) AnswerRefusal → Result Answer AnswerRefusal
+-- what was read, alone
+abbrev pub answered : {T : Type 0} → Result (T × Rest) AnswerRefusal → Result T AnswerRefusal
 answered (Ok read) = Ok read.0
 answered (Err refusal) = Err refusal
 

@@ -12,4 +12,5 @@ pub mod Multipliers
 pub mod Path
 pub mod Answers
 pub mod AnswerTo
+pub mod Pivots
 pub mod Rows

@@ -6,6 +6,7 @@ mod fields;
 mod kind;
 mod multipliers;
 mod path;
+mod pivots;
 mod range;
 mod read;
 mod reading;
@@ -14,6 +15,7 @@ mod table;
 mod write;
 
 pub use answer::{Answer, AnswerRefusal};
+pub use pivots::{Pivots, read_pivots};
 pub use read::read_answer;
 pub use write::write_answer;
 

@@ -25,8 +25,8 @@ fn read_first(reader: &mut Reader) -> Result<Kind, AnswerRefusal>
     fields.kind()
 }
 
-// The end, after which nothing follows.
-fn read_last(reader: &mut Reader) -> Result<(), AnswerRefusal>
+/// The end, after which nothing follows.
+pub(crate) fn read_last(reader: &mut Reader) -> Result<(), AnswerRefusal>
     ensures { MatchResult result
         (λ _. read_end reader.old ≡ Ok (tt, reader.new))
         (λ refusal. refusal ≢ AnswerRefusal.Memory → read_end reader.old ≡ Err refusal) }

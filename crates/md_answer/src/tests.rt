@@ -1,5 +1,6 @@
 //! Answers read and written, and answers that are refused. The texts come from outside.
 use super::*;
+use md_lp::Pivot;
 use md_setting::{Rational, RawAgent, RawSetting, Setting, Truth};
 use std::alloc::{AllocError, Global};
 use std::test::Fail;
@@ -394,6 +395,74 @@ fn tells_the_first_reason_to_refuse(rt: HostRuntime) -> Result<(), Fail> {
         };
         assert!(rt;
             read_answer(alloc, text.as_bytes(), setting).err() == Some(*refusal),
+            "at {text}"
+        );
+    }
+    Ok(())
+}
+
+// A pivots file and the two pivots that it lists.
+static LISTED: [(&str, [Pivot; 2]); 2] = [
+    (
+        "pivot,4,0\npivot,1,1\nend\n",
+        [Pivot { row: 4, column: 0 }, Pivot { row: 1, column: 1 }],
+    ),
+    (
+        "\"pivot\",4294967295,0\r\npivot,0,4294967295\r\nend",
+        [
+            Pivot {
+                row: 4_294_967_295,
+                column: 0,
+            },
+            Pivot {
+                row: 0,
+                column: 4_294_967_295,
+            },
+        ],
+    ),
+];
+
+#[test]
+fn reads_the_pivots_of_a_file(rt: HostRuntime) -> Result<(), Fail> {
+    let alloc = rt.alloc();
+    let setting = built(alloc, lone(alloc, Rational::None, false, false)?)?;
+    for (text, wanted) in &LISTED {
+        let pivots = read_pivots(alloc, text.as_bytes(), &setting)?;
+        assert!(rt; pivots.path.as_slice() == wanted.as_slice(), "at {text}");
+        assert!(rt; pivots.cuts.is_empty(), "at {text}");
+    }
+    let none = read_pivots(alloc, b"end\n", &setting)?;
+    assert!(rt; none.path.is_empty());
+    Ok(())
+}
+
+// A pivots file and the first reason to refuse it.
+static PIVOTS_REFUSED: [(&str, AnswerRefusal); 16] = [
+    ("", AnswerRefusal::End(0)),
+    ("pivot,4,0\npivot,1,1\n", AnswerRefusal::End(2)),
+    ("pivot,4,0\nend\npivot,1,1\n", AnswerRefusal::Line(3)),
+    ("end\nend\n", AnswerRefusal::Line(2)),
+    ("pivot,4,0\nend,1\n", AnswerRefusal::Line(2)),
+    ("pivot,4,0\nwide,1,1,20,1\nend\n", AnswerRefusal::Line(2)),
+    ("cut,1\npivot,4,0\nend\n", AnswerRefusal::Line(1)),
+    ("answer,1,general,toowide\nend\n", AnswerRefusal::Line(1)),
+    ("pivot,-1,0\nend\n", AnswerRefusal::Cell(1, 2)),
+    ("pivot,4,0\npivot,1,-1\nend\n", AnswerRefusal::Cell(2, 3)),
+    ("pivot,0,4294967296\nend\n", AnswerRefusal::Cell(1, 3)),
+    ("pivot,4294967296,-1\nend\n", AnswerRefusal::Cell(1, 2)),
+    ("pivot,4\nend\n", AnswerRefusal::Line(1)),
+    ("pivot,4,0,0\nend\n", AnswerRefusal::Line(1)),
+    ("pivot,four,0\nend\n", AnswerRefusal::Cell(1, 2)),
+    ("pivot,4,01\nend\n", AnswerRefusal::Cell(1, 3)),
+];
+
+#[test]
+fn tells_the_first_reason_to_refuse_pivots(rt: HostRuntime) -> Result<(), Fail> {
+    let alloc = rt.alloc();
+    let setting = built(alloc, lone(alloc, Rational::None, false, false)?)?;
+    for (text, refusal) in &PIVOTS_REFUSED {
+        assert!(rt;
+            read_pivots(alloc, text.as_bytes(), &setting).err() == Some(*refusal),
             "at {text}"
         );
     }

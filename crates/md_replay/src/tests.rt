@@ -1,0 +1,194 @@
+use super::*;
+use md_lp::{Lp, LpRefusal, Path, Pivot, RowKind, Term};
+use md_num::{NoMemory, Nums, Width};
+use std::alloc::Global;
+use std::process::Abort;
+use std::test::Fail;
+
+// ---- who buys an item for 1 or for `high`
+
+// A row by its coefficients.
+#[derive(Clone, Copy)]
+struct Line {
+    kind: RowKind,
+    coefficients: [i128; 8],
+    right: i128,
+}
+
+fn nums(alloc: Global, numbers: &[i128]) -> Result<Nums, NoMemory> {
+    let mut list = Nums::new(alloc);
+    for number in numbers {
+        list.push(*number)?;
+    }
+    Ok(list)
+}
+
+fn terms_of(alloc: Global, coefficients: &[i128; 8]) -> Result<Vec<Term>, NoMemory> {
+    let mut terms = Vec::new(alloc);
+    let mut column = 0;
+    for value in coefficients {
+        if *value != 0 {
+            terms.push(Term {
+                column,
+                value: *value,
+            })?;
+        }
+        column = column.wrapping_add(1);
+    }
+    Ok(terms)
+}
+
+fn program(alloc: Global, cost: &[i128], lines: &[Line]) -> Result<Lp, LpRefusal> {
+    let list = nums(alloc, cost)?;
+    let columns = list.len().min(8);
+    if list.len() != columns {
+        return Err(LpRefusal::Index);
+    }
+    let mut lp = Lp::new(alloc, columns as u32, list)?;
+    for line in lines {
+        let terms = terms_of(alloc, &line.coefficients)?;
+        lp.push_row(line.kind, &terms, line.right)?;
+    }
+    Ok(lp)
+}
+
+fn at_most(coefficients: [i128; 8]) -> Line {
+    Line {
+        kind: RowKind::AtMost,
+        coefficients,
+        right: 0,
+    }
+}
+
+fn exactly_one(coefficients: [i128; 8]) -> Line {
+    Line {
+        kind: RowKind::Exact,
+        coefficients,
+        right: 1,
+    }
+}
+
+// Chances to keep and to sell, payments and their negatives.
+fn buyer(alloc: Global, high: i64) -> Result<Lp, LpRefusal> {
+    let high = i128::from(high);
+    let lines = [
+        at_most([0, -1, 0, 1, 1, -1, -1, 1]),
+        at_most([0, high, 0, -high, -1, 1, 1, -1]),
+        at_most([0, -1, 0, 0, 1, 0, -1, 0]),
+        at_most([0, 0, 0, -high, 0, 1, 0, -1]),
+        exactly_one([1, 1, 0, 0, 0, 0, 0, 0]),
+        exactly_one([0, 0, 1, 1, 0, 0, 0, 0]),
+    ];
+    program(alloc, &[0, 0, 0, 0, 1, 1, -1, -1], &lines)
+}
+
+fn path_of(alloc: Global, pivots: &[(u32, u32)]) -> Result<Path, NoMemory> {
+    let mut path = Path::new(alloc);
+    for (row, column) in pivots {
+        path.push(Pivot {
+            row: *row,
+            column: *column,
+        })?;
+    }
+    Ok(path)
+}
+
+// ---- what is answered
+
+// Pivots on the program of a buyer, and the number of the refused one or the text.
+struct Case {
+    high: i64,
+    bits: u8,
+    pivots: &'static [(u32, u32)],
+    refused: Option<u64>,
+    text: &'static str,
+}
+
+static CASES: [Case; 9] = [
+    Case {
+        high: 3,
+        bits: 62,
+        pivots: &[(4, 0), (1, 1), (5, 2), (2, 4), (0, 8), (3, 5), (5, 3)],
+        refused: None,
+        text: "basis,0,1,4\nbasis,1,1,4\nbasis,2,3,9\nbasis,3,3,12\nbasis,4,2,6\nbasis,5,2,6\nbasis,6,2,6\nbasis,7,2,6\nrule,7\nend\n",
+    },
+    Case {
+        high: 3,
+        bits: 62,
+        pivots: &[],
+        refused: None,
+        text: "basis,0,1,4\nrule,0\nend\n",
+    },
+    Case {
+        high: 3,
+        bits: 62,
+        pivots: &[(4, 12)],
+        refused: Some(1),
+        text: "",
+    },
+    Case {
+        high: 3,
+        bits: 62,
+        pivots: &[(0, 0)],
+        refused: Some(1),
+        text: "",
+    },
+    Case {
+        high: 3,
+        bits: 62,
+        pivots: &[(4, 0), (8, 1)],
+        refused: Some(2),
+        text: "",
+    },
+    Case {
+        high: 3,
+        bits: 62,
+        pivots: &[(5, 2), (4, 0)],
+        refused: None,
+        text: "basis,0,1,4\nbasis,1,1,5\nbasis,2,1,5\nrule,0\nend\n",
+    },
+    Case {
+        high: 5,
+        bits: 4,
+        pivots: &[(4, 0), (1, 1)],
+        refused: None,
+        text: "basis,0,1,8\nbasis,1,1,8\nwide,3,3,-25,5\nrule,2\nend\n",
+    },
+    Case {
+        high: 5,
+        bits: 4,
+        pivots: &[(4, 0), (1, 1), (0, 0)],
+        refused: None,
+        text: "basis,0,1,8\nbasis,1,1,8\nwide,3,3,-25,5\nrule,2\nend\n",
+    },
+    Case {
+        high: 20,
+        bits: 4,
+        pivots: &[(0, 0)],
+        refused: None,
+        text: "wide,1,1,20,1\nrule,0\nend\n",
+    },
+];
+
+fn judge(rt: &impl Abort, alloc: Global, case: &Case) -> Result<(), Fail> {
+    let lp = buyer(alloc, case.high)?;
+    let width = Width::new(case.bits).ok_or("no width")?;
+    let path = path_of(alloc, case.pivots)?;
+    match replay(alloc, &lp, width, &path) {
+        Ok(told) => {
+            assert_eq!(rt; case.refused, None);
+            assert_eq!(rt; replay_text(alloc, &told)?.as_slice(), case.text.as_bytes());
+        }
+        Err(ReplayError::Pivot(number)) => assert_eq!(rt; case.refused, Some(number)),
+        Err(ReplayError::Memory) => return Err("memory ran out".into()),
+    }
+    Ok(())
+}
+
+#[test]
+fn tells_what_comes_of_pivots(rt: HostRuntime) -> Result<(), Fail> {
+    for case in &CASES {
+        judge(&rt, rt.alloc(), case)?;
+    }
+    Ok(())
+}

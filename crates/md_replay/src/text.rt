@@ -1,0 +1,84 @@
+//! What came of listed pivots, as records.
+ghost use Rattle.std.specs.Prelude.{◌≡◌, ◌++◌, ◌∷◌, [], pos, codes, IfOk};
+ghost use Rattle.md_num.specs.WholeText.{text_of};
+ghost use Rattle.md_replay.specs.Records.{basis_record, basis_records, replay_records, replay_text, wide_record, wide_records};
+
+use crate::outcome::Replay;
+use md_lp::Entry;
+use md_num::{NoMemory, Nums};
+use md_records::{Row, write_records};
+use std::alloc::Global;
+
+// The record of a basis that is not wide.
+fn basis_row(alloc: Global, place: usize, den: i128, greatest: i128) -> Result<Row, NoMemory>
+    ensures { IfOk result (λ fields. fields ≡ basis_record place den greatest) }
+{
+    Row::new(alloc)
+        .with(b"basis")?
+        .with_number(place as i128)?
+        .with_number(den)?
+        .with_number(greatest)
+}
+
+// The record of a wide entry.
+fn wide_row(alloc: Global, entry: Entry) -> Result<Row, NoMemory>
+    ensures { IfOk result (λ fields. fields ≡ wide_record entry) }
+{
+    Row::new(alloc)
+        .with(b"wide")?
+        .with_number(i128::from(entry.row))?
+        .with_number(i128::from(entry.column))?
+        .with_number(entry.num)?
+        .with_number(entry.den)
+}
+
+// The record of how many pivots follow the rules.
+fn rule_row(alloc: Global, followed: u64) -> Result<Row, NoMemory>
+    ensures { IfOk result (λ fields. fields ≡ codes "rule" ∷ text_of (pos followed) ∷ []) }
+{
+    Row::new(alloc)
+        .with(b"rule")?
+        .with_number(i128::from(followed))
+}
+
+// The records of the bases that are not wide.
+fn basis_rows(alloc: Global, dens: &Nums, greatest: &Nums) -> Result<Vec<Row>, NoMemory>
+    ensures { IfOk result (λ rows. rows.items ≡ basis_records 0 dens.now greatest.now) }
+{
+    let mut rows = Vec::new(alloc);
+    for place in 0..dens.len().min(greatest.len()) {
+        rows.push(basis_row(alloc, place, dens.get(place), greatest.get(place))?)?;
+    }
+    Ok(rows)
+}
+
+// Rows with the record of the first wide entry at their end, if there is one.
+fn with_wide(alloc: Global, rows: Vec<Row>, wide: Option<Entry>) -> Result<Vec<Row>, NoMemory>
+    ensures { IfOk result (λ more. more.items ≡ rows.items ++ wide_records wide) }
+{
+    let mut more = rows;
+    if let Some(entry) = wide {
+        more.push(wide_row(alloc, entry)?)?;
+    }
+    Ok(more)
+}
+
+// All records.
+fn rows_of(alloc: Global, replay: &Replay) -> Result<Vec<Row>, NoMemory>
+    ensures { IfOk result (λ rows. rows.items ≡ replay_records replay.now) }
+{
+    let bases = basis_rows(alloc, &replay.dens, &replay.greatest)?;
+    let mut rows = with_wide(alloc, bases, replay.wide)?;
+    rows.push(rule_row(alloc, replay.followed)?)?;
+    rows.push(Row::new(alloc).with(b"end")?)?;
+    Ok(rows)
+}
+
+/// What came of listed pivots as a text of records: one for each basis that is not wide, one for the first wide entry, if there
+/// is one, how many of the pivots follow the rules, and an end. docs/FORMATS.md states them.
+pub fn replay_text(alloc: Global, replay: &Replay) -> Result<Vec<u8>, NoMemory>
+    ensures { IfOk result (λ text. text.items ≡ replay_text replay.now) }
+{
+    let rows = rows_of(alloc, replay)?;
+    write_records(alloc, &rows)
+}

@@ -1,0 +1,11 @@
+pub mod RayLists
+pub mod ValueLaws
+pub mod SamePrograms
+pub mod SamePaths
+pub mod SameForms
+pub mod Certificates
+pub mod Claims
+pub mod BoundFits
+pub mod WideSizes
+pub mod SameAnswers
+pub mod OneAnswer

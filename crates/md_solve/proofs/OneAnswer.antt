@@ -1,0 +1,118 @@
+-- A setting and a width have one answer.
+use Rattle.std.proofs.Common.{◌≡◌, ◌⊎◌, ℕ, ℤ, pos, ◌*ℤ◌, ◌<ℤ◌, List, [], sym, ap, ◌∙◌, subst, arith, inl, inr}
+use lib.IntN.{*ℤ_comm}
+use Rattle.std.proofs.lemmas.Int.{ints}
+use Rattle.md_math.specs.Lists.{number_at}
+use Rattle.md_math.proofs.Fractions.{same_from_IsLeastTerms}
+use Rattle.md_math.proofs.Order.{*ℤ_cancel, positive-*ℤ}
+use Rattle.md_math.proofs.Ring.{*ℤ_assoc}
+use Rattle.md_num.specs.declared.frac.Frac.{Frac}
+use Rattle.md_setting.specs.Setting.{GeneralSetting}
+use Rattle.md_setting.specs.Meaning.{total_of}
+use Rattle.md_mech.specs.declared.mechanism.Mechanism.{Mechanism}
+use Rattle.md_mech.specs.Optimal.{worth_of}
+use Rattle.md_lp.specs.declared.entry.Entry.{Entry}
+use Rattle.md_lp.specs.declared.pivot.Pivot.{Pivot}
+use Rattle.md_lp.specs.Program.{Program}
+use Rattle.md_cert.specs.declared.bound.Bound.{Bound}
+use Rattle.md_cert.specs.declared.certificate.Certificate.{Certificate}
+use Rattle.md_cert.specs.declared.certificate.Certificate.TheVariants as certificates
+use Rattle.md_rows.specs.Points.{mechanism_of}
+use Rattle.md_claims.specs.Rays.{pays_along}
+use Rattle.md_simplex.specs.declared.simplex_error.SimplexError.TheVariants as errors
+use Rattle.md_simplex.specs.Runs.{IsFirstWideOf}
+use Rattle.md_simplex.proofs.OneRun.{one_run}
+use Rattle.md_simplex.proofs.RunLaws.{left_there, no_wide}
+use Rattle.md_answer.specs.declared.answer.Answer.{Answer}
+use Rattle.md_answer.specs.declared.answer.Answer.TheVariants.{Table, Optimal, Infeasible, Unbounded, TooWide}
+use Rattle.md_solve.specs.Shown.{IsSo}
+use Rattle.md_solve.specs.Solved.{IsSolvedBy, IsValueOf, TellsCertificate, TellsRun}
+
+-- ---- one value
+
+value-one : (s : GeneralSetting) (m : Mechanism) (v w : Frac) → pos 0 <ℤ (m.den *ℤ total_of s) → IsValueOf s m v → IsValueOf s m w → v ≡ w
+value-one s m v w above a b =
+    let whole = m.den *ℤ total_of s in
+    let left : whole *ℤ (v.num *ℤ w.den) ≡ worth_of s m *ℤ (v.den *ℤ w.den) =
+    sym (*ℤ_assoc whole v.num w.den) ∙ ap (λ z. z *ℤ w.den) (*ℤ_comm whole v.num ∙ a.is_value) ∙ *ℤ_assoc (worth_of s m) v.den w.den in
+    let right : whole *ℤ (w.num *ℤ v.den) ≡ worth_of s m *ℤ (w.den *ℤ v.den) =
+    sym (*ℤ_assoc whole w.num v.den) ∙ ap (λ z. z *ℤ v.den) (*ℤ_comm whole w.num ∙ b.is_value) ∙ *ℤ_assoc (worth_of s m) w.den v.den in
+    let cross : v.num *ℤ w.den ≡ w.num *ℤ v.den =
+    *ℤ_cancel whole (v.num *ℤ w.den) (w.num *ℤ v.den) above (left ∙ ap (λ z. worth_of s m *ℤ z) (*ℤ_comm v.den w.den) ∙ sym right) in
+    let same = same_from_IsLeastTerms v.num v.den w.num w.den a.least b.least cross in
+    ap (λ n. record { num = n; den = v.den }) same.0 ∙ ap (λ d. record { num = w.num; den = d }) same.1
+
+-- ---- one answer of a certificate
+
+record TellsOptimal (s : GeneralSetting) (den : ℤ) (point : List ℤ) (bound : Bound) (answer : Answer) : Type 0 where
+  value : Frac
+  is_value : IsValueOf s (mechanism_of s den (number_at point)) value
+  is : answer ≡ Optimal value (mechanism_of s den (number_at point)) bound
+
+told-optimal : (s : GeneralSetting) (den : ℤ) (point : List ℤ) (bound : Bound) (answer : Answer) → TellsCertificate s (certificates.Optimal den point bound) answer → TellsOptimal s den point bound answer
+told-optimal s den point bound (Table m) h = absurd h
+told-optimal s den point bound (Optimal value m told) h = record {
+  value = value;
+  is_value = subst (λ k. IsValueOf s k value) h.0 h.1;
+  is = ap (λ k. Optimal value k told) h.0 ∙ ap (λ b. Optimal value (mechanism_of s den (number_at point)) b) h.2;
+}
+told-optimal s den point bound (Infeasible face) h = absurd h
+told-optimal s den point bound (Unbounded m ray) h = absurd h
+told-optimal s den point bound (TooWide cuts path entry) h = absurd h
+
+told-infeasible : (s : GeneralSetting) (face : List ℤ) (answer : Answer) → TellsCertificate s (certificates.Infeasible face) answer → answer ≡ Infeasible face
+told-infeasible s face (Table m) h = absurd h
+told-infeasible s face (Optimal value m told) h = absurd h
+told-infeasible s face (Infeasible told) h = ap Infeasible h
+told-infeasible s face (Unbounded m ray) h = absurd h
+told-infeasible s face (TooWide cuts path entry) h = absurd h
+
+told-unbounded : (s : GeneralSetting) (den : ℤ) (point ray : List ℤ) (answer : Answer) → TellsCertificate s (certificates.Unbounded den point ray) answer
+    → answer ≡ Unbounded (mechanism_of s den (number_at point)) (pays_along s (number_at ray))
+told-unbounded s den point ray (Table m) h = absurd h
+told-unbounded s den point ray (Optimal value m told) h = absurd h
+told-unbounded s den point ray (Infeasible face) h = absurd h
+told-unbounded s den point ray (Unbounded m pays) h = ap (λ k. Unbounded k pays) h.0 ∙ ap (λ r. Unbounded (mechanism_of s den (number_at point)) r) h.1
+told-unbounded s den point ray (TooWide cuts path entry) h = absurd h
+
+tells-one : (s : GeneralSetting) (c : Certificate) (a b : Answer) → pos 0 <ℤ total_of s → IsSo s a → TellsCertificate s c a → TellsCertificate s c b → a ≡ b
+tells-one s (certificates.Optimal den point bound) a b total so h k =
+    let first = told-optimal s den point bound a h in
+    let second = told-optimal s den point bound b k in
+    let m = mechanism_of s den (number_at point) in
+    let here : IsSo s (Optimal first.value m bound) = subst (IsSo s) first.is so in
+    let above : pos 0 <ℤ (m.den *ℤ total_of s) = positive-*ℤ m.den (total_of s) (omega (arith, ints, here.0.admissible.mechanism.den)) total in
+    first.is ∙ ap (λ v. Optimal v m bound) (value-one s m first.value second.value above first.is_value second.is_value) ∙ sym second.is
+tells-one s (certificates.Infeasible face) a b total so h k = told-infeasible s face a h ∙ sym (told-infeasible s face b k)
+tells-one s (certificates.Unbounded den point ray) a b total so h k = told-unbounded s den point ray a h ∙ sym (told-unbounded s den point ray b k)
+
+-- ---- one answer of a path
+
+record IsWideAnswer (p : Program) (width : ℕ) (answer : Answer) : Type 0 where
+  path : List Pivot
+  entry : Entry
+  is : answer ≡ TooWide [] path entry
+  first : IsFirstWideOf p width path entry
+
+kinds : (s : GeneralSetting) (p : Program) (width : ℕ) (answer : Answer) → IsSolvedBy s p width answer → IsWideAnswer p width answer ⊎ TellsRun s p width answer
+kinds s p width (Table m) h = inr h
+kinds s p width (Optimal value m bound) h = inr h
+kinds s p width (Infeasible face) h = inr h
+kinds s p width (Unbounded m ray) h = inr h
+kinds s p width (TooWide cuts path entry) h = inl (record { path = path; entry = entry; is = ap (λ c. TooWide c path entry) h.0; first = h.1 })
+
+not-both : (s : GeneralSetting) (p : Program) (width : ℕ) (a b : Answer) → IsWideAnswer p width a → TellsRun s p width b → ⊥
+not-both s p width a b h k = no_wide p width k.end.path h.path k.run.step h.entry k.run.whole k.run.narrow h.first.path h.first.wide
+
+pub one_answer : (s : GeneralSetting) (p : Program) (width : ℕ) (a b : Answer) → pos 0 <ℤ total_of s → IsSo s a → IsSolvedBy s p width a → IsSolvedBy s p width b → a ≡ b
+one_answer s p width a b total so h k = by_kinds (kinds s p width a h) (kinds s p width b k)
+  where
+    by_kinds : IsWideAnswer p width a ⊎ TellsRun s p width a → IsWideAnswer p width b ⊎ TellsRun s p width b → a ≡ b
+    by_kinds (inl f) (inl g) =
+        let same = left_there p width (errors.TooWide f.path f.entry) g.path g.entry f.first g.first in
+        f.is ∙ ap (λ x. TooWide [] x f.entry) same.0 ∙ ap (λ x. TooWide [] g.path x) same.1 ∙ sym g.is
+    by_kinds (inl f) (inr g) = absurd (not-both s p width a b f g)
+    by_kinds (inr f) (inl g) = absurd (not-both s p width b a g f)
+    by_kinds (inr f) (inr g) =
+        let same : f.end ≡ g.end = one_run p width f.end g.end f.run g.run in
+        tells-one s g.end.certificate a b total so (subst (λ e. TellsCertificate s e.certificate a) same f.tells) g.tells

@@ -1,0 +1,97 @@
+-- The payments of a ray as a list: its places, its length and its sizes.
+use Rattle.std.proofs.Common.{◌≡◌, ℕ, zero, suc, ◌+◌, ◌*◌, ◌/◌, ◌%◌, ◌<◌, true, ℤ, pos, ◌-ℤ◌, ◌≤ℤ◌, List, [], ◌∷◌, ◌++◌, length, sym, ap, ◌∙◌, subst, arith, append_assoc, inl, inr}
+use Rattle.std.proofs.lemmas.Int.{ints}
+use Rattle.std.proofs.lemmas.Bool.{cases_Bool, cases_lt}
+use Rattle.std.proofs.lemmas.List.{length-map, get_or_past}
+use Rattle.std.proofs.lemmas.Nat.{div_below, mod_below, div-add-mod', mul-add-lt}
+use Rattle.md_math.specs.Lists.{number_at, list_to}
+use Rattle.md_math.specs.Sizes.{IsWithin}
+use Rattle.md_math.proofs.Builders.{list_to-more, length-list_to, get_or-list_to, length-up_to, get_or-up_to}
+use Rattle.md_math.proofs.SizeLaws.{AllWithin-number_at, IsWithin-zero}
+use Rattle.md_space.specs.Profiles.{profile_count, profile_at}
+use Rattle.md_setting.specs.Setting.{GeneralSetting}
+use Rattle.md_setting.specs.Meaning.{agent_count, sizes_of}
+use Rattle.md_setting.specs.Rows.{column_count}
+use Rattle.md_mech.specs.Accepted.{number_limit}
+use Rattle.md_rows.specs.Columns.{first_minus, plus_column, minus_column, payment_in}
+use Rattle.md_rows.proofs.FormLaws.{plus-at_rank, minus-at_rank, payment-on, payment-off}
+use Rattle.md_claims.specs.Rays.{pays_along}
+use Rattle.md_answer.specs.AnswerTo.{IsRayFor}
+use Rattle.md_solve.specs.Rays.{IsRayList}
+
+-- ---- places
+
+agents-length : (s : GeneralSetting) → length (sizes_of s) ≡ agent_count s
+agents-length s = length-map s.agents (λ agent. length agent.types)
+
+-- where payments are on, there are so many columns
+pub columns-on : (s : GeneralSetting) → s.payments ≡ true → column_count s ≡ first_minus s + agent_count s * profile_count (sizes_of s)
+columns-on s on = rw (on, agents-length s) (omega arith)
+
+pub place-in : (agents profiles i r : ℕ) → i < agents → r < profiles → i * profiles + r < agents * profiles
+place-in agents profiles i r l b = omega (arith, mul-add-lt i profiles r agents l b)
+
+pub plus-in : (s : GeneralSetting) (i r : ℕ) → s.payments ≡ true → i < agent_count s → r < profile_count (sizes_of s) → plus_column s i (profile_at (sizes_of s) r) < column_count s
+plus-in s i r on l b = omega (arith, plus-at_rank s i r b, columns-on s on, place-in (agent_count s) (profile_count (sizes_of s)) i r l b)
+
+pub minus-in : (s : GeneralSetting) (i r : ℕ) → s.payments ≡ true → i < agent_count s → r < profile_count (sizes_of s) → minus_column s i (profile_at (sizes_of s) r) < column_count s
+minus-in s i r on l b = omega (arith, minus-at_rank s i r b, columns-on s on, place-in (agent_count s) (profile_count (sizes_of s)) i r l b)
+
+-- ---- lists that grow
+
+pub push-list : {X : Type 0} → (old now new : List X) (k : ℕ) (f : ℕ → X) (v : X) → now ≡ old ++ list_to k f → new ≡ now ++ v ∷ [] → v ≡ f k → new ≡ old ++ list_to (k + 1) f
+push-list old now new k f v before pushed value =
+    pushed ∙ ap (λ xs. xs ++ v ∷ []) before ∙ append_assoc old (list_to k f) (v ∷ []) ∙ ap (λ x. old ++ (list_to k f ++ x ∷ [])) value ∙ ap (λ xs. old ++ xs) (sym (list_to-more k f))
+
+-- ---- numbers
+
+-- the difference of two numbers that are at least 0
+difference-within : (limit : ℕ) (a b : ℤ) → pos 0 ≤ℤ a → pos 0 ≤ℤ b → IsWithin limit a → IsWithin limit b → IsWithin limit (a -ℤ b)
+difference-within limit a b p q h k = record { within = omega (arith, ints, p, q, h.within, k.within) }
+
+pay-within : (s : GeneralSetting) (ray : List ℤ) (i r : ℕ) → IsRayList s ray → i < agent_count s → r < profile_count (sizes_of s) → IsWithin number_limit (payment_in s (number_at ray) i (profile_at (sizes_of s) r))
+pay-within s ray i r h l b = elim (cases_Bool s.payments) [
+  | inl on ↦
+      rw (payment-on s (number_at ray) i (profile_at (sizes_of s) r) on)
+      (difference-within number_limit (number_at ray (plus_column s i (profile_at (sizes_of s) r))) (number_at ray (minus_column s i (profile_at (sizes_of s) r)))
+      (h.nonneg (plus_column s i (profile_at (sizes_of s) r)) (plus-in s i r on l b)) (h.nonneg (minus_column s i (profile_at (sizes_of s) r)) (minus-in s i r on l b))
+      (AllWithin-number_at number_limit ray (plus_column s i (profile_at (sizes_of s) r)) h.sizes) (AllWithin-number_at number_limit ray (minus_column s i (profile_at (sizes_of s) r)) h.sizes))
+  | inr off ↦ rw (payment-off s (number_at ray) i (profile_at (sizes_of s) r) off) (IsWithin-zero number_limit)
+]
+
+listed-length : (s : GeneralSetting) (x : ℕ → ℤ) → length (pays_along s x) ≡ profile_count (sizes_of s) * agent_count s
+listed-length s x =
+    length-up_to (profile_count (sizes_of s)) (agent_count s) (λ r. list_to (agent_count s) (λ i. payment_in s x i (profile_at (sizes_of s) r)))
+    (λ r h. length-list_to (agent_count s) (λ i. payment_in s x i (profile_at (sizes_of s) r)))
+
+listed-at : (s : GeneralSetting) (x : ℕ → ℤ) (r i : ℕ) → r < profile_count (sizes_of s) → i < agent_count s
+    → number_at (pays_along s x) (r * agent_count s + i) ≡ payment_in s x i (profile_at (sizes_of s) r)
+listed-at s x r i b l =
+    get_or-up_to (profile_count (sizes_of s)) (agent_count s) r i (λ q. list_to (agent_count s) (λ k. payment_in s x k (profile_at (sizes_of s) q))) (pos 0)
+    (λ q h. length-list_to (agent_count s) (λ k. payment_in s x k (profile_at (sizes_of s) q))) b l
+    ∙ get_or-list_to (agent_count s) (λ k. payment_in s x k (profile_at (sizes_of s) r)) i (pos 0) l
+
+-- what is said of each payment is said of each place
+each-pay : (s : GeneralSetting) (x : ℕ → ℤ) (P : ℤ → Type 0) → ((r i : ℕ) → r < profile_count (sizes_of s) → i < agent_count s → P (payment_in s x i (profile_at (sizes_of s) r)))
+    → (j : ℕ) → j < length (pays_along s x) → P (number_at (pays_along s x) j)
+each-pay s x P h j below =
+    let w = agent_count s in
+    let n = profile_count (sizes_of s) in
+    let inside : j < n * w = omega (arith, below, listed-length s x) in
+    let some : 0 < w = pos-factor j n w inside in
+    subst (λ q. P (number_at (pays_along s x) q)) (div-add-mod' j w)
+    (subst P (sym (listed-at s x (j / w) (j % w) (div_below j w n some inside) (mod_below j w some))) (h (j / w) (j % w) (div_below j w n some inside) (mod_below j w some)))
+  where
+    pos-factor : (j n w : ℕ) → j < n * w → 0 < w
+    pos-factor j n zero h = absurd (omega (arith, h))
+    pos-factor j n (suc w) h = omega arith
+
+pub ray-fits : (s : GeneralSetting) (ray : List ℤ) → IsRayList s ray → IsRayFor s (pays_along s (number_at ray))
+ray-fits s ray h = record {
+  one_each = listed-length s (number_at ray);
+  sizes = record { at = each-pay s (number_at ray) (IsWithin number_limit) (λ r i b l. pay-within s ray i r h l b) };
+  off = λ off k. elim (cases_lt k (length (pays_along s (number_at ray)))) [
+    | inl l ↦ each-pay s (number_at ray) (λ z. z ≡ pos 0) (λ r i b _. payment-off s (number_at ray) i (profile_at (sizes_of s) r) off) k l
+    | inr past ↦ get_or_past (pays_along s (number_at ray)) k (pos 0) (omega (arith, past))
+  ];
+}

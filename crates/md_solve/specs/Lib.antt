@@ -1,0 +1,6 @@
+pub mod Answered
+pub mod Bounds
+pub mod Certifies
+pub mod Rays
+pub mod Shown
+pub mod Solved

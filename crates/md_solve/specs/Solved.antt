@@ -1,0 +1,50 @@
+-- The answer to a setting: what is read off the last dictionary of the path of its program, or the first wide basis.
+use Rattle.std.specs.Prelude.{◌≡◌, ℕ, ◌*ℤ◌, []}
+use Rattle.md_math.specs.Divisors.{IsLeastTerms}
+use Rattle.md_math.specs.Lists.{number_at}
+use Rattle.md_num.specs.declared.frac.Frac.{Frac}
+use Rattle.md_setting.specs.Setting.{GeneralSetting}
+use Rattle.md_setting.specs.Meaning.{total_of}
+use Rattle.md_mech.specs.declared.mechanism.Mechanism.{Mechanism}
+use Rattle.md_mech.specs.Optimal.{worth_of}
+use Rattle.md_lp.specs.Program.{Program}
+use Rattle.md_cert.specs.declared.certificate.Certificate.{Certificate}
+use Rattle.md_cert.specs.declared.certificate.Certificate.TheVariants as certificates
+use Rattle.md_rows.specs.ProgramOf.{IsProgramOf}
+use Rattle.md_rows.specs.Points.{mechanism_of}
+use Rattle.md_claims.specs.Rays.{pays_along}
+use Rattle.md_simplex.specs.declared.end.End.{End}
+use Rattle.md_simplex.specs.Runs.{IsRun, IsFirstWideOf}
+use Rattle.md_answer.specs.declared.answer.Answer.{Answer}
+use Rattle.md_answer.specs.declared.answer.Answer.TheVariants.{Optimal, Infeasible, Unbounded, TooWide}
+
+-- the value of the mechanism: what the designer gets over all profiles by weight, over the denominator times the weight
+-- of all profiles, in least terms
+pub record IsValueOf (s : GeneralSetting) (m : Mechanism) (value : Frac) : Type 0 where
+  pub is_value : value.num *ℤ (m.den *ℤ total_of s) ≡ worth_of s m *ℤ value.den
+  pub least : IsLeastTerms value.num value.den
+
+-- the answer tells a certificate of the setting's program: its point as a mechanism with its value, its ray as payments,
+-- and its multipliers as they are
+abbrev pub TellsCertificate : GeneralSetting → Certificate → Answer → Type 0
+TellsCertificate s (certificates.Optimal den point bound) (Optimal value m told) = (m ≡ mechanism_of s den (number_at point)) × IsValueOf s m value × (told ≡ bound)
+TellsCertificate s (certificates.Infeasible face) (Infeasible told) = told ≡ face
+TellsCertificate s (certificates.Unbounded den point ray) (Unbounded m pays) = (m ≡ mechanism_of s den (number_at point)) × (pays ≡ pays_along s (number_at ray))
+TellsCertificate s _ _ = ⊥
+
+-- no basis of the program's path is wide, and the answer tells what is read off the last dictionary
+pub record TellsRun (s : GeneralSetting) (p : Program) (width : ℕ) (answer : Answer) : Type 0 where
+  pub end : End
+  pub run : IsRun p width end
+  pub tells : TellsCertificate s end.certificate answer
+
+-- the answer that the path of the program gives
+abbrev pub IsSolvedBy : GeneralSetting → Program → ℕ → Answer → Type 0
+IsSolvedBy s p width (TooWide cuts path entry) = (cuts ≡ []) × IsFirstWideOf p width path entry
+IsSolvedBy s p width answer = TellsRun s p width answer
+
+-- the answer that the path of the setting's program gives
+pub record IsSolved (s : GeneralSetting) (width : ℕ) (answer : Answer) : Type 0 where
+  pub program : Program
+  pub is_program : IsProgramOf s program
+  pub solved : IsSolvedBy s program width answer

@@ -1,0 +1,12 @@
+//! General settings solved: an optimal mechanism with its value and bound, or why there is none.
+#![tactic(auto)]
+
+mod answers;
+mod payments;
+mod solving;
+mod values;
+
+pub use solving::solve;
+
+#[cfg(test)]
+mod tests;

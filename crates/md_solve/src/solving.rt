@@ -1,0 +1,90 @@
+//! The path of a setting's program, and what is told of its end.
+ghost use Rattle.std.specs.Prelude.{◌≡◌, ◌↔◌, List, IfOk};
+ghost use Rattle.md_lp.specs.Program.{Program};
+ghost use Rattle.md_lp.specs.declared.pivot.Pivot.{Pivot};
+ghost use Rattle.md_lp.specs.declared.entry.Entry.{Entry};
+ghost use Rattle.md_mech.specs.Admissible.{IsAdmissible};
+ghost use Rattle.md_mech.specs.Optimal.{Grows, IsInfeasible, IsOptimal};
+ghost use Rattle.md_rows.specs.ProgramOf.{IsProgramOf};
+ghost use Rattle.md_simplex.specs.declared.step.Step.{Step};
+ghost use Rattle.md_simplex.specs.Runs.{BeginsPath, IsNarrowPath, IsPathOf, IsWideAt, basis_of};
+ghost use Rattle.md_answer.specs.AnswerTo.{IsAnswerTo};
+ghost use Rattle.md_answer.specs.declared.answer.Answer.{Answer};
+ghost use Rattle.md_solve.specs.Answered.{ClaimsEnd, ClaimsInfeasible, ClaimsUnbounded, IsMechanismAlone, IsTooWide, WhereInfeasible, WhereOptimal, WhereUnbounded};
+ghost use Rattle.md_solve.specs.Bounds.{HasNoBound};
+ghost use Rattle.md_solve.specs.Certifies.{IsCertifiedAnswer};
+ghost use Rattle.md_solve.specs.Shown.{IsSo};
+ghost use Rattle.md_solve.specs.Solved.{IsSolved, IsSolvedBy, IsValueOf};
+
+use crate::answers::told;
+use md_answer::Answer;
+use md_lp::{Lp, Sets};
+use md_num::{NoMemory, Width};
+use md_rows::rows_of;
+use md_setting::Setting;
+use md_simplex::{SimplexError, run};
+use std::alloc::Global;
+
+/// Solves a setting: the path of its linear program is followed to its end, and what is read off there is told.
+/// The answer is an optimal mechanism with its value and multipliers that show that no mechanism has a greater one;
+/// or multipliers that show that no mechanism is admissible; or a mechanism with payments that may be added to it again
+/// and again with a gain each time. Where a basis of the path has an entry that is too wide, the pivots to the first such
+/// basis and its first such entry are told instead.
+pub fn solve(alloc: Global, setting: &Setting, width: Width) -> Result<Answer, NoMemory>
+    ensures solved { IfOk result (IsSolved setting.now width) }
+
+    // A setting and a width have one answer.
+    ensures only { (other : Answer) → IsSolved setting.now width other → IfOk result (λ answer. answer ≡ other) }
+
+    // What is claimed is so, over mechanisms of any denominator, with numbers of any size.
+    ensures optimal { IfOk result (WhereOptimal (λ value mechanism bound. IsOptimal setting.now mechanism)) }
+    ensures value { IfOk result (WhereOptimal (λ value mechanism bound. IsValueOf setting.now mechanism value)) }
+    ensures infeasible { IfOk result (WhereInfeasible (λ face. IsInfeasible setting.now)) }
+    ensures unbounded { IfOk result (WhereUnbounded (λ mechanism ray. Grows setting.now mechanism ray)) }
+    ensures admissible { IfOk result (WhereUnbounded (λ mechanism ray. IsAdmissible setting.now mechanism)) }
+
+    // A mechanism of which nothing is claimed is never the answer.
+    ensures claims { IfOk result (λ answer. ¬ IsMechanismAlone answer) }
+
+    // Where no basis of the path is wide, the claim is that of its end, and it is made wherever it is so.
+    ensures narrow { (p : Program) (pivots : List Pivot) (step : Step) → IsProgramOf setting.now p → IsPathOf p pivots step → IsNarrowPath p width pivots → IfOk result (ClaimsEnd step) }
+    ensures none { IfOk result (λ answer. ¬ IsTooWide answer → ClaimsInfeasible answer ↔ IsInfeasible setting.now) }
+    ensures no_bound { IfOk result (λ answer. ¬ IsTooWide answer → ClaimsUnbounded answer ↔ HasNoBound setting.now) }
+
+    // Where one is wide, this is told, and nothing else.
+    ensures wide { (p : Program) (pivots : List Pivot) (entry : Entry) → IsProgramOf setting.now p → BeginsPath p pivots → IsWideAt p width (basis_of p pivots) entry → IfOk result IsTooWide }
+
+    // In whatever terms the setting's program is written, its path gives this answer, which is a certificate of its claim.
+    ensures every_program { (p : Program) → IsProgramOf setting.now p → IfOk result (IsSolvedBy setting.now p width) }
+    ensures certified { (p : Program) → IsProgramOf setting.now p → IfOk result (IsCertifiedAnswer setting.now p) }
+
+    // The answer can be written, and what is written is read as the same answer.
+    ensures writable { IfOk result (IsAnswerTo setting.now) }
+{
+    let _shaped = setting.space();
+    let lp = rows_of(alloc, setting)?;
+    answer(alloc, setting, &lp, width)
+}
+
+// What is told of the path of the setting's program.
+fn answer(alloc: Global, setting: &Setting, lp: &Lp, width: Width) -> Result<Answer, NoMemory>
+    requires { IsProgramOf setting.now lp.now }
+    ensures solved { IfOk result (IsSolvedBy setting.now lp.now width) }
+    ensures so { IfOk result (IsSo setting.now) }
+    ensures narrow { (pivots : List Pivot) (step : Step) → IsPathOf lp.now pivots step → IsNarrowPath lp.now width pivots → IfOk result (ClaimsEnd step) }
+    ensures wide { (pivots : List Pivot) (entry : Entry) → BeginsPath lp.now pivots → IsWideAt lp.now width (basis_of lp.now pivots) entry → IfOk result IsTooWide }
+    ensures certified { IfOk result (IsCertifiedAnswer setting.now lp.now) }
+    ensures writable { IfOk result (IsAnswerTo setting.now) }
+{
+    let _shaped = lp.rows();
+    let _range = width.limit();
+    match run(alloc, lp, width) {
+        Ok(end) => told(alloc, setting, lp, end.certificate),
+        Err(SimplexError::TooWide { path, entry }) => Ok(Answer::TooWide {
+            cuts: Sets::new(alloc),
+            path,
+            entry,
+        }),
+        Err(SimplexError::Memory) => Err(NoMemory),
+    }
+}

@@ -1,0 +1,121 @@
+//! Settings solved. The texts of the answers come from outside.
+use super::*;
+use md_answer::write_answer;
+use md_num::Width;
+use md_setting::{Rational, RawAgent, RawSetting, Setting, Truth};
+use std::alloc::{AllocError, Global};
+use std::test::Fail;
+
+fn names(alloc: Global, texts: &[&str]) -> Result<Vec<String>, AllocError> {
+    let mut names = Vec::new(alloc);
+    for text in texts {
+        names.push(String::from_str(alloc, text)?)?;
+    }
+    Ok(names)
+}
+
+// A seller, and a buyer whose value is 1 or `high`.
+fn buyer(alloc: Global, high: i64) -> Result<RawSetting, AllocError> {
+    let agent = RawAgent {
+        name: String::from_str(alloc, "buyer")?,
+        types: names(alloc, &["low", "high"])?,
+        weights: vec![in alloc; 1, 1]?,
+        outside: vec![in alloc; 0, 0]?,
+        utility: vec![in alloc; vec![in alloc; 0, 1]?, vec![in alloc; 0, high]?]?,
+    };
+    Ok(RawSetting {
+        agents: vec![in alloc; agent]?,
+        outcomes: names(alloc, &["keep", "sell"])?,
+        prior: None,
+        values: vec![in alloc; 0, 0]?,
+        welfare: 0,
+        revenue: 1,
+        truth: Truth::Dominant,
+        rational: Rational::ExPost,
+        payments: true,
+        no_deficit: false,
+    })
+}
+
+// One agent of one type, which has 1 outside, and one outcome, which gives it nothing.
+fn lone(alloc: Global, rational: Rational, payments: bool) -> Result<RawSetting, AllocError> {
+    let agent = RawAgent {
+        name: String::from_str(alloc, "a")?,
+        types: names(alloc, &["t"])?,
+        weights: vec![in alloc; 1]?,
+        outside: vec![in alloc; 1]?,
+        utility: vec![in alloc; vec![in alloc; 0]?]?,
+    };
+    Ok(RawSetting {
+        agents: vec![in alloc; agent]?,
+        outcomes: names(alloc, &["only"])?,
+        prior: None,
+        values: vec![in alloc; 0]?,
+        welfare: 0,
+        revenue: 1,
+        truth: Truth::Dominant,
+        rational,
+        payments,
+        no_deficit: false,
+    })
+}
+
+// What is to be solved.
+#[derive(Clone, Copy)]
+enum Problem {
+    Buyer(i64),
+    Unmet,
+    Unbounded,
+}
+
+fn raw(alloc: Global, problem: Problem) -> Result<RawSetting, AllocError> {
+    match problem {
+        Problem::Buyer(high) => buyer(alloc, high),
+        Problem::Unmet => lone(alloc, Rational::ExPost, false),
+        Problem::Unbounded => lone(alloc, Rational::None, true),
+    }
+}
+
+// A setting, a width in bits, and the text of the answer.
+static SOLVED: [(Problem, u8, &str); 5] = [
+    (
+        Problem::Buyer(3),
+        62,
+        "answer,1,general,optimal\nvalue,3,2\ntable,1\nlottery,low,1,0\nlottery,high,0,1\npay,low,0\npay,high,3\nbound,2\nrow,1,0,1\nrow,2,0,3\nrow,3,0,1\nrow,5,0,6\nend\n",
+    ),
+    (
+        Problem::Unmet,
+        62,
+        "answer,1,general,infeasible\nrow,0,1\nend\n",
+    ),
+    (
+        Problem::Unbounded,
+        62,
+        "answer,1,general,unbounded\ntable,1\nlottery,t,1\npay,t,0\nray,t,1\nend\n",
+    ),
+    (
+        Problem::Buyer(20),
+        4,
+        "answer,1,general,toowide\nwide,1,1,20,1\nend\n",
+    ),
+    (
+        Problem::Buyer(5),
+        4,
+        "answer,1,general,toowide\npivot,4,0\npivot,1,1\nwide,3,3,-25,5\nend\n",
+    ),
+];
+
+#[test]
+fn solves_settings(rt: HostRuntime) -> Result<(), Fail> {
+    let alloc = rt.alloc();
+    for (problem, bits, text) in &SOLVED {
+        let Ok(setting) = Setting::new(alloc, raw(alloc, *problem)?) else {
+            return Err("no setting")?;
+        };
+        let width = Width::new(*bits).ok_or("no width")?;
+        let answer = solve(alloc, &setting, width)?;
+        let written = write_answer(alloc, &setting, &answer)?;
+        assert!(rt; written.as_slice() == text.as_bytes(), "at {text}");
+    }
+    Ok(())
+}

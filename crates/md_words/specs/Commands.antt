@@ -1,0 +1,38 @@
+-- The commands: their names, and the form of the arguments of each.
+--
+--   audit SETTING ANSWER
+--   rows SETTING
+--   check SETTING ANSWER
+--   solve SETTING [--width W]
+--   replay SETTING PIVOTS [--width W]
+use Rattle.std.specs.Prelude.{List, [], ◌∷◌, Option, Some, None, codes, if◌then◌else◌}
+use Rattle.std.specs.Str.{bytes_eq}
+use Rattle.clap.specs.Words.{Text}
+use Rattle.md_words.specs.declared.command.Command.{Command}
+use Rattle.md_words.specs.declared.command.Command.TheVariants.{Audit, Rows, Check, Solve, Replay}
+use Rattle.md_words.specs.declared.form.Form.{Form}
+use Rattle.md_words.specs.declared.form.Form.TheVariants.{One, OneWidth, Two, TwoWidth}
+
+-- The command of a name. A text is a list of bytes, and the name is compared byte by byte: a part of a name, or one in
+-- other letters, is none.
+abbrev pub command_named : Text → Option Command
+command_named word =
+    if bytes_eq word (codes "audit") then Some Audit
+    else (if bytes_eq word (codes "rows") then Some Rows
+    else (if bytes_eq word (codes "check") then Some Check
+    else (if bytes_eq word (codes "solve") then Some Solve
+    else (if bytes_eq word (codes "replay") then Some Replay
+    else None))))
+
+-- the command that the first word names; none where there is no word, or it is no name
+abbrev pub command_in : List Text → Option Command
+command_in [] = None
+command_in (word ∷ more) = command_named word
+
+-- how many arguments have to be there, and whether a width may be asked for
+abbrev pub form_of : Command → Form
+form_of Rows = One
+form_of Solve = OneWidth
+form_of Audit = Two
+form_of Check = Two
+form_of Replay = TwoWidth

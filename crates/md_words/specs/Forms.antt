@@ -1,0 +1,39 @@
+-- The forms of arguments, each with the simple command of clap that reads it.
+--
+-- clap sees an argument as a rule. `new_rule id`, its rule of `Arg::new(id)`, says no more than that the argument is
+-- found under this id: it is known by its place among the words, takes one value, and need not be there. What is
+-- written below is all that differs from that.
+use Rattle.std.specs.Prelude.{◌==◌, List, length, Option, Some, None, true, codes, if◌then◌else◌}
+use Rattle.clap.specs.Words.{App, Row, Rule, Text, fault_of, matches_of, new_app, new_rule, with_rule}
+use Rattle.md_words.specs.declared.form.Form.{Form}
+use Rattle.md_words.specs.declared.form.Form.TheVariants.{One, OneWidth, Two, TwoWidth}
+
+-- an argument known by its place, which has to be there
+abbrev pub place_rule : Text → Rule
+place_rule id = record (new_rule id) { required = true }
+
+-- the option --width, which takes one value and need not be there
+abbrev pub width_rule : Rule
+width_rule = record (new_rule (codes "width")) { long = Some (codes "width") }
+
+-- one argument, which has to be there; and two
+abbrev pub one_place : App
+one_place = with_rule (new_app (codes "mechdes")) (place_rule (codes "first"))
+
+abbrev pub two_places : App
+two_places = with_rule one_place (place_rule (codes "second"))
+
+-- the command of clap that reads arguments of a form
+abbrev pub app_of_form : Form → App
+app_of_form One = one_place
+app_of_form OneWidth = with_rule one_place width_rule
+app_of_form Two = two_places
+app_of_form TwoWidth = with_rule two_places width_rule
+
+-- The arguments that a command of clap finds in the words: a row for each, with its id and values. None where it
+-- refuses the words, be it by a call for help.
+--
+-- Both words are clap's own: `fault_of` lists the reasons to refuse, and `matches_of` gives the rows. Each passes over
+-- the first of the words, since the program's name stands there for clap. Here it is the word that named the command.
+abbrev pub arguments_of : App → List Text → Option (List Row)
+arguments_of app words = if length (fault_of app words) == 0 then Some (matches_of app words) else None

@@ -1,0 +1,4 @@
+pub mod Forms
+pub mod Commands
+pub mod Words
+pub mod Orders

@@ -1,0 +1,53 @@
+//! The commands by their names, and the form that the arguments of each have.
+ghost use Rattle.std.specs.Prelude.{◌≡◌, map, string_bytes};
+ghost use Rattle.md_words.specs.Commands.{command_in, command_named, form_of};
+
+use crate::form::Form;
+
+/// A command, apart from its arguments.
+#[derive(Clone, Copy)]
+pub(crate) enum Command {
+    /// `audit SETTING ANSWER`
+    Audit,
+    /// `rows SETTING`
+    Rows,
+    /// `check SETTING ANSWER`
+    Check,
+    /// `solve SETTING [--width W]`
+    Solve,
+    /// `replay SETTING PIVOTS [--width W]`
+    Replay,
+}
+
+/// The command that the first word of a call names, if there is one and it does. It takes no memory.
+pub(crate) fn command_in(words: &[String]) -> Option<Command>
+    ensures { result ≡ command_in (map string_bytes words.now) }
+{
+    named(words.first()?.as_str())
+}
+
+// The command of a name.
+fn named(word: &str) -> Option<Command>
+    ensures { result ≡ command_named word.now }
+{
+    match word {
+        "audit" => Some(Command::Audit),
+        "rows" => Some(Command::Rows),
+        "check" => Some(Command::Check),
+        "solve" => Some(Command::Solve),
+        "replay" => Some(Command::Replay),
+        _ => None,
+    }
+}
+
+/// The form of a command's arguments.
+pub(crate) fn form(command: Command) -> Form
+    ensures { result ≡ form_of command }
+{
+    match command {
+        Command::Rows => Form::One,
+        Command::Solve => Form::OneWidth,
+        Command::Audit | Command::Check => Form::Two,
+        Command::Replay => Form::TwoWidth,
+    }
+}

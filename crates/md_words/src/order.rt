@@ -1,0 +1,134 @@
+//! What the words of a call ask for.
+ghost use Rattle.std.specs.Prelude.{◌≡◌, IfOk, IfErr, IsSome, map, option_map, string_bytes};
+ghost use Rattle.clap.specs.Words.{found_of, rows_of};
+ghost use Rattle.md_words.specs.Commands.{command_in};
+ghost use Rattle.md_words.specs.Orders.{asked};
+ghost use Rattle.md_words.specs.Words.{command_of, order_in, order_of_found, width_in, width_of, width_of_number};
+
+use crate::command::{Command, command_in, form};
+use crate::cut::{cut, text_of};
+use crate::form::reader_of;
+use clap::ArgMatches;
+use md_num::{NoMemory, Width, read_whole};
+use std::alloc::Global;
+
+/// The width where none is asked for.
+const GREATEST_WIDTH: u8 = 62;
+
+/// A command with the names of its files and its width.
+#[derive(Clone, Copy, Debug, PartialEq, Eq)]
+pub enum Order<'a> {
+    /// Tries a mechanism against all conditions of a setting.
+    Audit {
+        setting: &'a str,
+        answer: &'a str,
+    },
+    /// Prints the linear program of a setting.
+    Rows {
+        setting: &'a str,
+    },
+    /// Checks an answer about a setting.
+    Check {
+        setting: &'a str,
+        answer: &'a str,
+    },
+    /// Solves a setting within a width.
+    Solve {
+        setting: &'a str,
+        width: Width,
+    },
+    /// Carries out pivots on the linear program of a setting within a width.
+    Replay {
+        setting: &'a str,
+        pivots: &'a str,
+        width: Width,
+    },
+}
+
+/// What the words of a call ask for, the first of which names the command.
+///
+/// None where they are no command: the first is missing or no name, `clap` refuses the rest, a call for help included,
+/// or a width is no whole number from 4 to 62.
+pub fn order_of<'a>(alloc: Global, words: &'a [String]) -> Result<Option<Order<'a>>, NoMemory>
+    // The order that the definition gives for the words, and none where it gives none.
+    ensures asked { IfOk result (λ order. option_map asked order ≡ command_of (map string_bytes words.entry.now)) }
+
+    // Want of memory comes only where the first word names a command: a call without words, or of an unknown name, is
+    // always answered.
+    ensures known { IfErr result (λ _. IsSome (command_in (map string_bytes words.entry.now))) }
+{
+    match command_in(words) {
+        Some(command) => order_for(alloc, command, words),
+        None => Ok(None),
+    }
+}
+
+// What the words ask of a command.
+fn order_for<'a>(
+    alloc: Global,
+    command: Command,
+    words: &'a [String],
+) -> Result<Option<Order<'a>>, NoMemory>
+    ensures { IfOk result (λ order. option_map asked order ≡ order_in command (map string_bytes words.entry.now)) }
+{
+    let reader = reader_of(alloc, form(command))?;
+    match cut(reader, words) {
+        Ok(Some(matches)) => Ok(order_from(command, &matches)),
+        Ok(None) => Ok(None),
+        Err(error) => Err(error),
+    }
+}
+
+// The command with the arguments that were found.
+fn order_from<'a>(command: Command, matches: &ArgMatches<'a>) -> Option<Order<'a>>
+    ensures { option_map asked result ≡ order_of_found command (rows_of (found_of matches.now)) }
+{
+    let setting = text_of(matches, "first")?;
+    match command {
+        Command::Audit => Some(Order::Audit {
+            setting,
+            answer: text_of(matches, "second")?,
+        }),
+        Command::Rows => Some(Order::Rows { setting }),
+        Command::Check => Some(Order::Check {
+            setting,
+            answer: text_of(matches, "second")?,
+        }),
+        Command::Solve => Some(Order::Solve {
+            setting,
+            width: width_from(matches)?,
+        }),
+        Command::Replay => Some(Order::Replay {
+            setting,
+            pivots: text_of(matches, "second")?,
+            width: width_from(matches)?,
+        }),
+    }
+}
+
+// The width that was asked for, or the greatest one.
+fn width_from(matches: &ArgMatches<'_>) -> Option<Width>
+    ensures { result ≡ width_in (rows_of (found_of matches.now)) }
+{
+    match text_of(matches, "width") {
+        Some(text) => read_width(text),
+        None => Width::new(GREATEST_WIDTH),
+    }
+}
+
+// The width that a text says.
+fn read_width(text: &str) -> Option<Width>
+    ensures { result ≡ width_of text.now }
+{
+    match read_whole(text.as_bytes(), 126) {
+        Ok(bits) => width_of_number(bits),
+        Err(_) => None,
+    }
+}
+
+// A number as a width.
+fn width_of_number(bits: i128) -> Option<Width>
+    ensures { result ≡ width_of_number bits }
+{
+    Width::new(u8::try_from(bits).ok()?)
+}
