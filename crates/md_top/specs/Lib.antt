@@ -1,8 +1,10 @@
-pub mod Words
-pub mod Orders
 pub mod Saying
 pub mod Texts
 pub mod Refused
 pub mod Reading
 pub mod Verdicts
+pub mod Headline
+pub mod Solving
+pub mod Replaying
 pub mod Reply
+pub mod Promises

@@ -1,13 +1,9 @@
 -- The status and the line of each refusal.
 use Rattle.std.specs.Prelude.{◌≡◌, ◌≢◌, ◌⊎◌, ℕ, List, codes}
-use Rattle.md_toml.specs.declared.refusal.SettingRefusal.{SettingRefusal}
-use Rattle.md_toml.specs.declared.refusal.SettingRefusal.TheVariants as setting
-use Rattle.md_answer.specs.declared.answer.AnswerRefusal.{AnswerRefusal}
-use Rattle.md_answer.specs.declared.answer.AnswerRefusal.TheVariants as answer
 use Rattle.md_top.specs.declared.refusal.Refusal.{Refusal}
-use Rattle.md_top.specs.declared.refusal.Refusal.TheVariants.{Usage, SettingTooLong, Setting, OtherKind, AnswerTooLong, Answer, NoTable, ReadFault, Memory}
+use Rattle.md_top.specs.declared.refusal.Refusal.TheVariants.{Usage, SettingTooLong, Setting, OtherKind, AnswerTooLong, Answer, NoTable, Pivot, ReadFault, Memory}
 use Rattle.md_top.specs.Saying.{Saying}
-use Rattle.md_top.specs.Texts.{line, want_of_memory, setting_text, answer_text}
+use Rattle.md_top.specs.Texts.{line, want_of_memory, setting_text, answer_text, pivot_text}
 
 abbrev pub status_of : Refusal → ℕ
 status_of Usage = 64
@@ -17,6 +13,7 @@ status_of OtherKind = 65
 status_of AnswerTooLong = 66
 status_of (Answer _) = 66
 status_of NoTable = 66
+status_of (Pivot _) = 67
 status_of ReadFault = 70
 status_of Memory = 72
 
@@ -28,6 +25,7 @@ text_of OtherKind = line (codes "setting refused: other kind")
 text_of AnswerTooLong = line (codes "answer refused: too long")
 text_of (Answer refusal) = answer_text refusal
 text_of NoTable = line (codes "answer refused: no table")
+text_of (Pivot number) = pivot_text number
 text_of ReadFault = line (codes "read fault")
 text_of Memory = want_of_memory
 

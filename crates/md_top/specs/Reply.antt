@@ -1,9 +1,9 @@
 -- What each command says of the files that it names.
-use Rattle.std.specs.Prelude.{◌≡◌, ◌≢◌, ◌⊎◌, ◌++◌, ◌∷◌, [], ℕ, ℤ, List, Option, None, Some, Result, Ok, Err, codes, slice_get}
+use Rattle.std.specs.Prelude.{◌≡◌, ◌≢◌, ◌⊎◌, ◌++◌, ◌∷◌, [], ℕ, ℤ, List, Option, None, Some, IsSome, Result, Ok, Err, codes}
 use Rattle.std.specs.Option.{ForSome}
 use Rattle.md_num.specs.WholeText.{text_of}
-use Rattle.md_num.specs.declared.frac.Frac.{Frac}
-use Rattle.md_top.specs.Words.{Order, audit, rows, check}
+use Rattle.md_words.specs.Commands.{command_in}
+use Rattle.md_words.specs.Words.{Order, audit, rows, check, solve, replay, command_of}
 use Rattle.md_setting.specs.Setting.{GeneralSetting}
 use Rattle.md_setting.specs.declared.file.SettingFile.{SettingFile}
 use Rattle.md_setting.specs.declared.file.SettingFile.TheVariants.{General, Auction}
@@ -12,10 +12,12 @@ use Rattle.md_toml.specs.declared.refusal.SettingRefusal.{SettingRefusal}
 use Rattle.md_mech.specs.declared.broken.Broken.{Broken}
 use Rattle.md_mech.specs.declared.mechanism.Mechanism.{Mechanism}
 use Rattle.md_mech.specs.Admissible.{IsAdmissible}
-use Rattle.md_mech.specs.Rows.{Row, IsFirstBroken, rows_of}
+use Rattle.md_mech.specs.Rows.{IsFirstBroken, rows_of}
 use Rattle.md_mech.specs.RowName.{name_of}
 use Rattle.md_listing.specs.Listing.{IsListing}
 use Rattle.md_answer.specs.Answers.{answer_of}
+use Rattle.md_answer.specs.Pivots.{pivots_of}
+use Rattle.md_answer.specs.declared.pivots.Pivots.{Pivots}
 use Rattle.md_answer.specs.declared.answer.Answer.{Answer}
 use Rattle.md_answer.specs.declared.answer.Answer.TheVariants.{Table, Optimal, Infeasible, Unbounded, TooWide}
 use Rattle.md_answer.specs.declared.answer.AnswerRefusal.{AnswerRefusal}
@@ -29,6 +31,9 @@ use Rattle.md_top.specs.Saying.{Saying, said}
 use Rattle.md_top.specs.Refused.{refused}
 use Rattle.md_top.specs.Reading.{file_of}
 use Rattle.md_top.specs.Verdicts.{TellsVerdict}
+use Rattle.md_top.specs.Headline.{IsSolveStatus}
+use Rattle.md_top.specs.Solving.{IsSolving}
+use Rattle.md_top.specs.Replaying.{IsReplaying, IsReplayStatus, IsPivotRefused}
 
 -- the greatest length of a setting file, and of a second file
 abbrev pub setting_limit : ℕ
@@ -80,6 +85,15 @@ answer_or_refusal (Err e) = Err (refusal.Answer e)
 abbrev pub answer_in : GeneralSetting → List ℕ → Result Answer Refusal
 answer_in s bytes =
     and_then (file_of answer_limit refusal.AnswerTooLong bytes) (λ short. answer_or_refusal (answer_of s short))
+
+abbrev pub pivots_or_refusal : Result Pivots AnswerRefusal → Result Pivots Refusal
+pivots_or_refusal (Ok pivots) = Ok pivots
+pivots_or_refusal (Err e) = Err (refusal.Answer e)
+
+-- the pivots that a second file lists, or the first reason to refuse it
+abbrev pub pivots_in : List ℕ → Result Pivots Refusal
+pivots_in bytes =
+    and_then (file_of answer_limit refusal.AnswerTooLong bytes) (λ short. pivots_or_refusal (pivots_of short))
 
 -- ---- audit
 
@@ -149,6 +163,16 @@ IsCheck s bytes saying = IsCheckOf s (answer_in s bytes) saying
 abbrev pub IsCheckStatus : ℕ → Type 0
 IsCheckStatus status = (status ≡ 0) ⊎ ((status ≡ 20) ⊎ (status ≡ 22))
 
+-- ---- replay
+
+-- what `replay` says of a setting and what the second file says
+abbrev pub IsReplayOf : ℕ → GeneralSetting → Result Pivots Refusal → Saying → Type 0
+IsReplayOf width s (Ok pivots) saying = IsReplaying s width pivots.path saying ⊎ IsPivotRefused s width pivots.path saying
+IsReplayOf width s (Err e) saying = saying ≡ refused e
+
+abbrev pub IsReplaySaying : ℕ → GeneralSetting → List ℕ → Saying → Type 0
+IsReplaySaying width s bytes saying = IsReplayOf width s (pivots_in bytes) saying
+
 -- ---- commands
 
 -- What a command says of its one file: P where a setting was read.
@@ -177,21 +201,40 @@ abbrev pub IsReply : Order → (List ℕ → Option (List ℕ)) → Saying → T
 IsReply (audit setting answer) content saying = IsReplyToTwo IsAudit IsAuditStatus setting answer content saying
 IsReply (rows setting) content saying = IsReplyToOne IsRows IsRowsStatus setting content saying
 IsReply (check setting answer) content saying = IsReplyToTwo IsCheck IsCheckStatus setting answer content saying
+IsReply (solve setting width) content saying = IsReplyToOne (λ s. IsSolving s width) IsSolveStatus setting content saying
+IsReply (replay setting pivots width) content saying = IsReplyToTwo (IsReplaySaying width) IsReplayStatus setting pivots content saying
 
 -- the count of one of the command's names rose
 abbrev pub HasFaulted : Order → (List ℕ → ℕ) → (List ℕ → ℕ) → Type 0
 HasFaulted (audit setting answer) before after = Rose (before setting) (after setting) ⊎ Rose (before answer) (after answer)
 HasFaulted (rows setting) before after = Rose (before setting) (after setting)
 HasFaulted (check setting answer) before after = Rose (before setting) (after setting) ⊎ Rose (before answer) (after answer)
+HasFaulted (solve setting width) before after = Rose (before setting) (after setting)
+HasFaulted (replay setting pivots width) before after = Rose (before setting) (after setting) ⊎ Rose (before pivots) (after pivots)
 
--- What a call says: of words that are no command, that; of a command, its reply, unless a read of one of its files
--- failed or memory ran out. No count of faults changes but where a read failed.
-abbrev pub IsSaid : Option Order → (List ℕ → Option (List ℕ)) → (List ℕ → ℕ) → (List ℕ → ℕ) → Saying → Type 0
-IsSaid None content before after saying = (saying ≡ refused refusal.Usage) × ((name : List ℕ) → after name ≡ before name)
-IsSaid (Some order) content before after saying =
-    (IsReply order content saying × ((name : List ℕ) → after name ≡ before name))
+-- the shelf's counts of faults stay
+abbrev pub IsQuiet : (List ℕ → ℕ) → (List ℕ → ℕ) → Type 0
+IsQuiet before after = (name : List ℕ) → after name ≡ before name
+
+-- What is said of a command: its reply, unless a read of one of its files failed or memory ran out.
+abbrev pub IsSaidOfOrder : Order → (List ℕ → Option (List ℕ)) → (List ℕ → ℕ) → (List ℕ → ℕ) → Saying → Type 0
+IsSaidOfOrder order content before after saying =
+    (IsReply order content saying × IsQuiet before after)
     ⊎ (((saying ≡ refused refusal.ReadFault) × HasFaulted order before after)
-    ⊎ ((saying ≡ refused refusal.Memory) × ((name : List ℕ) → after name ≡ before name)))
+    ⊎ ((saying ≡ refused refusal.Memory) × IsQuiet before after))
+
+-- What is said of words that are no command: that. Memory may run out before it is known, but only where the first
+-- word names a command.
+abbrev pub IsSaidOfNone : {A : Type 0} → Option A → Saying → Type 0
+IsSaidOfNone named saying = (saying ≡ refused refusal.Usage) ⊎ ((saying ≡ refused refusal.Memory) × IsSome named)
+
+abbrev pub IsSaidBy : {A : Type 0} → Option A → Option Order → (List ℕ → Option (List ℕ)) → (List ℕ → ℕ) → (List ℕ → ℕ) → Saying → Type 0
+IsSaidBy named None content before after saying = IsSaidOfNone named saying × IsQuiet before after
+IsSaidBy named (Some order) content before after saying = IsSaidOfOrder order content before after saying
+
+-- What a call says of its words, by what the shelf tells. No count of faults changes but where a read failed.
+abbrev pub IsSaid : List (List ℕ) → (List ℕ → Option (List ℕ)) → (List ℕ → ℕ) → (List ℕ → ℕ) → Saying → Type 0
+IsSaid words content before after saying = IsSaidBy (command_in words) (command_of words) content before after saying
 
 -- What came of a command: an answer or a refusal that belongs to its reply, or a fault or want of memory.
 abbrev pub IsOutcome : (Saying → Type 0) → Result Answered Refusal → Type 0

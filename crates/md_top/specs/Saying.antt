@@ -1,5 +1,5 @@
 -- What a call says: a status and a text, which goes to one of two sinks.
-use Rattle.std.specs.Prelude.{◌≡◌, ◌≢◌, ◌⊎◌, ◌++◌, ℕ, Bool, true, false, List, Option, nat_lt}
+use Rattle.std.specs.Prelude.{◌≡◌, ◌≢◌, ◌++◌, ℕ, Bool, true, false, List, Option, nat_lt}
 use Rattle.std.specs.Option.{ForSome}
 use Rattle.md_top.specs.declared.answered.Answered.{Answered}
 use Rattle.md_ports.specs.Faults.{Rose}

@@ -50,3 +50,7 @@ answer_text (answer.Cell n k) = line_on n (codes ": field " ++ (decimal k ++ 10 
 answer_text (answer.Sum n) = line_on n (codes ": sum" ++ 10 ∷ [])
 answer_text (answer.End n) = line_on n (codes ": ended" ++ 10 ∷ [])
 answer_text answer.Memory = want_of_memory
+
+-- what is said of the listed pivot of this number, which cannot be carried out
+abbrev pub pivot_text : ℕ → List ℕ
+pivot_text number = codes "mechdes: pivot " ++ (decimal number ++ (codes " refused" ++ 10 ∷ []))

@@ -1,5 +1,5 @@
 -- What is said of the verdict on an answer.
-use Rattle.std.specs.Prelude.{◌≡◌, ◌++◌, ◌∷◌, [], ℕ, ℤ, pos, List, Some, codes, slice_get}
+use Rattle.std.specs.Prelude.{◌≡◌, ◌++◌, ◌∷◌, [], ℕ, pos, List, Some, codes, slice_get}
 use Rattle.md_num.specs.WholeText.{text_of}
 use Rattle.md_records.specs.Written.{record_text}
 use Rattle.md_setting.specs.Setting.{GeneralSetting}

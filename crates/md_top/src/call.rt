@@ -1,16 +1,18 @@
 //! The whole call: from words and files to a text and a status.
 ghost use Rattle.std.specs.Prelude.{◌≡◌, ◌⊎◌, map, string_bytes};
-ghost use Rattle.md_top.specs.Reply.{IsSaid};
+ghost use Rattle.md_words.specs.Orders.{asked};
+ghost use Rattle.md_words.specs.Words.{command_of};
+ghost use Rattle.md_top.specs.Promises.{IsComplete, IsHeadlineOf};
+ghost use Rattle.md_top.specs.Reply.{IsSaid, IsSaidOfOrder};
 ghost use Rattle.md_top.specs.Saying.{Saying, IsDelivered, IsSent};
 ghost use Rattle.md_top.specs.Refused.{IsTold, refused};
 ghost use Rattle.md_top.specs.declared.refusal.Refusal.{Refusal};
-ghost use Rattle.md_top.specs.Words.{command_of};
 
 use crate::refusal::Refusal;
 use crate::run::run;
 use crate::send::send;
-use crate::words::Order;
 use md_ports::{Shelf, Sink};
+use md_words::{Order, order_of};
 use std::alloc::Global;
 
 /// Carries out the command that the words ask for, says what comes of it by one write to a sink, and gives the status
@@ -27,14 +29,59 @@ pub fn mechdes<F: Shelf, O: Sink, E: Sink>(
 ) -> u8
     // What is said belongs to the words and files, and it is delivered.
     ensures said { (saying : Saying)
-        × (IsSaid (command_of (map string_bytes words.now)) (F.content shelf.old) (F.faults shelf.old) (F.faults shelf.new) saying
+        × (IsSaid (map string_bytes words.now) (F.content shelf.old) (F.faults shelf.old) (F.faults shelf.new) saying
+        × IsDelivered saying result
+        record { before = O.written out.old; after = O.written out.new; faults_before = O.faults out.old; faults_after = O.faults out.new }
+        record { before = E.written err.old; after = E.written err.new; faults_before = E.faults err.old; faults_after = E.faults err.new }) }
+
+    // Whatever a setting file holds: a mechanism that is printed as optimal, read back from the text, is admissible, and no
+    // admissible mechanism has a greater objective; infeasible, unbounded and too wide are printed only where they are so.
+    ensures headline { IsHeadlineOf (command_of (map string_bytes words.now)) (F.content shelf.old) result
+        record { before = O.written out.old; after = O.written out.new; faults_before = O.faults out.old; faults_after = O.faults out.new } }
+
+    // A command gets its reply wherever no fault is counted and memory does not run out.
+    ensures complete { IsComplete (command_of (map string_bytes words.now)) (F.content shelf.old) (F.faults shelf.old) (F.faults shelf.new) result
+        record { before = O.written out.old; after = O.written out.new; faults_before = O.faults out.old; faults_after = O.faults out.new }
+        record { before = E.written err.old; after = E.written err.new; faults_before = E.faults err.old; faults_after = E.faults err.new } }
+{
+    call(alloc, words, shelf, out, err)
+}
+
+// Reads the words and carries them out.
+fn call<F: Shelf, O: Sink, E: Sink>(
+    alloc: Global,
+    words: &[String],
+    shelf: &mut F,
+    out: &mut O,
+    err: &mut E,
+) -> u8
+    ensures { (saying : Saying)
+        × (IsSaid (map string_bytes words.now) (F.content shelf.old) (F.faults shelf.old) (F.faults shelf.new) saying
         × IsDelivered saying result
         record { before = O.written out.old; after = O.written out.new; faults_before = O.faults out.old; faults_after = O.faults out.new }
         record { before = E.written err.old; after = E.written err.new; faults_before = E.faults err.old; faults_after = E.faults err.new }) }
 {
-    let Some(order) = Order::of_words(words) else {
-        return send(err, 64, b"mechdes: usage\n");
-    };
+    match order_of(alloc, words) {
+        Ok(Some(order)) => carry_out(alloc, &order, shelf, out, err),
+        Ok(None) => send(err, 64, b"mechdes: usage\n"),
+        Err(_) => send(err, 72, b"mechdes: want of memory\n"),
+    }
+}
+
+// Carries a command out and says what comes of it.
+fn carry_out<F: Shelf, O: Sink, E: Sink>(
+    alloc: Global,
+    order: &Order<'_>,
+    shelf: &mut F,
+    out: &mut O,
+    err: &mut E,
+) -> u8
+    ensures { (saying : Saying)
+        × (IsSaidOfOrder (asked order.now) (F.content shelf.old) (F.faults shelf.old) (F.faults shelf.new) saying
+        × IsDelivered saying result
+        record { before = O.written out.old; after = O.written out.new; faults_before = O.faults out.old; faults_after = O.faults out.new }
+        record { before = E.written err.old; after = E.written err.new; faults_before = E.faults err.old; faults_after = E.faults err.new }) }
+{
     match run(alloc, order, shelf) {
         Ok(answered) => send(out, answered.status, &answered.text),
         Err(refusal) => say_refusal(alloc, refusal, err),

@@ -7,11 +7,16 @@ mod call;
 mod check;
 mod read;
 mod refusal;
+mod replay;
 mod run;
 mod send;
 mod setting_file;
+mod solve;
+#[cfg(test)]
+mod solving_tests;
+#[cfg(test)]
+mod test_settings;
 #[cfg(test)]
 mod tests;
-mod words;
 
 pub use call::mechdes;

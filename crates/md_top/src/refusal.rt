@@ -24,6 +24,8 @@ pub enum Refusal {
     Answer(AnswerRefusal),
     /// The answer that the second file says has no mechanism.
     NoTable,
+    /// The listed pivot of this number, counted from 1, cannot be carried out.
+    Pivot(u64),
     /// A file could not be read.
     ReadFault,
     /// There is no memory left.
@@ -108,6 +110,7 @@ impl Refusal {
             Refusal::Usage => 64,
             Refusal::SettingTooLong | Refusal::Setting(_) | Refusal::OtherKind => 65,
             Refusal::AnswerTooLong | Refusal::Answer(_) | Refusal::NoTable => 66,
+            Refusal::Pivot(_) => 67,
             Refusal::ReadFault => 70,
             Refusal::Memory => 72,
         }
@@ -131,6 +134,7 @@ impl Refusal {
             ),
             Refusal::Answer(refusal) => answer_refusal_text(alloc, refusal),
             Refusal::NoTable => String::from_str(alloc, "mechdes: answer refused: no table\n"),
+            Refusal::Pivot(number) => format!(in alloc; "mechdes: pivot {number} refused\n"),
             Refusal::ReadFault => String::from_str(alloc, "mechdes: read fault\n"),
             Refusal::Memory => String::from_str(alloc, "mechdes: want of memory\n"),
         }

@@ -1,26 +1,11 @@
 //! The commands over files in memory.
 use crate::mechdes;
+use crate::test_settings::{
+    CORRELATED, ONE_TYPE, OUT_OF_REACH, PAYING, POSTED_PRICE, TAKING, TWO_OUTCOMES, VOTE,
+};
 use md_ports::{CleanShelf, CleanSink, MemShelf, MemSink};
 use std::alloc::{AllocError, Global};
 use std::test::Fail;
-
-const ONE_TYPE: &str =
-    "format = \"mechanism-setting\"\nversion = 1\nkind = \"general\"\ntruth = \"dominant\"\nrational = \"none\"\npayments = false\noutcomes = [\"only\"]\n[[agent]]\nname = \"a\"\ntypes = [\"t\"]\nweights = [1]\nutility = [[0]]\n";
-
-const POSTED_PRICE: &str =
-    "format = \"mechanism-setting\"\nversion = 1\nkind = \"general\"\ntruth = \"dominant\"\nrational = \"ex-post\"\npayments = true\noutcomes = [\"keep\", \"sell\"]\n[objective]\nrevenue = 1\n[[agent]]\nname = \"buyer\"\ntypes = [\"low\", \"high\"]\nweights = [1, 1]\nutility = [[0, 1], [0, 3]]\n";
-
-const VOTE: &str =
-    "format = \"mechanism-setting\"\nversion = 1\nkind = \"general\"\ntruth = \"dominant\"\nrational = \"none\"\npayments = false\noutcomes = [\"a\", \"b\"]\n[[agent]]\nname = \"first\"\ntypes = [\"l\", \"r\"]\nweights = [1, 1]\nutility = [[1, 0], [0, 1]]\n[[agent]]\nname = \"second\"\ntypes = [\"l\", \"r\"]\nweights = [1, 1]\nutility = [[1, 0], [0, 1]]\n";
-
-const CORRELATED: &str =
-    "format = \"mechanism-setting\"\nversion = 1\nkind = \"general\"\ntruth = \"bayes\"\nrational = \"interim\"\npayments = true\noutcomes = [\"keep\", \"first\", \"second\"]\nprior = [2, 1, 1, 2]\n[objective]\nrevenue = 1\n[[agent]]\nname = \"one\"\ntypes = [\"v1\", \"v2\"]\nutility = [[0, 1, 0], [0, 2, 0]]\n[[agent]]\nname = \"two\"\ntypes = [\"v1\", \"v2\"]\nutility = [[0, 0, 1], [0, 0, 2]]\n";
-
-const OUTSIDE: &str =
-    "format = \"mechanism-setting\"\nversion = 1\nkind = \"general\"\ntruth = \"dominant\"\nrational = \"ex-post\"\npayments = false\noutcomes = [\"only\"]\n[[agent]]\nname = \"a\"\ntypes = [\"t\"]\nweights = [1]\noutside = [1]\nutility = [[0]]\n";
-
-const FREE_PAYMENTS: &str =
-    "format = \"mechanism-setting\"\nversion = 1\nkind = \"general\"\ntruth = \"dominant\"\nrational = \"none\"\npayments = true\noutcomes = [\"only\"]\n[objective]\nrevenue = 1\n[[agent]]\nname = \"a\"\ntypes = [\"t\"]\nweights = [1]\nutility = [[0]]\n";
 
 const ONE_TYPE_TABLE: &str = "answer,1,general,table\ntable,1\nlottery,t,1\nend\n";
 
@@ -128,14 +113,14 @@ static CASES: [(&str, &str, u8, &str, &str); 23] = [
         "mechdes: answer refused: line 4: field 2\n",
     ),
     (
-        OUTSIDE,
+        OUT_OF_REACH,
         "answer,1,general,infeasible\nrow,0,1\nend\n",
         66,
         "",
         "mechdes: answer refused: no table\n",
     ),
     (
-        FREE_PAYMENTS,
+        TAKING,
         "answer,1,general,unbounded\ntable,1\nlottery,t,1\npay,t,0\nray,t,1\nend\n",
         0,
         "admissible\n",
@@ -238,21 +223,6 @@ fn tells_faults_and_wrong_words(rt: HostRuntime) -> Result<(), Fail> {
     assert!(rt; out.bytes().is_empty());
     Ok(())
 }
-
-// One agent that has 1 outside, and gets 0 at the one outcome.
-const OUT_OF_REACH: &str =
-    "format = \"mechanism-setting\"\nversion = 1\nkind = \"general\"\ntruth = \"dominant\"\nrational = \"ex-post\"\npayments = false\noutcomes = [\"only\"]\n[[agent]]\nname = \"a\"\ntypes = [\"t\"]\nweights = [1]\noutside = [1]\nutility = [[0]]\n";
-
-// The designer would like the outcome that gives the agent less than it has outside.
-const TWO_OUTCOMES: &str =
-    "format = \"mechanism-setting\"\nversion = 1\nkind = \"general\"\ntruth = \"dominant\"\nrational = \"ex-post\"\npayments = false\noutcomes = [\"x\", \"y\"]\n[objective]\nvalue = [0, 5]\n[[agent]]\nname = \"a\"\ntypes = [\"t\"]\nweights = [1]\noutside = [1]\nutility = [[1, 0]]\n";
-
-// The designer would like to pay, and may not pay more than it takes.
-const PAYING: &str =
-    "format = \"mechanism-setting\"\nversion = 1\nkind = \"general\"\ntruth = \"dominant\"\nrational = \"none\"\npayments = true\nno_deficit = true\noutcomes = [\"only\"]\n[objective]\nrevenue = -1\n[[agent]]\nname = \"a\"\ntypes = [\"t\"]\nweights = [1]\nutility = [[0]]\n";
-
-const TAKING: &str =
-    "format = \"mechanism-setting\"\nversion = 1\nkind = \"general\"\ntruth = \"dominant\"\nrational = \"none\"\npayments = true\noutcomes = [\"only\"]\n[objective]\nrevenue = 1\n[[agent]]\nname = \"a\"\ntypes = [\"t\"]\nweights = [1]\nutility = [[0]]\n";
 
 // A setting and its linear program.
 static PROGRAMS: [(&str, &str); 2] = [

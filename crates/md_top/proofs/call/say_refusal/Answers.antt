@@ -1,4 +1,4 @@
-use Rattle.std.proofs.Common.{◌≡◌, sym, refl, inl, inr}
+use Rattle.std.proofs.Common.{sym, refl, inl, inr}
 use Rattle.md_top.specs.declared.refusal.Refusal.TheVariants as refusal
 use Rattle.md_top.proofs.call.say_refusal.Goals as goal
 

@@ -1,5 +1,3 @@
-use Rattle.std.proofs.Common.{◌≡◌, Ok}
-use Rattle.md_top.specs.Reply.{answer_in}
 use Rattle.md_top.proofs.Outcomes.{check-tried}
 use Rattle.md_top.proofs.run.check_file.Goals as goal
 

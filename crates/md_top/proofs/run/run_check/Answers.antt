@@ -1,8 +1,7 @@
-use Rattle.std.proofs.Common.{◌≡◌, ◌≢◌, ℕ, ◌∙◌, sym, subst, inr}
+use Rattle.std.proofs.Common.{◌∙◌, subst, inr}
 use Rattle.md_ports.specs.Faults.{Rose}
-use Rattle.md_top.specs.declared.refusal.Refusal.TheVariants as refusal
 use Rattle.md_top.specs.Reply.{IsCheck, IsCheckStatus}
-use Rattle.md_top.proofs.Outcomes.{outcome-from, setting_refused}
+use Rattle.md_top.proofs.Outcomes.{outcome-from}
 use Rattle.md_top.proofs.run.run_check.Goals as goal
 
 pub returns-clause-outcome : goal.returns-clause-outcome

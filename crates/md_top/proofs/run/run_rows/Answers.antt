@@ -1,6 +1,5 @@
-use Rattle.std.proofs.Common.{refl, inl, inr}
 use Rattle.md_top.specs.Reply.{IsRows, IsRowsStatus}
-use Rattle.md_top.proofs.Outcomes.{outcome-from_one, setting_refused_one}
+use Rattle.md_top.proofs.Outcomes.{outcome-from_one}
 use Rattle.md_top.proofs.run.run_rows.Goals as goal
 
 pub returns-in-Ok-clause-outcome : goal.returns-in-Ok-clause-outcome

@@ -1,0 +1,148 @@
+-- The promises of a call, from what it says and to whom.
+use Rattle.std.proofs.Common.{true, false, ◌≡◌, ◌<◌, ◌≤◌, ℕ, suc, List, Option, Some, None, Result, Ok, Err, sym, ap, ◌∙◌, subst, inl, inr, arith}
+use mathlib.Core.Logic.{⊎_elim}
+use Rattle.std.specs.Prelude.{◌⊎◌, nat_lt, MatchResult}
+use Rattle.std.specs.Option.{ForSome}
+use Rattle.std.proofs.lemmas.Bool.Decides.{nat_tests, eqb_tells, leb_tells}
+use Rattle.md_ports.specs.Faults.{Rose}
+use Rattle.md_words.specs.Commands.{command_in}
+use Rattle.md_words.specs.Words.{Order, audit, rows, check, solve, replay, command_of}
+use Rattle.md_setting.specs.Setting.{GeneralSetting}
+use Rattle.md_top.specs.declared.refusal.Refusal.{Refusal}
+use Rattle.md_top.specs.declared.refusal.Refusal.TheVariants as refusal
+use Rattle.md_top.specs.Headline.{IsHeadline}
+use Rattle.md_top.specs.Promises.{IsComplete, IsFaultless, IsHeadlineOf, IsPrinted, IsReplied}
+use Rattle.md_top.specs.Refused.{refused, status_of}
+use Rattle.md_top.specs.Reply.{IsOfOne, IsReply, IsSaid, IsSaidBy, IsSaidOfOrder, setting_in}
+use Rattle.md_top.specs.Solving.{IsSolving}
+use Rattle.md_top.specs.Saying.{IsDelivered, IsSent, Saying, SinkChange, is_answer, write_fault}
+
+below_test : (status : ℕ) → status < 64 → nat_lt status 64 ≡ true
+below_test status below = grind (arith, nat_tests)
+
+above_test : (status : ℕ) → 64 ≤ status → nat_lt status 64 ≡ false
+above_test status above = grind (arith, nat_tests)
+
+-- ---- statuses
+
+refusal_least : (e : Refusal) → 64 ≤ status_of e
+refusal_least refusal.Usage = omega arith
+refusal_least refusal.SettingTooLong = omega arith
+refusal_least (refusal.Setting _) = omega arith
+refusal_least refusal.OtherKind = omega arith
+refusal_least refusal.AnswerTooLong = omega arith
+refusal_least (refusal.Answer _) = omega arith
+refusal_least refusal.NoTable = omega arith
+refusal_least (refusal.Pivot _) = omega arith
+refusal_least refusal.ReadFault = omega arith
+refusal_least refusal.Memory = omega arith
+
+-- the saying is an answer or it is not
+answer_or_not : (saying : Saying) → ((is_answer saying ≡ true) × (saying.status < 64)) ⊎ ((is_answer saying ≡ false) × (64 ≤ saying.status))
+answer_or_not saying = ⊎_elim (λ low. inl (below_test saying.status low.1, low.1)) (λ high. inr (above_test saying.status (omega (arith, high.1)), omega (arith, high.1))) (leb_tells (suc saying.status) 64)
+
+-- what was sent has its status, unless the write failed
+sent-status : (saying : Saying) (status : ℕ) (before after : Option (List ℕ)) (faults_before faults_after : ℕ)
+    → IsSent saying status before after faults_before faults_after → (status ≡ saying.status) ⊎ ((status ≡ write_fault) × Rose faults_before faults_after)
+sent-status saying status before after faults_before faults_after sent =
+    ⊎_elim (λ same. inr (same.1, (sent.part same.1).1)) (λ other. inl (sent.whole other.1).0) (eqb_tells status write_fault)
+
+-- the status of the call is that of what was said, unless a write failed
+status-of : (saying : Saying) (status : ℕ) (out err : SinkChange) → IsDelivered saying status out err
+    → (status ≡ saying.status) ⊎ ((status ≡ write_fault) × (Rose out.faults_before out.faults_after ⊎ Rose err.faults_before err.faults_after))
+status-of saying status out err delivered =
+    ⊎_elim
+    (λ answer. ⊎_elim inl (λ part. inr (part.0, inl part.1)) (sent-status saying status out.before out.after out.faults_before out.faults_after (delivered.answer answer.0).0))
+    (λ refused. ⊎_elim inl (λ part. inr (part.0, inr part.1)) (sent-status saying status err.before err.after err.faults_before err.faults_after (delivered.refusal refused.0).0))
+    (answer_or_not saying)
+
+-- a refusal is told with a status of 64 or more
+refused-above : (e : Refusal) (saying : Saying) (status : ℕ) (out err : SinkChange) → saying ≡ refused e → IsDelivered saying status out err → 64 ≤ status
+refused-above e saying status out err is delivered =
+    let own : saying.status ≡ status_of e = ap (λ (x : Saying). x.status) is in
+    ⊎_elim (λ same. omega (arith, same, own, refusal_least e)) (λ part. omega (arith, part.0)) (status-of saying status out err delivered)
+
+-- ---- the headline
+
+module _ (width : ℕ) (saying : Saying) (status : ℕ) (out err : SinkChange) (delivered : IsDelivered saying status out err) where
+  printed : (s : GeneralSetting) → IsSolving s width saying → status < 64
+      → ForSome out.before (λ old. ForSome out.after (λ new. IsPrinted s width status old new))
+  printed s h low = λ old before new after.
+      ⊎_elim
+      (λ answer.
+      let sent = ((delivered.answer answer.0).0).whole (λ e. omega (arith, low, e)) in
+      record { text = saying.text; grew = sent.1.0 old before new after; shows = subst (λ n. IsHeadline s width n saying.text) (sym sent.0) h.headline })
+      (λ high. absurd (⊎_elim (λ same. omega (arith, same, low, high.1)) (λ part. omega (arith, part.0, low)) (status-of saying status out err delivered)))
+      (answer_or_not saying)
+
+  shown : (r : Result GeneralSetting Refusal) → IsOfOne (λ s. IsSolving s width) r saying
+      → MatchResult r (λ s. status < 64 → ForSome out.before (λ old. ForSome out.after (λ new. IsPrinted s width status old new))) (λ e. 64 ≤ status)
+  shown (Ok s) h = printed s h
+  shown (Err e) h = refused-above e saying status out err h delivered
+
+  -- where a refusal was told, nothing was printed
+  not_shown : (r : Result GeneralSetting Refusal) → 64 ≤ status
+      → MatchResult r (λ s. status < 64 → ForSome out.before (λ old. ForSome out.after (λ new. IsPrinted s width status old new))) (λ e. 64 ≤ status)
+  not_shown (Ok s) high = λ low. absurd (omega (arith, high, low))
+  not_shown (Err e) high = high
+
+headline-of_order : (order : Order) (content : List ℕ → Option (List ℕ)) (before after : List ℕ → ℕ) (saying : Saying) (status : ℕ) (out err : SinkChange)
+    → IsSaidOfOrder order content before after saying → IsDelivered saying status out err → IsHeadlineOf (Some order) content status out
+headline-of_order (audit setting answer) content before after saying status out err said delivered = tt
+headline-of_order (rows setting) content before after saying status out err said delivered = tt
+headline-of_order (check setting answer) content before after saying status out err said delivered = tt
+headline-of_order (solve setting width) content before after saying status out err (inl reply) delivered =
+    λ bytes told. shown width saying status out err delivered (setting_in bytes) (reply.0.said_of bytes told)
+headline-of_order (solve setting width) content before after saying status out err (inr (inl fault)) delivered =
+    λ bytes told. not_shown width saying status out err delivered (setting_in bytes) (refused-above refusal.ReadFault saying status out err fault.0 delivered)
+headline-of_order (solve setting width) content before after saying status out err (inr (inr memory)) delivered =
+    λ bytes told. not_shown width saying status out err delivered (setting_in bytes) (refused-above refusal.Memory saying status out err memory.0 delivered)
+headline-of_order (replay setting pivots width) content before after saying status out err said delivered = tt
+
+headline-by : {A : Type 0} (named : Option A) (order : Option Order) (content : List ℕ → Option (List ℕ)) (before after : List ℕ → ℕ) (saying : Saying) (status : ℕ) (out err : SinkChange)
+    → IsSaidBy named order content before after saying → IsDelivered saying status out err → IsHeadlineOf order content status out
+headline-by named None content before after saying status out err said delivered = tt
+headline-by named (Some order) content before after saying status out err said delivered = headline-of_order order content before after saying status out err said delivered
+
+pub headline-from : (words : List (List ℕ)) (content : List ℕ → Option (List ℕ)) (before after : List ℕ → ℕ) (status : ℕ) (out err : SinkChange)
+    → (saying : Saying) × (IsSaid words content before after saying × IsDelivered saying status out err) → IsHeadlineOf (command_of words) content status out
+headline-from words content before after status out err h =
+    headline-by (command_in words) (command_of words) content before after h.0 status out err h.1.0 h.1.1
+
+-- ---- completeness
+
+-- without a fault, the status is that of what was said
+own_status : (order : Order) (before after : List ℕ → ℕ) (saying : Saying) (status : ℕ) (out err : SinkChange)
+    → IsDelivered saying status out err → IsFaultless order before after status out err → status ≡ saying.status
+own_status order before after saying status out err delivered fine =
+    ⊎_elim (λ same. same) (λ part. absurd (⊎_elim fine.printed fine.told part.1)) (status-of saying status out err delivered)
+
+replied : (order : Order) (content : List ℕ → Option (List ℕ)) (status : ℕ) (out err : SinkChange) (own : ℕ) (text : List ℕ)
+    → status ≡ own → IsReply order content record { status = own; text = text } → IsDelivered record { status = own; text = text } status out err
+    → IsReplied order content status out err
+replied order content status out err own text same reply delivered =
+    record {
+      text = text;
+      reply = subst (λ n. IsReply order content record { status = n; text = text }) (sym same) reply;
+      delivered = subst (λ n. IsDelivered record { status = n; text = text } status out err) (sym same) delivered;
+    }
+
+complete-of_order : (order : Order) (content : List ℕ → Option (List ℕ)) (before after : List ℕ → ℕ) (saying : Saying) (status : ℕ) (out err : SinkChange)
+    → IsSaidOfOrder order content before after saying → IsDelivered saying status out err → IsFaultless order before after status out err
+    → IsReplied order content status out err
+complete-of_order order content before after saying status out err (inl reply) delivered fine =
+    replied order content status out err saying.status saying.text (own_status order before after saying status out err delivered fine) reply.0 delivered
+complete-of_order order content before after saying status out err (inr (inl fault)) delivered fine = absurd (fine.read fault.1)
+complete-of_order order content before after saying status out err (inr (inr memory)) delivered fine =
+    absurd (fine.memory (own_status order before after saying status out err delivered fine ∙ ap (λ (x : Saying). x.status) memory.0))
+
+complete-by : {A : Type 0} (named : Option A) (order : Option Order) (content : List ℕ → Option (List ℕ)) (before after : List ℕ → ℕ) (saying : Saying) (status : ℕ) (out err : SinkChange)
+    → IsSaidBy named order content before after saying → IsDelivered saying status out err → IsComplete order content before after status out err
+complete-by named None content before after saying status out err said delivered = tt
+complete-by named (Some order) content before after saying status out err said delivered = λ fine.
+    complete-of_order order content before after saying status out err said delivered fine
+
+pub complete-from : (words : List (List ℕ)) (content : List ℕ → Option (List ℕ)) (before after : List ℕ → ℕ) (status : ℕ) (out err : SinkChange)
+    → (saying : Saying) × (IsSaid words content before after saying × IsDelivered saying status out err) → IsComplete (command_of words) content before after status out err
+complete-from words content before after status out err h =
+    complete-by (command_in words) (command_of words) content before after h.0 status out err h.1.0 h.1.1

@@ -1,0 +1,30 @@
+use Rattle.md_top.proofs.Headlines.{IsShownBy, headline}
+use Rattle.md_top.proofs.solve.solved.Goals as goal
+
+pub returns-clause-solving : goal.returns-clause-solving
+returns-clause-solving c =
+    let s = c.args.setting.now in
+    let h = c.in_ok-answer.ensures in
+    let answer = c.in_ok-answer.answer in
+    let shown : IsShownBy s c.args.width answer = record {
+      solved = h.solved;
+      optimal = h.optimal;
+      value = h.value;
+      infeasible = h.infeasible;
+      unbounded = h.unbounded;
+      narrow = h.narrow;
+      none = h.none;
+      no_bound = h.no_bound;
+      wide = h.wide;
+      every_program = h.every_program;
+      admissible = h.admissible;
+      claims = h.claims;
+      certified = h.certified;
+    } in
+    record {
+      answer = answer;
+      solved = h.solved;
+      status = c.status.ensures.value;
+      text = c.in_ok-write_answer.ensures.text;
+      headline = headline s c.args.width c.status.result c.in_ok-write_answer.field-0.items answer shown c.status.ensures.value c.in_ok-write_answer.ensures.reads_back;
+    }

@@ -1,0 +1,47 @@
+-- What a call promises of its status and its texts, as consequences of what it says.
+use Rattle.std.specs.Prelude.{◌≡◌, ◌≢◌, ◌++◌, ◌<◌, ◌≤◌, ℕ, List, Option, None, Some, MatchResult}
+use Rattle.std.specs.Option.{ForSome}
+use Rattle.md_ports.specs.Faults.{Rose}
+use Rattle.md_words.specs.Words.{Order, solve}
+use Rattle.md_setting.specs.Setting.{GeneralSetting}
+use Rattle.md_top.specs.Headline.{IsHeadline}
+use Rattle.md_top.specs.Reply.{HasFaulted, IsReply, setting_in}
+use Rattle.md_top.specs.Saying.{IsDelivered, SinkChange}
+
+-- ---- the headline
+
+-- the text that was printed, and what it shows
+pub record IsPrinted (s : GeneralSetting) (width status : ℕ) (old new : List ℕ) : Type 0 where
+  pub text : List ℕ
+  pub grew : new ≡ old ++ text
+  pub shows : IsHeadline s width status text
+
+-- Where a setting is to be solved: whatever its file holds, an answer is printed only of a setting, and shows what the
+-- headline says.
+abbrev pub IsHeadlineOf : Option Order → (List ℕ → Option (List ℕ)) → ℕ → SinkChange → Type 0
+IsHeadlineOf (Some (solve setting width)) content status out =
+    ForSome (content setting) (λ bytes. MatchResult (setting_in bytes)
+    (λ s. status < 64 → ForSome out.before (λ old. ForSome out.after (λ new. IsPrinted s width status old new)))
+    (λ e. 64 ≤ status))
+IsHeadlineOf _ content status out = Unit {0}
+
+-- ---- completeness
+
+-- no fault was counted and memory did not run out
+pub record IsFaultless (order : Order) (before after : List ℕ → ℕ) (status : ℕ) (out err : SinkChange) : Type 0 where
+  pub read : ¬ HasFaulted order before after
+  pub printed : ¬ Rose out.faults_before out.faults_after
+  pub told : ¬ Rose err.faults_before err.faults_after
+  pub memory : status ≢ 72
+
+-- a command got its reply, and the reply was delivered with its status
+pub record IsReplied (order : Order) (content : List ℕ → Option (List ℕ)) (status : ℕ) (out err : SinkChange) : Type 0 where
+  pub text : List ℕ
+  pub reply : IsReply order content record { status = status; text = text }
+  pub delivered : IsDelivered record { status = status; text = text } status out err
+
+-- a command gets its reply wherever no fault is counted and memory does not run out
+abbrev pub IsComplete : Option Order → (List ℕ → Option (List ℕ)) → (List ℕ → ℕ) → (List ℕ → ℕ) → ℕ → SinkChange → SinkChange → Type 0
+IsComplete None content before after status out err = Unit {0}
+IsComplete (Some order) content before after status out err =
+    IsFaultless order before after status out err → IsReplied order content status out err

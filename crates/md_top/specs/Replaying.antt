@@ -1,0 +1,39 @@
+-- What `replay` says of a setting and of listed pivots.
+use Rattle.std.specs.Prelude.{◌≡◌, ◌⊎◌, ℕ, List, Option, None, Some}
+use Rattle.md_setting.specs.Setting.{GeneralSetting}
+use Rattle.md_lp.specs.Program.{Program}
+use Rattle.md_lp.specs.declared.entry.Entry.{Entry}
+use Rattle.md_lp.specs.declared.pivot.Pivot.{Pivot}
+use Rattle.md_rows.specs.ProgramOf.{IsProgramOf}
+use Rattle.md_replay.specs.Records.{replay_text}
+use Rattle.md_replay.specs.Replay.{IsLawless, IsReplay}
+use Rattle.md_replay.specs.declared.outcome.Replay.{Replay}
+use Rattle.md_top.specs.declared.refusal.Refusal.TheVariants as refusal
+use Rattle.md_top.specs.Refused.{refused}
+use Rattle.md_top.specs.Saying.{Saying}
+
+-- the status of pivots that lead to no wide basis, and of those that do
+abbrev pub status_of_replay : Option Entry → ℕ
+status_of_replay None = 0
+status_of_replay (Some entry) = 12
+
+-- what comes of the pivots on the setting's program, and the records that tell it
+pub record IsReplaying (s : GeneralSetting) (width : ℕ) (listed : List Pivot) (saying : Saying) : Type 0 where
+  pub program : Program
+  pub is_program : IsProgramOf s program
+  pub replay : Replay
+  pub replayed : IsReplay program width listed replay
+  pub status : saying.status ≡ status_of_replay replay.wide
+  pub text : saying.text ≡ replay_text replay
+
+-- the first pivot that cannot be carried out, which comes before any wide basis
+pub record IsPivotRefused (s : GeneralSetting) (width : ℕ) (listed : List Pivot) (saying : Saying) : Type 0 where
+  pub program : Program
+  pub is_program : IsProgramOf s program
+  pub number : ℕ
+  pub lawless : IsLawless program width listed number
+  pub said : saying ≡ refused (refusal.Pivot number)
+
+-- the statuses of both
+abbrev pub IsReplayStatus : ℕ → Type 0
+IsReplayStatus status = (status ≡ 0) ⊎ ((status ≡ 12) ⊎ (status ≡ 67))

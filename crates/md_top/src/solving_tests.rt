@@ -1,0 +1,235 @@
+//! Settings solved, answers checked after they were written, and pivots carried out, over files in memory.
+use crate::mechdes;
+use crate::test_settings::{
+    CORRELATED, INDEPENDENT, ONE_TYPE, OUT_OF_REACH, PAYING, POSTED_PRICE, POSTED_PRICE_FRONT,
+    TAKING, TWO_OUTCOMES, WELFARE_VOTE,
+};
+use md_ports::{MemShelf, MemSink};
+use std::alloc::{AllocError, Global};
+use std::test::Fail;
+
+// A setting, its status and what `solve` prints, or how that begins.
+static SOLVED: [(&str, u8, &str); 8] = [
+    (
+        POSTED_PRICE,
+        0,
+        "answer,1,general,optimal\nvalue,3,2\ntable,1\nlottery,low,1,0\nlottery,high,0,1\npay,low,0\npay,high,3\nbound,2\nrow,1,0,1\nrow,2,0,3\nrow,3,0,1\nrow,5,0,6\nend\n",
+    ),
+    (
+        WELFARE_VOTE,
+        0,
+        "answer,1,general,optimal\nvalue,3,2\ntable,1\nlottery,l,l,1,0\nlottery,l,r,1,0\nlottery,r,l,0,1\nlottery,r,r,0,1\nbound,1\nrow,8,0,2\nrow,9,0,1\nrow,10,0,1\nrow,11,0,2\nend\n",
+    ),
+    (
+        OUT_OF_REACH,
+        10,
+        "answer,1,general,infeasible\nrow,0,1\nend\n",
+    ),
+    (
+        TAKING,
+        11,
+        "answer,1,general,unbounded\ntable,1\nlottery,t,1\npay,t,0\nray,t,1\nend\n",
+    ),
+    (
+        PAYING,
+        0,
+        "answer,1,general,optimal\nvalue,0,1\ntable,1\nlottery,t,1\npay,t,0\nbound,1\nrow,0,0,1\nend\n",
+    ),
+    (
+        TWO_OUTCOMES,
+        0,
+        "answer,1,general,optimal\nvalue,0,1\ntable,1\nlottery,t,1,0\nbound,1\nrow,0,1,0\nrow,1,1,0\nend\n",
+    ),
+    (CORRELATED, 0, "answer,1,general,optimal\nvalue,5,3\n"),
+    (INDEPENDENT, 0, "answer,1,general,optimal\nvalue,3,2\n"),
+];
+
+// The buyer's high value, the further words, the pivots, the status, and what is printed and said.
+type Walk = (
+    &'static str,
+    &'static [&'static str],
+    &'static str,
+    u8,
+    &'static str,
+    &'static str,
+);
+
+static WALKS: [Walk; 8] = [
+    (
+        "20",
+        &["solve", "setting", "--width", "4"],
+        "",
+        12,
+        "answer,1,general,toowide\nwide,1,1,20,1\nend\n",
+        "",
+    ),
+    (
+        "5",
+        &["solve", "setting", "--width", "4"],
+        "",
+        12,
+        "answer,1,general,toowide\npivot,4,0\npivot,1,1\nwide,3,3,-25,5\nend\n",
+        "",
+    ),
+    (
+        "4",
+        &["solve", "setting", "--width=4"],
+        "",
+        12,
+        "answer,1,general,toowide\npivot,4,0\npivot,1,1\nwide,3,3,-16,4\nend\n",
+        "",
+    ),
+    (
+        "5",
+        &["replay", "setting", "second", "--width", "4"],
+        "pivot,4,0\npivot,1,1\nend\n",
+        12,
+        "basis,0,1,8\nbasis,1,1,8\nwide,3,3,-25,5\nrule,2\nend\n",
+        "",
+    ),
+    (
+        "5",
+        &["replay", "setting", "second", "--width", "4"],
+        "pivot,0,0\nend\n",
+        67,
+        "",
+        "mechdes: pivot 1 refused\n",
+    ),
+    (
+        "3",
+        &["replay", "setting", "second"],
+        "pivot,4,12\nend\n",
+        67,
+        "",
+        "mechdes: pivot 1 refused\n",
+    ),
+    (
+        "3",
+        &["replay", "setting", "second"],
+        "pivot,4,0\n",
+        66,
+        "",
+        "mechdes: answer refused: line 1: ended\n",
+    ),
+    ("3", &["solve"], "", 64, "", "mechdes: usage\n"),
+];
+
+// What a command answered.
+#[derive(Drop)]
+struct Reply {
+    status: u8,
+    out: MemSink,
+    err: MemSink,
+}
+
+// Carries a command out over two files.
+fn carried_out(
+    alloc: Global,
+    texts: &[&str],
+    setting: &str,
+    second: &[u8],
+) -> Result<Reply, AllocError> {
+    let mut words = Vec::new(alloc);
+    for text in texts {
+        words.push(String::from_str(alloc, text)?)?;
+    }
+    let mut shelf = MemShelf::new(alloc);
+    shelf.put("setting", setting.as_bytes())?;
+    shelf.put("second", second)?;
+    let mut out = MemSink::new(alloc, 1000)?;
+    let mut err = MemSink::new(alloc, 100)?;
+    let status = mechdes(alloc, &words, &mut shelf, &mut out, &mut err);
+    Ok(Reply { status, out, err })
+}
+
+#[test]
+fn solves_settings_and_checks_what_it_printed(rt: HostRuntime) -> Result<(), Fail> {
+    let alloc = rt.alloc();
+    for (setting, status, printed) in &SOLVED {
+        let solved = carried_out(alloc, &["solve", "setting"], setting, b"")?;
+        assert_eq!(rt; solved.status, *status, "at {setting}");
+        assert!(rt;
+            solved.out.bytes().starts_with(printed.as_bytes()),
+            "at {setting}"
+        );
+        let checked = carried_out(
+            alloc,
+            &["check", "setting", "second"],
+            setting,
+            solved.out.bytes(),
+        )?;
+        assert_eq!(rt; checked.status, 0, "at {setting}");
+        assert!(rt; checked.out.bytes() == "valid\n".as_bytes(), "at {setting}");
+    }
+    Ok(())
+}
+
+#[test]
+fn tells_wide_bases_and_carries_pivots_out(rt: HostRuntime) -> Result<(), Fail> {
+    let alloc = rt.alloc();
+    for (high, words, pivots, status, printed, said) in &WALKS {
+        let setting = format!(in alloc; "{POSTED_PRICE_FRONT}{high}]]\n")?;
+        let walked = carried_out(alloc, words, &setting, pivots.as_bytes())?;
+        assert_eq!(rt; walked.status, *status, "at {words:?}");
+        assert!(rt; walked.out.bytes() == printed.as_bytes(), "at {words:?}");
+        assert!(rt; walked.err.bytes() == said.as_bytes(), "at {words:?}");
+    }
+    Ok(())
+}
+
+// The path of the setting of the seller and the buyer.
+const SEVEN_PIVOTS: &[u8] =
+    b"pivot,4,0\npivot,1,1\npivot,5,2\npivot,2,4\npivot,0,8\npivot,3,5\npivot,5,3\nend\n";
+
+#[test]
+fn follows_the_path_to_its_end(rt: HostRuntime) -> Result<(), Fail> {
+    let alloc = rt.alloc();
+    let walked = carried_out(
+        alloc,
+        &["replay", "setting", "second"],
+        POSTED_PRICE,
+        SEVEN_PIVOTS,
+    )?;
+    assert_eq!(rt; walked.status, 0);
+    assert!(rt; walked.out.bytes().starts_with(b"basis,0,1,4\n"));
+    assert!(rt; walked.out.bytes().ends_with(b"rule,7\nend\n"));
+    Ok(())
+}
+
+#[test]
+fn solves_for_each_high_value(rt: HostRuntime) -> Result<(), Fail> {
+    let alloc = rt.alloc();
+    for high in ["1", "2", "3", "4", "5", "6", "7", "8"] {
+        let setting = format!(in alloc; "{POSTED_PRICE_FRONT}{high}]]\n")?;
+        let solved = carried_out(alloc, &["solve", "setting"], &setting, b"")?;
+        assert_eq!(rt; solved.status, 0, "at {high}");
+        let checked = carried_out(
+            alloc,
+            &["check", "setting", "second"],
+            &setting,
+            solved.out.bytes(),
+        )?;
+        assert!(rt; checked.out.bytes() == "valid\n".as_bytes(), "at {high}");
+    }
+    Ok(())
+}
+
+#[test]
+fn tells_faults_of_a_solve(rt: HostRuntime) -> Result<(), Fail> {
+    let alloc = rt.alloc();
+    let mut words = Vec::new(alloc);
+    words.push(String::from_str(alloc, "solve")?)?;
+    words.push(String::from_str(alloc, "setting")?)?;
+    let mut shelf = MemShelf::new(alloc);
+    shelf.put("setting", ONE_TYPE.as_bytes())?;
+    shelf.fail_at(1)?;
+    let mut out = MemSink::new(alloc, 1000)?;
+    let mut err = MemSink::new(alloc, 100)?;
+    assert_eq!(rt; mechdes(alloc, &words, &mut shelf, &mut out, &mut err), 70);
+    assert!(rt; err.bytes() == "mechdes: read fault\n".as_bytes());
+    out.fail_at(1, 7)?;
+    assert_eq!(rt; mechdes(alloc, &words, &mut shelf, &mut out, &mut err), 71);
+    assert!(rt; out.bytes() == "answer,".as_bytes());
+    assert!(rt; err.bytes() == "mechdes: read fault\n".as_bytes());
+    Ok(())
+}

@@ -1,0 +1,45 @@
+//! Settings as the texts of their files.
+
+// One agent of one type, and one outcome.
+pub(crate) const ONE_TYPE: &str =
+    "format = \"mechanism-setting\"\nversion = 1\nkind = \"general\"\ntruth = \"dominant\"\nrational = \"none\"\npayments = false\noutcomes = [\"only\"]\n[[agent]]\nname = \"a\"\ntypes = [\"t\"]\nweights = [1]\nutility = [[0]]\n";
+
+// A seller, and one buyer whose value is 1 or 3.
+pub(crate) const POSTED_PRICE: &str =
+    "format = \"mechanism-setting\"\nversion = 1\nkind = \"general\"\ntruth = \"dominant\"\nrational = \"ex-post\"\npayments = true\noutcomes = [\"keep\", \"sell\"]\n[objective]\nrevenue = 1\n[[agent]]\nname = \"buyer\"\ntypes = [\"low\", \"high\"]\nweights = [1, 1]\nutility = [[0, 1], [0, 3]]\n";
+
+// Two voters, each of whom likes one of two outcomes.
+pub(crate) const VOTE: &str =
+    "format = \"mechanism-setting\"\nversion = 1\nkind = \"general\"\ntruth = \"dominant\"\nrational = \"none\"\npayments = false\noutcomes = [\"a\", \"b\"]\n[[agent]]\nname = \"first\"\ntypes = [\"l\", \"r\"]\nweights = [1, 1]\nutility = [[1, 0], [0, 1]]\n[[agent]]\nname = \"second\"\ntypes = [\"l\", \"r\"]\nweights = [1, 1]\nutility = [[1, 0], [0, 1]]\n";
+
+// One item for two bidders whose values are likelier to be the same.
+pub(crate) const CORRELATED: &str =
+    "format = \"mechanism-setting\"\nversion = 1\nkind = \"general\"\ntruth = \"bayes\"\nrational = \"interim\"\npayments = true\noutcomes = [\"keep\", \"first\", \"second\"]\nprior = [2, 1, 1, 2]\n[objective]\nrevenue = 1\n[[agent]]\nname = \"one\"\ntypes = [\"v1\", \"v2\"]\nutility = [[0, 1, 0], [0, 2, 0]]\n[[agent]]\nname = \"two\"\ntypes = [\"v1\", \"v2\"]\nutility = [[0, 0, 1], [0, 0, 2]]\n";
+
+// One agent that has 1 outside, and gets 0 at the one outcome.
+pub(crate) const OUT_OF_REACH: &str =
+    "format = \"mechanism-setting\"\nversion = 1\nkind = \"general\"\ntruth = \"dominant\"\nrational = \"ex-post\"\npayments = false\noutcomes = [\"only\"]\n[[agent]]\nname = \"a\"\ntypes = [\"t\"]\nweights = [1]\noutside = [1]\nutility = [[0]]\n";
+
+// The designer would like the outcome that gives the agent less than it has outside.
+pub(crate) const TWO_OUTCOMES: &str =
+    "format = \"mechanism-setting\"\nversion = 1\nkind = \"general\"\ntruth = \"dominant\"\nrational = \"ex-post\"\npayments = false\noutcomes = [\"x\", \"y\"]\n[objective]\nvalue = [0, 5]\n[[agent]]\nname = \"a\"\ntypes = [\"t\"]\nweights = [1]\noutside = [1]\nutility = [[1, 0]]\n";
+
+// The designer would like to pay, and may not pay more than it takes.
+pub(crate) const PAYING: &str =
+    "format = \"mechanism-setting\"\nversion = 1\nkind = \"general\"\ntruth = \"dominant\"\nrational = \"none\"\npayments = true\nno_deficit = true\noutcomes = [\"only\"]\n[objective]\nrevenue = -1\n[[agent]]\nname = \"a\"\ntypes = [\"t\"]\nweights = [1]\nutility = [[0]]\n";
+
+// The designer would like to be paid, and nothing bounds what it takes.
+pub(crate) const TAKING: &str =
+    "format = \"mechanism-setting\"\nversion = 1\nkind = \"general\"\ntruth = \"dominant\"\nrational = \"none\"\npayments = true\noutcomes = [\"only\"]\n[objective]\nrevenue = 1\n[[agent]]\nname = \"a\"\ntypes = [\"t\"]\nweights = [1]\nutility = [[0]]\n";
+
+// The same two voters, where the designer wants what is best for both together.
+pub(crate) const WELFARE_VOTE: &str =
+    "format = \"mechanism-setting\"\nversion = 1\nkind = \"general\"\ntruth = \"dominant\"\nrational = \"none\"\npayments = false\noutcomes = [\"a\", \"b\"]\n[objective]\nwelfare = 1\n[[agent]]\nname = \"first\"\ntypes = [\"l\", \"r\"]\nweights = [1, 1]\nutility = [[1, 0], [0, 1]]\n[[agent]]\nname = \"second\"\ntypes = [\"l\", \"r\"]\nweights = [1, 1]\nutility = [[1, 0], [0, 1]]\n";
+
+// One item for two bidders whose values are independent, where truth is dominant.
+pub(crate) const INDEPENDENT: &str =
+    "format = \"mechanism-setting\"\nversion = 1\nkind = \"general\"\ntruth = \"dominant\"\nrational = \"ex-post\"\npayments = true\noutcomes = [\"keep\", \"first\", \"second\"]\n[objective]\nrevenue = 1\n[[agent]]\nname = \"one\"\ntypes = [\"v1\", \"v2\"]\nweights = [1, 1]\nutility = [[0, 1, 0], [0, 2, 0]]\n[[agent]]\nname = \"two\"\ntypes = [\"v1\", \"v2\"]\nweights = [1, 1]\nutility = [[0, 0, 1], [0, 0, 2]]\n";
+
+/// The setting of the seller and the buyer up to the buyer's high value, with which it ends.
+pub(crate) const POSTED_PRICE_FRONT: &str =
+    "format = \"mechanism-setting\"\nversion = 1\nkind = \"general\"\ntruth = \"dominant\"\nrational = \"ex-post\"\npayments = true\noutcomes = [\"keep\", \"sell\"]\n[objective]\nrevenue = 1\n[[agent]]\nname = \"buyer\"\ntypes = [\"low\", \"high\"]\nweights = [1, 1]\nutility = [[0, 1], [0, ";
