@@ -1,3 +1,4 @@
 pub mod Bits
 pub mod Duality
 pub mod Fractions
+mod Rows

@@ -9,6 +9,7 @@ use Rattle.md_lp.specs.Point.{MeetsRow, row_sum, cost_sum, column_sum, right_sum
 use Rattle.md_cert.specs.Certified.{PairHolds, ColumnHolds, FaceHolds, FaceSumHolds, RayHolds, reduced_cost}
 use Rattle.md_cert.specs.declared.certificate.Certificate.{Certificate}
 use Rattle.md_cert.specs.declared.certificate.Certificate.TheVariants.{Optimal, Infeasible, Unbounded}
+use Rattle.md_cert.specs.declared.points.BrokenRow.{BrokenRow}
 use Rattle.md_cert.specs.declared.cert_fault.CertFault.{CertFault}
 use Rattle.md_cert.specs.declared.cert_fault.CertFault.TheVariants.{Point, Pair, Column, FaceRight, MainRight, RayRow, RayGain}
 
@@ -24,6 +25,13 @@ pub record BreaksRow (p : Program) (den : ℤ) (x : ℕ → ℤ) (row : ℕ) (le
   pub first : IsFirstFailure (row_count p) (MeetsRow p den x) row
   pub left_is : left ≡ row_sum p x row
   pub right_is : right ≡ den *ℤ right_at p row
+
+-- a row that the point breaks, with both its sides
+pub record BreaksAt (p : Program) (den : ℤ) (x : ℕ → ℤ) (row : ℕ) (broken : BrokenRow) : Type 0 where
+  pub row_is : broken.row ≡ row
+  pub fails : ¬ MeetsRow p den x broken.row
+  pub left_is : broken.left ≡ row_sum p x broken.row
+  pub right_is : broken.right ≡ den *ℤ right_at p broken.row
 
 -- the first row whose multipliers have a wrong sign
 pub record BreaksPair (p : Program) (face main : ℕ → ℤ) (row : ℕ) (f m : ℤ) : Type 0 where

@@ -1,80 +1,91 @@
-ghost use Rattle.std.specs.Prelude.{◌≡◌, ◌+◌, ◌-◌, ◌^◌, ◌<◌, ◌≤◌, ◌-ℤ◌, ◌*ℤ◌, length, MatchOption};
+ghost use Rattle.std.specs.Prelude.{◌≡◌, ◌+◌, ◌-◌, ◌^◌, ◌<◌, ◌≤◌, ℕ, pos, ◌-ℤ◌, ◌*ℤ◌, length, IfNone, MatchOption};
 ghost use Rattle.md_math.specs.FirstFailure.{HoldsBelow};
 ghost use Rattle.md_math.specs.Lists.{number_at};
-ghost use Rattle.md_math.specs.Sizes.{IsWithin};
+ghost use Rattle.md_math.specs.Sizes.{AllWithin, IsWithin};
 ghost use Rattle.md_lp.specs.Program.{cost_at};
-ghost use Rattle.md_cert.specs.Certified.{ColumnHolds, FaceSumHolds};
-ghost use Rattle.md_cert.specs.Fault.{BreaksColumn, BreaksFaceSum, HasColumns, HasFaceSums};
-ghost use Rattle.md_cert.specs.Fitting.{FitsRows, IsDenominator};
+ghost use Rattle.md_lp.specs.Runs.{AreColumnSums};
+ghost use Rattle.md_cert.specs.Certified.{FaceSumHolds};
+ghost use Rattle.md_cert.specs.Fault.{BreaksColumn, BreaksFaceSum, BreaksRow, HasColumns, HasFaceSums, MeetsRows};
+ghost use Rattle.md_cert.specs.Fitting.{FitsBound, FitsColumns, FitsRows, IsDenominator};
 
+use crate::bound::Bound;
 use crate::pairs::WrongPair;
+use crate::points::{BrokenRow, broken_at};
 use crate::signs::is_lex_nonneg;
 use md_lp::Lp;
 use md_num::{Nums, product};
 
-// How many columns are summed at a time, so that each row is read once for all of them.
-const RUN: usize = 256;
+// How many columns most programs have at most: room for their sums is taken where it is enough.
+pub const FEW_COLUMNS: usize = 2048;
 
-// The first column whose pair of sums has a wrong sign.
-pub fn wrong_column(lp: &Lp, over: i128, face: &Nums, main: &Nums) -> Option<WrongPair>
-    requires denominator { IsDenominator over }
-    requires face { FitsRows lp.now face.now }
-    requires main { FitsRows lp.now main.now }
-    ensures { MatchOption result (HasColumns lp.now over (number_at face.now) (number_at main.now)) (λ wrong. BreaksColumn lp.now over (number_at face.now) (number_at main.now) wrong.place wrong.face wrong.main) }
+// How many columns a program has at most.
+pub const MOST_COLUMNS: usize = 65536;
+
+// Makes each sum 0.
+fn clear(sums: &mut [i128])
+    ensures { (k : ℕ) → k < length sums.new → number_at sums.new k ≡ pos 0 }
 {
-    let mut face_sums = [0i128; RUN];
-    let mut main_sums = [0i128; RUN];
-    let columns = lp.columns() as usize;
-    let mut first = 0;
-    while first < columns {
-        let width = RUN.min(columns - first);
-        let run = wrong_in_run(
-            lp,
-            over,
-            face,
-            main,
-            first as u32,
-            &mut face_sums[..width],
-            &mut main_sums[..width],
-        );
-        if let Some(wrong) = run {
-            return Some(wrong);
+    for sum in sums.iter_mut() {
+        *sum = 0;
+    }
+}
+
+// The first row that the point breaks. Where there is none, the sums of all columns are left, with the face and with the main multipliers: each row is read for them while it is at hand.
+pub fn broken_or_summed(
+    lp: &Lp,
+    den: i128,
+    point: &Nums,
+    bound: &Bound,
+    face_sums: &mut [i128],
+    main_sums: &mut [i128],
+) -> Option<BrokenRow>
+    requires denominator { IsDenominator den }
+    requires point { FitsColumns lp.now point.now }
+    requires bound { FitsBound lp.now bound.now }
+    requires same { length main_sums.old ≡ length face_sums.old }
+    ensures point { MatchOption result (MeetsRows lp.now den (number_at point.now)) (λ broken. BreaksRow lp.now den (number_at point.now) broken.row broken.left broken.right) }
+    ensures face { IfNone result (AreColumnSums lp.now bound.now.face 0 face_sums.new) }
+    ensures main { IfNone result (AreColumnSums lp.now bound.now.main 0 main_sums.new) }
+    ensures face_size { IfNone result (AllWithin (2 ^ 119) face_sums.new) }
+    ensures main_size { IfNone result (AllWithin (2 ^ 119) main_sums.new) }
+{
+    clear(face_sums);
+    clear(main_sums);
+    for row in 0..lp.rows() {
+        if let Some(broken) = broken_at(lp, den, point, row) {
+            return Some(broken);
         }
-        first += width;
+        let face = bound.face.get(row as usize);
+        let main = bound.main.get(row as usize);
+        lp.add_row(row, face, main, face_sums, main_sums);
     }
     None
 }
 
-// The same, among the columns of a run, where those before it have the right signs.
-fn wrong_in_run(
+// The first column whose pair of sums has a wrong sign.
+pub fn wrong_column(
     lp: &Lp,
-    over: i128,
-    face: &Nums,
-    main: &Nums,
-    first: u32,
-    face_sums: &mut [i128],
-    main_sums: &mut [i128],
+    bound: &Bound,
+    face_sums: &[i128],
+    main_sums: &[i128],
 ) -> Option<WrongPair>
-    requires denominator { IsDenominator over }
-    requires face { FitsRows lp.now face.now }
-    requires main { FitsRows lp.now main.now }
-    requires few { lp.now.columns ≤ 65536 }
-    requires run { first + length face_sums.old ≤ lp.now.columns }
-    requires same { length main_sums.old ≡ length face_sums.old }
-    requires before { HoldsBelow first (ColumnHolds lp.now over (number_at face.now) (number_at main.now)) }
-    ensures { MatchOption result (HoldsBelow (first + length face_sums.old) (ColumnHolds lp.now over (number_at face.now) (number_at main.now))) (λ wrong. BreaksColumn lp.now over (number_at face.now) (number_at main.now) wrong.place wrong.face wrong.main) }
+    requires bound { FitsBound lp.now bound.now }
+    requires face_room { length face_sums.now ≡ lp.now.columns }
+    requires main_room { length main_sums.now ≡ lp.now.columns }
+    requires face { AreColumnSums lp.now bound.now.face 0 face_sums.now }
+    requires main { AreColumnSums lp.now bound.now.main 0 main_sums.now }
+    requires face_size { AllWithin (2 ^ 119) face_sums.now }
+    requires main_size { AllWithin (2 ^ 119) main_sums.now }
+    ensures { MatchOption result (HasColumns lp.now bound.now.den (number_at bound.now.face) (number_at bound.now.main)) (λ wrong. BreaksColumn lp.now bound.now.den (number_at bound.now.face) (number_at bound.now.main) wrong.place wrong.face wrong.main) }
 {
-    lp.column_sums(first, face, face_sums);
-    lp.column_sums(first, main, main_sums);
-    for place in 0..face_sums.len() {
-        let column = first + place as u32;
-        let sum = face_sums[place];
-        let reduced = reduced_cost(lp, over, column, main_sums[place]);
-        if !is_lex_nonneg(sum, reduced) {
+    for column in 0..lp.columns() {
+        let face = face_sums[column as usize];
+        let main = reduced_cost(lp, bound.den, column, main_sums[column as usize]);
+        if !is_lex_nonneg(face, main) {
             return Some(WrongPair {
                 place: column,
-                face: sum,
-                main: reduced,
+                face,
+                main,
             });
         }
     }
@@ -96,11 +107,32 @@ pub fn wrong_face_sum(lp: &Lp, face: &Nums) -> Option<WrongPair>
     requires { FitsRows lp.now face.now }
     ensures { MatchOption result (HasFaceSums lp.now (number_at face.now)) (λ wrong. BreaksFaceSum lp.now (number_at face.now) wrong.place wrong.face wrong.main) }
 {
-    let mut sums = [0i128; RUN];
+    if lp.columns() as usize > FEW_COLUMNS {
+        return wrong_face_sum_of_many(lp, face);
+    }
+    wrong_face_in_runs(lp, face, &mut [0i128; FEW_COLUMNS])
+}
+
+// The same, with room for the sums of all columns.
+#[inline(never)]
+fn wrong_face_sum_of_many(lp: &Lp, face: &Nums) -> Option<WrongPair>
+    requires { FitsRows lp.now face.now }
+    ensures { MatchOption result (HasFaceSums lp.now (number_at face.now)) (λ wrong. BreaksFaceSum lp.now (number_at face.now) wrong.place wrong.face wrong.main) }
+{
+    wrong_face_in_runs(lp, face, &mut [0i128; MOST_COLUMNS])
+}
+
+// The same, with this room for sums: as many columns are summed at a time.
+fn wrong_face_in_runs(lp: &Lp, face: &Nums, sums: &mut [i128]) -> Option<WrongPair>
+    requires fits { FitsRows lp.now face.now }
+    requires some { 0 < length sums.old }
+    ensures { MatchOption result (HasFaceSums lp.now (number_at face.now)) (λ wrong. BreaksFaceSum lp.now (number_at face.now) wrong.place wrong.face wrong.main) }
+{
     let end = lp.columns() as usize;
+    let room = sums.len();
     let mut first = 0;
     while first < end {
-        let width = RUN.min(end - first);
+        let width = room.min(end - first);
         let run = wrong_face_in_run(lp, face, first as u32, &mut sums[..width]);
         if let Some(wrong) = run {
             return Some(wrong);

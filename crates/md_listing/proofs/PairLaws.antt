@@ -1,10 +1,11 @@
 -- The pairs of a row, term by term.
-use Rattle.std.proofs.Common.{◌≡◌, ◌≢◌, ℕ, zero, suc, ◌+◌, ◌<◌, ◌≤◌, ◌==◌, ◌^◌, ℤ, to_z, of_z, pos, ◌+ℤ◌, List, [], ◌∷◌, ◌++◌, length, take, get_or, unsigned_abs, if◌then◌else◌, refl, sym, ap, ap₂, ◌∙◌, subst, inl, inr, arith, add-one, append-nil, eq-eqb, ne_eqb, get_or-take, length-take-le}
+use Rattle.std.proofs.Common.{◌≡◌, ◌≢◌, ℕ, zero, suc, ◌+◌, ◌<◌, ◌≤◌, ◌==◌, ◌^◌, ℤ, to_z, of_z, pos, ◌+ℤ◌, List, [], ◌∷◌, ◌++◌, length, take, get_or, unsigned_abs, if◌then◌else◌, refl, sym, ap, ◌∙◌, inl, inr, arith, append-nil, eq-eqb, ne_eqb, get_or-take, length-take-le}
 use Rattle.std.proofs.lemmas.List.{take_more}
-use Rattle.std.proofs.lemmas.Bool.{cases_lt, cases_eq}
-use Rattle.std.proofs.lemmas.Int.{ints, to_z-of_z}
+use Rattle.std.proofs.lemmas.Bool.{cases_eq}
+use Rattle.std.proofs.lemmas.Int.{ints, to_z-of_z, fits_signed_from_abs}
 use lib.Signed.{mag}
 use mir.Syntax.{w128}
+use Rattle.md_math.specs.Sizes.{IsWithin}
 use Rattle.md_math.proofs.Builders.{up_to-same, up_to-more}
 use Rattle.md_math.proofs.Ring.{linear}
 use Rattle.md_lp.specs.Program.{value_of}
@@ -104,3 +105,6 @@ pair_of-zero j z e = ap (pair_of j) e
 -- a number of a call's result is read back from its bits
 pub read_result : (z : ℤ) → mag z < 2 ^ 127 → to_z w128 (of_z w128 z) ≡ z
 read_result z fits = to_z-of_z w128 z (record { sfits = fits })
+
+pub small_back : (z : ℤ) → IsWithin (2 ^ 44) z → to_z w128 (of_z w128 z) ≡ z
+small_back z h = to_z-of_z w128 z (fits_signed_from_abs w128 z (omega (arith, h.within)))

@@ -1,6 +1,6 @@
 -- The records that list the linear program of a setting.
-use Rattle.std.specs.Prelude.{◌≡◌, ℕ, ◌+◌, ◌==◌, ℤ, pos, List, [], ◌∷◌, ◌++◌, length, unsigned_abs, codes, if◌then◌else◌}
-use Rattle.md_math.specs.Lists.{list_to, up_to}
+use Rattle.std.specs.Prelude.{◌≡◌, ℕ, ◌+◌, ◌==◌, ℤ, pos, List, [], ◌∷◌, ◌++◌, unsigned_abs, codes, if◌then◌else◌}
+use Rattle.md_math.specs.Lists.{up_to}
 use Rattle.md_num.specs.WholeText.{text_of}
 use Rattle.md_records.specs.Written.{text_of_records}
 use Rattle.md_setting.specs.Setting.{GeneralSetting}

@@ -83,6 +83,6 @@ fn row_record(alloc: Global, setting: &Setting, lp: &Lp, row: u32) -> Result<Row
     ensures { IfOk result (λ fields. ForSome (slice_get (rows_of setting.now) row) (λ condition. fields ≡ row_record setting.now lp.now row condition)) }
 {
     let head = head_record(alloc, setting, lp, row)?;
-    let filled = with_terms(head, lp.terms(row))?;
+    let filled = with_terms(head, lp, row)?;
     Ok(filled)
 }

@@ -1,11 +1,10 @@
 //! Columns with their numbers, where those are not 0.
-ghost use Rattle.std.specs.Prelude.{◌≡◌, ◌++◌, ◌∷◌, [], ◌↔◌, ℕ, ℤ, pos, IfOk, IsTrue};
+ghost use Rattle.std.specs.Prelude.{◌≡◌, ◌<◌, ◌++◌, ◌∷◌, [], ◌↔◌, pos, IfOk, IsTrue};
 ghost use Rattle.md_num.specs.WholeText.{text_of};
-ghost use Rattle.md_lp.specs.Program.{value_of, cost_at};
-ghost use Rattle.md_lp.specs.Shape.{HasPlaces};
+ghost use Rattle.md_lp.specs.Program.{row_count, coefficient_at, cost_at};
 ghost use Rattle.md_listing.specs.Listing.{pair_of, pairs_of};
 
-use md_lp::{Lp, Term};
+use md_lp::Lp;
 use md_num::NoMemory;
 use md_records::Row;
 
@@ -36,11 +35,13 @@ fn with_pair(fields: Row, column: u32, number: i128) -> Result<Row, NoMemory>
 }
 
 /// A record with the terms of a row at its end.
-pub(crate) fn with_terms(fields: Row, terms: &[Term]) -> Result<Row, NoMemory>
-    ensures { (columns : ℕ) → HasPlaces columns terms.now → IfOk result (λ row. row ≡ fields ++ pairs_of columns (value_of terms.now)) }
+pub(crate) fn with_terms(fields: Row, lp: &Lp, row: u32) -> Result<Row, NoMemory>
+    requires { row < row_count lp.now }
+    ensures { IfOk result (λ filled. filled ≡ fields ++ pairs_of (lp.now).columns (coefficient_at lp.now row)) }
 {
     let mut filled = fields;
-    for term in terms {
+    for place in 0..lp.term_count(row) {
+        let term = lp.term(row, place);
         filled = with_pair(filled, term.column, term.value)?;
     }
     Ok(filled)

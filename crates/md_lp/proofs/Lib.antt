@@ -1,9 +1,11 @@
 pub mod Bits
 pub mod SparseRows
+pub mod StoredTerms
 pub mod ShapeLaws
 pub mod PlacesSoFar
 pub mod Dividing
 pub mod Building
 pub mod SumSizes
 pub mod RowRuns
+pub mod StoredRuns
 pub mod ColumnRuns

@@ -1,5 +1,5 @@
 -- The terms so far that stand at ascending columns, and where their columns are searched.
-use Rattle.std.proofs.Common.{◌≡◌, ℕ, ◌+◌, ◌-◌, ◌<◌, ◌≤◌, inl, inr, List, length, Result, Ok, Err, IfOk, IfErr, sym, arith, ap, refl}
+use Rattle.std.proofs.Common.{◌≡◌, ℕ, ◌+◌, ◌-◌, ◌<◌, ◌≤◌, inl, inr, List, length, Result, Ok, Err, IfOk, IfErr, get_or, sym, arith, ap, refl, ◌∙◌}
 use Rattle.std.specs.List.Sorted.{IsSearchInRange, IsBinarySearchResult, IsNonDecreasingBy}
 use Rattle.std.specs.Ordering.{nat_cmp, ordering_index}
 use Rattle.std.proofs.lemmas.Bool.{cases_lt}
@@ -9,7 +9,9 @@ use Rattle.std.proofs.lemmas.List.Sorted.{IsNonDecreasingBy-from_default}
 use Rattle.md_lp.specs.declared.term.Term.{Term}
 use Rattle.md_lp.specs.Shape.{column_in, IsAscending, HasPlaces}
 use Rattle.md_lp.specs.Search.{IsGapFor}
-use Rattle.md_lp.proofs.SparseRows.{no_term}
+use Rattle.md_lp.specs.declared.stored_term.StoredTerm.{StoredTerm}
+use Rattle.md_lp.specs.Stored.{shown_terms}
+use Rattle.md_lp.proofs.StoredTerms.{no_stored, column_in-shown, length-shown}
 
 -- the first n terms have their places, and `least` is one more than the last column, or 0
 pub record IsPlacedBelow (columns : ℕ) (terms : List Term) (n least : ℕ) : Type 0 where
@@ -53,20 +55,27 @@ HasPlaces-not_below columns terms n least h b l p = elim (cases_lt 0 n) [
 pub HasPlaces-not_past : (columns : ℕ) (terms : List Term) (n : ℕ) → n < length terms → columns ≤ column_in terms n → HasPlaces columns terms → ⊥
 HasPlaces-not_past columns terms n b l p = (let inside : column_in terms n < columns = p.below n b in omega arith)
 
+rising : (terms : List StoredTerm) (i j : ℕ) → IsAscending (shown_terms terms) → i ≤ j → j < length (shown_terms terms) → column_in (shown_terms terms) i ≤ column_in (shown_terms terms) j
+rising terms i j h l b = elim (cases_lt i j) [
+  | inl below ↦ (let above : column_in (shown_terms terms) i < column_in (shown_terms terms) j = h.ascending i j below b in omega arith)
+  | inr not_below ↦ (let same : i ≡ j = omega arith in omega (arith, ap (column_in (shown_terms terms)) same))
+]
+
 -- the comparisons with a column rise along the terms, as a binary search asks
-comparisons_rise : (terms : List Term) (column : ℕ) → IsAscending terms → IsNonDecreasingBy (λ t. ordering_index (nat_cmp t.column column)) terms
-comparisons_rise terms column h = IsNonDecreasingBy-from_default (λ t. ordering_index (nat_cmp t.column column)) terms no_term (λ i j le in_range.
-    let columns_rise : column_in terms i ≤ column_in terms j = grind (arith, h.ascending i j, λ (same : i ≡ j). ap (column_in terms) same) in
+comparisons_rise : (terms : List StoredTerm) (column : ℕ) → IsAscending (shown_terms terms) → IsNonDecreasingBy (λ t. ordering_index (nat_cmp t.column column)) terms
+comparisons_rise terms column h = IsNonDecreasingBy-from_default (λ t. ordering_index (nat_cmp t.column column)) terms no_stored (λ i j le in_range.
+    let inside : j < length (shown_terms terms) = omega (arith, length-shown terms) in
+    let columns_rise : (get_or terms i no_stored).column ≤ (get_or terms j no_stored).column = rw (column_in-shown terms i, column_in-shown terms j) at (rising terms i j h le inside) in
     grind (arith, nat_tests))
 
 -- a binary search by column ends at the column, or at the gap for it
-pub searched : (terms : List Term) (column : ℕ) → IsAscending terms → (r : Result ℕ ℕ) → IsSearchInRange r (length terms) → IsBinarySearchResult (λ t. nat_cmp t.column column) terms r → record { found : IfOk r (λ at. (at < length terms) × (column_in terms at ≡ column)); absent : IfErr r (IsGapFor terms column) }
-searched terms column h (Ok at) in_range equal = record { found = (in_range, ranked _ column _ (sym (equal no_term))); absent = tt }
+pub searched : (terms : List StoredTerm) (column : ℕ) → IsAscending (shown_terms terms) → (r : Result ℕ ℕ) → IsSearchInRange r (length terms) → IsBinarySearchResult (λ t. nat_cmp t.column column) terms r → record { found : IfOk r (λ at. (at < length terms) × (column_in (shown_terms terms) at ≡ column)); absent : IfErr r (IsGapFor (shown_terms terms) column) }
+searched terms column h (Ok at) in_range equal = record { found = (in_range, column_in-shown terms at ∙ ranked _ column _ (sym (equal no_stored))); absent = tt }
 searched terms column h (Err at) in_range parted = record {
   found = tt;
   absent = record {
-    in_range = in_range;
-    smaller_before = λ j lt. ranked _ column _ (sym ((parted (comparisons_rise terms column h)).0 j no_term (omega arith) lt));
-    greater_after = λ j le lt. ranked _ column _ (sym ((parted (comparisons_rise terms column h)).1 j no_term le lt));
+    in_range = omega (arith, length-shown terms);
+    smaller_before = λ j lt. rw (column_in-shown terms j) (ranked _ column _ (sym ((parted (comparisons_rise terms column h)).0 j no_stored (omega arith) lt)));
+    greater_after = λ j le lt. rw (column_in-shown terms j) (ranked _ column _ (sym ((parted (comparisons_rise terms column h)).1 j no_stored le (omega (arith, length-shown terms)))));
   };
 }

@@ -4,10 +4,11 @@ ghost use Rattle.md_math.specs.Lists.{number_at};
 ghost use Rattle.md_math.specs.Sizes.{IsWithin, AllWithin};
 ghost use Rattle.md_lp.specs.Divided.{IsDivisorFor, IsDividedTerms, IsDividedRow, IsDividedList};
 ghost use Rattle.md_lp.specs.Shape.{numbers_of};
-ghost use Rattle.md_lp.specs.Stored.{shown};
+ghost use Rattle.md_lp.specs.Stored.{shown, shown_terms};
 
 use crate::row_kind::RowKind;
 use crate::stored_row::StoredRow;
+use crate::stored_term::{StoredTerm, stored_term};
 use crate::term::Term;
 use md_num::{NoMemory, Nums, exact_quotient, gcd};
 use std::alloc::Global;
@@ -52,18 +53,15 @@ fn row_divisor(terms: &[Term], right: i128) -> i128
 }
 
 // The terms, each value divided.
-fn divided_terms(alloc: Global, terms: &[Term], by: i128) -> Result<Vec<Term>, NoMemory>
+fn divided_terms(alloc: Global, terms: &[Term], by: i128) -> Result<Vec<StoredTerm>, NoMemory>
     requires positive { pos 0 <ℤ by }
     requires exact { All (λ term. Divides by term.value) terms.now }
     requires sizes { All (λ term. IsWithin (2 ^ 44) term.value) terms.now }
-    ensures { IfOk result (λ divided. IsDividedTerms by terms.now divided.items) }
+    ensures { IfOk result (λ divided. IsDividedTerms by terms.now (shown_terms divided.items)) }
 {
     let mut divided = Vec::with_capacity(alloc, terms.len())?;
     for term in terms {
-        divided.push(Term {
-            column: term.column,
-            value: exact_quotient(term.value, by),
-        })?;
+        divided.push(stored_term(term.column, exact_quotient(term.value, by)))?;
     }
     Ok(divided)
 }

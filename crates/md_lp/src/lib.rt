@@ -12,6 +12,7 @@ mod row_kind;
 mod sets;
 mod sizes;
 mod stored_row;
+mod stored_term;
 mod sums;
 mod term;
 

@@ -1,10 +1,11 @@
-ghost use Rattle.std.specs.Prelude.{◌≡◌, ◌+◌, ◌-◌, ◌^◌, ◌<◌, ◌≤◌, ◌↔◌, ◌⊎◌, length, All, IfOk, IfErr, OnOk, OnErr, IsErrOf};
+ghost use Rattle.std.specs.Prelude.{◌≡◌, ◌+◌, ◌-◌, ◌^◌, ◌<◌, ◌≤◌, ◌↔◌, ◌⊎◌, length, All, pos, slice_index_or, IfOk, IfErr, OnOk, OnErr, IsErrOf};
 ghost use Rattle.md_math.specs.Sizes.{IsWithin, AllWithin};
 ghost use Rattle.md_math.specs.Lists.{number_at};
 ghost use Rattle.md_lp.specs.Program.{row_count, row_at, kind_at, right_at, coefficient_at, cost_at};
 ghost use Rattle.md_lp.specs.Point.{row_sum, cost_sum, right_sum};
-ghost use Rattle.md_lp.specs.Runs.{AreColumnSums};
+ghost use Rattle.md_lp.specs.Runs.{AddsRow, AreColumnSums};
 ghost use Rattle.md_lp.specs.Shape.{IsShaped, IsShapedRow, HasPlaces, numbers_of};
+ghost use Rattle.md_lp.specs.Stored.{shown_terms};
 ghost use Rattle.md_lp.specs.Divided.{HasDividedCost, AppendsDivided};
 
 use crate::divide::{cost_divisor, divided_numbers, divided_row};
@@ -13,7 +14,8 @@ use crate::places::{has_places, value_at};
 use crate::row_kind::RowKind;
 use crate::sizes::{cost_is_small, row_is_small};
 use crate::stored_row::StoredRow;
-use crate::sums::{add_row, sum_of_products, sum_of_terms};
+use crate::stored_term::{StoredTerm, term_of};
+use crate::sums::{add_row, add_row_to_both, clear, sum_of_products, sum_of_terms};
 use crate::term::Term;
 use md_num::{Nums, add_product};
 use std::alloc::Global;
@@ -129,12 +131,32 @@ impl Lp {
         self.rows[row as usize].right
     }
 
-    /// The terms of a row, divided, by ascending column. A column that has no term has the coefficient 0.
-    pub fn terms(&self, row: u32) -> &[Term]
+    /// How many terms a row has. They stand by ascending column; a column that has no term has the coefficient 0.
+    pub fn term_count(&self, row: u32) -> u32
         requires { row < row_count self.now }
-        ensures value { result.now ≡ (row_at self.now row).terms }
-        ensures places { HasPlaces self.now.columns result.now }
-        ensures sizes { All (λ term. IsWithin (2 ^ 44) term.value) result.now }
+        ensures value { result ≡ length (row_at self.now row).terms }
+        ensures places { HasPlaces self.now.columns (row_at self.now row).terms }
+    {
+        self.terms(row).len() as u32
+    }
+
+    /// The term of a row at a place, its value divided as the row is.
+    pub fn term(&self, row: u32, place: u32) -> Term
+        requires row { row < row_count self.now }
+        requires place { place < length (row_at self.now row).terms }
+        ensures value { result ≡ slice_index_or (row_at self.now row).terms place (record { column = 0; value = pos 0 }) }
+        ensures column { result.column < self.now.columns }
+        ensures size { IsWithin (2 ^ 44) result.value }
+    {
+        term_of(self.terms(row)[place as usize])
+    }
+
+    // The terms of a row as they are kept.
+    fn terms(&self, row: u32) -> &[StoredTerm]
+        requires { row < row_count self.now }
+        ensures value { shown_terms result.now ≡ (row_at self.now row).terms }
+        ensures places { HasPlaces self.now.columns (shown_terms result.now) }
+        ensures sizes { All (λ term. IsWithin (2 ^ 44) term.value) (shown_terms result.now) }
         ensures shaped { IsShaped self.now }
     {
         self.rows[row as usize].terms.as_slice()
@@ -211,11 +233,30 @@ impl Lp {
         ensures value { AreColumnSums self.now numbers.now first sums.new }
         ensures size { AllWithin (2 ^ 119) sums.new }
     {
-        for sum in sums.iter_mut() {
-            *sum = 0;
-        }
+        clear(sums);
         for row in 0..self.rows() {
             add_row(self.terms(row), first, numbers.get(row as usize), sums);
         }
+    }
+
+    /// Adds a row to two lists of sums, one for each column: each coefficient times the one number to the first list, and times the other to the second. The row is read once for both.
+    pub fn add_row(
+        &self,
+        row: u32,
+        number: i128,
+        other: i128,
+        sums: &mut [i128],
+        other_sums: &mut [i128],
+    )
+        requires row { row < row_count self.now }
+        requires number { IsWithin (2 ^ 62 - 1) number }
+        requires other { IsWithin (2 ^ 62 - 1) other }
+        requires room { AllWithin (2 ^ 124) sums.old }
+        requires other_room { AllWithin (2 ^ 124) other_sums.old }
+        requires same { length other_sums.old ≡ length sums.old }
+        ensures value { AddsRow (row_at self.now row).terms 0 number sums.old sums.new }
+        ensures other { AddsRow (row_at self.now row).terms 0 other other_sums.old other_sums.new }
+    {
+        add_row_to_both(self.terms(row), 0, number, other, sums, other_sums);
     }
 }

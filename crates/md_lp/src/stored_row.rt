@@ -1,10 +1,10 @@
 use crate::row_kind::RowKind;
-use crate::term::Term;
+use crate::stored_term::StoredTerm;
 
 // A row as it is kept: its memory is that of its terms.
 #[derive(Debug, Drop)]
 pub struct StoredRow {
     pub kind: RowKind,
-    pub terms: Vec<Term>,
+    pub terms: Vec<StoredTerm>,
     pub right: i128,
 }

@@ -1,21 +1,22 @@
-ghost use Rattle.std.specs.Prelude.{◌≡◌, ℕ, ◌+◌, ◌-◌, ◌*◌, ◌^◌, ◌<◌, ◌≤◌, ◌+ℤ◌, ◌*ℤ◌, length, unsigned_abs, All};
+ghost use Rattle.std.specs.Prelude.{◌≡◌, ℕ, pos, ◌+◌, ◌-◌, ◌*◌, ◌^◌, ◌<◌, ◌≤◌, ◌+ℤ◌, ◌*ℤ◌, length, unsigned_abs, All};
 ghost use Rattle.md_math.specs.Lists.{number_at};
 ghost use Rattle.md_math.specs.Sizes.{IsWithin, AllWithin};
 ghost use Rattle.md_math.specs.Sums.{dot, total_by};
 ghost use Rattle.md_lp.specs.Runs.{AddsRow};
 ghost use Rattle.md_lp.specs.Shape.{IsAscending, HasPlaces, column_in};
+ghost use Rattle.md_lp.specs.Stored.{shown_terms};
 
 use crate::places::from_column;
-use crate::term::Term;
+use crate::stored_term::StoredTerm;
 use md_num::{Nums, add_product};
 
 // The sum of the terms, each value times the number of its column.
-pub fn sum_of_terms(terms: &[Term], numbers: &Nums) -> i128
+pub fn sum_of_terms(terms: &[StoredTerm], numbers: &Nums) -> i128
     requires few { length numbers.now ≤ 65536 }
-    requires places { HasPlaces (length numbers.now) terms.now }
-    requires values { All (λ term. IsWithin (2 ^ 44) term.value) terms.now }
+    requires places { HasPlaces (length numbers.now) (shown_terms terms.now) }
+    requires values { All (λ term. IsWithin (2 ^ 44) term.value) (shown_terms terms.now) }
     requires sizes { AllWithin (2 ^ 62 - 1) numbers.now }
-    ensures { result ≡ total_by (λ term. term.value *ℤ number_at numbers.now term.column) terms.now }
+    ensures { result ≡ total_by (λ term. term.value *ℤ number_at numbers.now term.column) (shown_terms terms.now) }
 {
     let mut sum = 0;
     for term in terms {
@@ -40,12 +41,12 @@ pub fn sum_of_products(left: &Nums, right: &Nums) -> i128
 }
 
 // Adds, to each sum, the coefficient of its column times the weight. The sums are those of columns from `first` on.
-pub fn add_row(terms: &[Term], first: u32, weight: i128, sums: &mut [i128])
-    requires ascending { IsAscending terms.now }
-    requires values { All (λ term. IsWithin (2 ^ 44) term.value) terms.now }
+pub fn add_row(terms: &[StoredTerm], first: u32, weight: i128, sums: &mut [i128])
+    requires ascending { IsAscending (shown_terms terms.now) }
+    requires values { All (λ term. IsWithin (2 ^ 44) term.value) (shown_terms terms.now) }
     requires weight { IsWithin (2 ^ 62 - 1) weight }
     requires room { AllWithin (2 ^ 124) sums.old }
-    ensures { AddsRow terms.now first weight sums.old sums.new }
+    ensures { AddsRow (shown_terms terms.now) first weight sums.old sums.new }
 {
     if weight == 0 {
         return;
@@ -54,13 +55,13 @@ pub fn add_row(terms: &[Term], first: u32, weight: i128, sums: &mut [i128])
 }
 
 // The same, where no term stands before the column `first`.
-fn add_terms(terms: &[Term], first: u32, weight: i128, sums: &mut [i128])
-    requires ascending { IsAscending terms.now }
-    requires from { (k : ℕ) → k < length terms.now → first ≤ column_in terms.now k }
-    requires values { All (λ term. IsWithin (2 ^ 44) term.value) terms.now }
+fn add_terms(terms: &[StoredTerm], first: u32, weight: i128, sums: &mut [i128])
+    requires ascending { IsAscending (shown_terms terms.now) }
+    requires from { (k : ℕ) → k < length terms.now → first ≤ column_in (shown_terms terms.now) k }
+    requires values { All (λ term. IsWithin (2 ^ 44) term.value) (shown_terms terms.now) }
     requires weight { IsWithin (2 ^ 62 - 1) weight }
     requires room { AllWithin (2 ^ 124) sums.old }
-    ensures { AddsRow terms.now first weight sums.old sums.new }
+    ensures { AddsRow (shown_terms terms.now) first weight sums.old sums.new }
 {
     for term in terms {
         let place = (term.column - first) as usize;
@@ -71,13 +72,85 @@ fn add_terms(terms: &[Term], first: u32, weight: i128, sums: &mut [i128])
     }
 }
 
+// Makes each sum 0.
+pub fn clear(sums: &mut [i128])
+    ensures { (k : ℕ) → k < length sums.new → number_at sums.new k ≡ pos 0 }
+{
+    for sum in sums.iter_mut() {
+        *sum = 0;
+    }
+}
+
+// Adds a row to two lists of sums of the same columns, each with its weight, in one reading of the terms.
+pub fn add_row_to_both(
+    terms: &[StoredTerm],
+    first: u32,
+    weight: i128,
+    other: i128,
+    sums: &mut [i128],
+    others: &mut [i128],
+)
+    requires ascending { IsAscending (shown_terms terms.now) }
+    requires values { All (λ term. IsWithin (2 ^ 44) term.value) (shown_terms terms.now) }
+    requires weight { IsWithin (2 ^ 62 - 1) weight }
+    requires other { IsWithin (2 ^ 62 - 1) other }
+    requires room { AllWithin (2 ^ 124) sums.old }
+    requires other_room { AllWithin (2 ^ 124) others.old }
+    requires same { length others.old ≡ length sums.old }
+    ensures sums { AddsRow (shown_terms terms.now) first weight sums.old sums.new }
+    ensures others { AddsRow (shown_terms terms.now) first other others.old others.new }
+{
+    if weight == 0 {
+        add_row(terms, first, other, others);
+        return;
+    }
+    add_terms_to_both(
+        from_column(terms, first),
+        first,
+        weight,
+        other,
+        sums,
+        others,
+    )
+}
+
+// The same, where no term stands before the column `first`.
+fn add_terms_to_both(
+    terms: &[StoredTerm],
+    first: u32,
+    weight: i128,
+    other: i128,
+    sums: &mut [i128],
+    others: &mut [i128],
+)
+    requires ascending { IsAscending (shown_terms terms.now) }
+    requires from { (k : ℕ) → k < length terms.now → first ≤ column_in (shown_terms terms.now) k }
+    requires values { All (λ term. IsWithin (2 ^ 44) term.value) (shown_terms terms.now) }
+    requires weight { IsWithin (2 ^ 62 - 1) weight }
+    requires other { IsWithin (2 ^ 62 - 1) other }
+    requires room { AllWithin (2 ^ 124) sums.old }
+    requires other_room { AllWithin (2 ^ 124) others.old }
+    requires same { length others.old ≡ length sums.old }
+    ensures sums { AddsRow (shown_terms terms.now) first weight sums.old sums.new }
+    ensures others { AddsRow (shown_terms terms.now) first other others.old others.new }
+{
+    for term in terms {
+        let at = (term.column - first) as usize;
+        if at >= sums.len() {
+            break;
+        }
+        sums[at] = add_step(sums[at], term.value, weight);
+        others[at] = add_step(others[at], term.value, other);
+    }
+}
+
 // A sum with a coefficient times a number. Both have 64 bits, so that one multiplication of the machine serves.
 #[inline]
-fn add_step(sum: i128, value: i128, number: i128) -> i128
+fn add_step(sum: i128, value: i64, number: i128) -> i128
     requires value { IsWithin (2 ^ 44) value }
     requires number { IsWithin (2 ^ 62 - 1) number }
     requires room { unsigned_abs sum + unsigned_abs value * unsigned_abs number < 2 ^ 126 }
     ensures { result ≡ sum +ℤ value *ℤ number }
 {
-    sum + i128::from(value as i64) * i128::from(number as i64)
+    sum + i128::from(value) * i128::from(number as i64)
 }

@@ -39,7 +39,7 @@ fn divides_the_cost_and_each_row(rt: HostRuntime) -> Result<(), Fail> {
     assert_eq!(rt; lp.coefficient(0, 0), 0);
     assert_eq!(rt; lp.coefficient(0, 1), -2);
     assert_eq!(rt; lp.right(0), 3);
-    assert_eq!(rt; lp.terms(1).len(), 0);
+    assert_eq!(rt; lp.term_count(1), 0);
     assert_eq!(rt; lp.right(1), 0);
     Ok(())
 }

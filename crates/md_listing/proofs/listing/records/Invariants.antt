@@ -1,4 +1,4 @@
-use Rattle.std.proofs.Common.{◌≡◌, ◌∷◌, ◌++◌, take}
+use Rattle.std.proofs.Common.{◌≡◌, ◌∷◌, take}
 use Rattle.md_mech.specs.Rows.{rows_of}
 use Rattle.md_listing.specs.Listing.{program_record, cost_record, row_records}
 use Rattle.md_listing.proofs.listing.records.Given as goal

@@ -1,4 +1,4 @@
-use Rattle.std.proofs.Common.{◌≡◌, ◌+◌, ◌++◌, sym, ap, ◌∙◌, append_assoc}
+use Rattle.std.proofs.Common.{◌≡◌, ◌++◌, sym, ap, ◌∙◌, append_assoc}
 use Rattle.md_math.proofs.Builders.{up_to-more}
 use Rattle.md_lp.specs.Program.{cost_at}
 use Rattle.md_listing.specs.Listing.{pairs_of, pair_at}

@@ -1,8 +1,7 @@
-use Rattle.std.proofs.Common.{◌≡◌, ◌++◌, ℕ, take}
-use Rattle.md_lp.specs.Program.{value_of}
-use Rattle.md_lp.specs.Shape.{HasPlaces}
+use Rattle.std.proofs.Common.{◌≡◌, ◌++◌, take}
+use Rattle.md_lp.specs.Program.{row_at, value_of}
 use Rattle.md_listing.specs.Listing.{pairs_of}
 use Rattle.md_listing.proofs.pairs.with_terms.Given as goal
 
-abbrev pub invariant-loop-term : goal.invariant-loop-term
-invariant-loop-term l = (columns : ℕ) → HasPlaces columns l.terms → l.filled ≡ l.fn.fields ++ pairs_of columns (value_of (take l.term-index l.terms))
+abbrev pub invariant-loop-place : goal.invariant-loop-place
+invariant-loop-place l = l.filled ≡ l.fn.fields ++ pairs_of l.lp.columns (value_of (take l.place (row_at l.lp l.row).terms))

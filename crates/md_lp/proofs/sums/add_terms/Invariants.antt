@@ -1,5 +1,6 @@
+use Rattle.md_lp.specs.Stored.{shown_terms}
 use Rattle.md_lp.proofs.RowRuns.{AddsSoFar}
 use Rattle.md_lp.proofs.sums.add_terms.Given as goal
 
 abbrev pub invariant-loop-term : goal.invariant-loop-term
-invariant-loop-term l = AddsSoFar l.terms l.term-index l.first l.weight l.fn.sums l.sums
+invariant-loop-term l = AddsSoFar (shown_terms l.terms) l.term-index l.first l.weight l.fn.sums l.sums

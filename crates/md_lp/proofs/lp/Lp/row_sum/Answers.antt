@@ -3,6 +3,7 @@ use Rattle.md_math.specs.Lists.{number_at}
 use Rattle.md_math.specs.Sums.{dot}
 use Rattle.md_lp.specs.Program.{value_of}
 use Rattle.md_lp.specs.Point.{row_sum}
+use Rattle.md_lp.specs.Stored.{shown_terms}
 use Rattle.md_lp.proofs.Bits.{result_back}
 use Rattle.md_lp.proofs.SparseRows.{All-below, dot-value_of}
 use Rattle.md_lp.proofs.ColumnRuns.{row_sum-within}
@@ -12,7 +13,7 @@ use Rattle.md_lp.proofs.lp.Lp.row_sum.Goals as goal
 value_is : (c : goal.After-sum_of_terms) → c.sum_of_terms.result ≡ row_sum c.args.self.now (number_at c.args.numbers.now) c.args.row
 value_is c =
     c.sum_of_terms.ensures
-    ∙ sym (dot-value_of c.args.self.now.columns c.terms.result.now (number_at c.args.numbers.now) (All-below c.args.self.now.columns c.terms.result.now c.terms.ensures.places))
+    ∙ sym (dot-value_of c.args.self.now.columns (shown_terms c.terms.result.now) (number_at c.args.numbers.now) (All-below c.args.self.now.columns (shown_terms c.terms.result.now) c.terms.ensures.places))
     ∙ ap (λ terms. dot c.args.self.now.columns (value_of terms) (number_at c.args.numbers.now)) c.terms.ensures.value
 
 pub sum_of_terms-requires-clause-few : goal.sum_of_terms-requires-clause-few

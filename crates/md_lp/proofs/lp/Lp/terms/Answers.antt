@@ -2,6 +2,7 @@ use Rattle.std.proofs.Common.{◌≡◌, ◌^◌, arith}
 use Rattle.std.proofs.lemmas.Grind.{common_steps}
 use Rattle.md_lp.specs.Program.{row_at}
 use Rattle.md_lp.specs.Shape.{IsShaped, IsShapedRow}
+use Rattle.md_lp.specs.Stored.{shown_terms}
 use Rattle.md_lp.proofs.ShapeLaws.{row-shaped, value_sizes}
 use Rattle.md_lp.proofs.lp.Lp.terms.Goals as goal
 
@@ -10,7 +11,7 @@ shaped_row c =
     let shaped : IsShaped c.args.self.now = rw (← c.self.view_is) c.self.invariant in
     row-shaped c.args.self.now c.args.row shaped c.requires
 
-terms_are : (c : goal.After-as_slice) → c.as_slice.result.now ≡ (row_at c.args.self.now c.args.row).terms
+terms_are : (c : goal.After-as_slice) → shown_terms c.as_slice.result.now ≡ (row_at c.args.self.now c.args.row).terms
 terms_are c = grind (arith, common_steps)
 
 pub returns-clause-places : goal.returns-clause-places
