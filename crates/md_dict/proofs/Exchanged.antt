@@ -277,6 +277,19 @@ Holds-exchanged p d row column g kept h k = record {
 pub IsNarrow-exchanged : (d : Condensed) (row column : ℕ) (g : ℤ) (kept : List ℤ) → AreWritten d row column g kept → IsNarrow d.rows d.columns (limit_of d.bits) (entry_at (exchanged d row column g kept))
 IsNarrow-exchanged d row column g kept h = record { entries = λ i j a b. subst (IsWithin (limit_of d.bits)) (sym (entry_is d row column g kept h i j a)) (h.narrow.entries i j a b) }
 
+-- where no entry is wide, the new denominator is within the limit
+pub den_within : (d : Condensed) (row column : ℕ) (g : ℤ) → IsExchange d row column → IsNarrow d.rows d.columns (limit_of d.bits) (new_entry (step_of d row column g) d.kept d.seat g) → IsWithin (limit_of d.bits) (int_div (d.den *ℤ kept_number d row (slice_index d.seat column)) g)
+den_within d row column g h n =
+    let c : column < d.columns = h.column_in in
+    let r : row < d.rows = h.row_in in
+    let seat : seat_after (step_of d row column g) d.seat column ≡ d.columns + row = seat-entering d row column g in
+    let place : seat_after (step_of d row column g) d.seat column - d.columns ≡ row = omega arith in
+    subst (λ z. IsWithin (limit_of d.bits) (int_div z g))
+    (raw_at-basic (step_of d row column g) d.kept d.seat row column (omega arith) (omega arith)
+    ∙ ap (λ k. basic_value d.rows d.columns (d.den *ℤ kept_number d row (slice_index d.seat column)) k column row) place
+    ∙ basic_own d.rows d.columns row column (d.den *ℤ kept_number d row (slice_index d.seat column)))
+    (n.entries row column (omega arith) (omega arith))
+
 -- the limits are kept
 pub IsShaped-exchanged : (d : Condensed) (row column : ℕ) (g : ℤ) (kept : List ℤ) → AreWritten d row column g kept → IsShapedDictionary (exchanged d row column g kept)
 IsShaped-exchanged d row column g kept h = record {
@@ -287,20 +300,8 @@ IsShaped-exchanged d row column g kept h = record {
   positive =
       positive_from_*ℤ g (exchanged d row column g kept).den h.divisor.positive
       (subst (λ z. pos 0 <ℤ z) (sym (Divides-int_div g (d.den *ℤ kept_number d row (slice_index d.seat column)) h.divisor.of_den)) (positive-*ℤ d.den (kept_number d row (slice_index d.seat column)) h.exchange.shape.positive h.exchange.positive));
-  den_size = den_size;
+  den_size = den_within d row column g h.exchange h.narrow;
   places = AreInverse-exchanged d row column g kept h.exchange;
   kept_length = h.table.kept_length;
   kept_size = h.table.kept_limit;
 }
-  where
-    den_size : IsWithin (limit_of d.bits) (exchanged d row column g kept).den
-    den_size =
-        let c : column < d.columns = h.exchange.column_in in
-        let r : row < d.rows = h.exchange.row_in in
-        let seat : seat_after (step_of d row column g) d.seat column ≡ d.columns + row = seat-entering d row column g in
-        let place : seat_after (step_of d row column g) d.seat column - d.columns ≡ row = omega arith in
-        subst (λ z. IsWithin (limit_of d.bits) (int_div z g))
-        (raw_at-basic (step_of d row column g) d.kept d.seat row column (omega arith) (omega arith)
-        ∙ ap (λ k. basic_value d.rows d.columns (d.den *ℤ kept_number d row (slice_index d.seat column)) k column row) place
-        ∙ basic_own d.rows d.columns row column (d.den *ℤ kept_number d row (slice_index d.seat column)))
-        (h.narrow.entries row column (omega arith) (omega arith))

@@ -4,7 +4,7 @@ mod Change
 pub mod Exchange
 pub mod Exchanged
 mod Readers
-mod Quick
+mod NewNumbers
 mod Reading
 pub mod FirstLaws
 pub mod RawPivot

@@ -2,12 +2,12 @@
 use Rattle.std.proofs.Common.{◌≡◌, ℕ, ◌+◌, ◌<◌, List, ℤ, pos, ◌*ℤ◌, ◌≤ℤ◌, ◌<ℤ◌, int_div, unsigned_abs, ◌*◌, ◌≤◌, mul-le-mul_right, ap, ◌∙◌, refl, sym, ne_eqb, subst, inl, inr, arith}
 use Rattle.std.proofs.lemmas.Bool.{cases_lt}
 use Rattle.md_math.specs.Divisors.{Divides, IsGcdOfTwo}
-use Rattle.md_math.proofs.Division.{Divides_trans, Divides_refl, Divides-*ℤ_right, one-Divides, Divides-int_div}
+use Rattle.md_math.proofs.Division.{Divides_trans, Divides_refl, Divides-int_div}
 use Rattle.md_math.proofs.Order.{positive-*ℤ}
 use Rattle.std.proofs.lemmas.Int.{ints, unsigned_abs-mul}
 use Rattle.std.proofs.Math.Nat as NatL
 use Rattle.md_dict.specs.declared.step.Step.{Step}
-use Rattle.md_dict.specs.Step.{raw_number, old_number, multiplier_of, factor_of, DividesPlaces, IsApart, IsRowDivisor, IsStepDivisor}
+use Rattle.md_dict.specs.Step.{raw_number, old_number, multiplier_of, factor_of, IsApart, IsRowDivisor, IsStepDivisor}
 
 -- what divides a positive number and is not negative is positive
 pub positive_divisor : (b g : ℤ) → pos 0 <ℤ b → Divides g b → pos 0 ≤ℤ g → pos 0 <ℤ g
@@ -60,8 +60,6 @@ IsStepDivisor-more step kept n d g h q = record {
   greatest = λ x a b. q.greatest x (h.greatest x a (record { at = λ i s c e. b.at i s (omega arith) e })) (record { at = λ s c. b.at n s (omega arith) c });
 }
 
--- ---- what is seen at once
-
 -- an exact quotient is no greater than the number
 pub quotient_size : (d x : ℤ) → pos 0 <ℤ d → Divides d x → unsigned_abs (int_div x d) ≤ unsigned_abs x
 quotient_size d x p h =
@@ -78,18 +76,9 @@ Divides-sizes d x h = record { divides = h.divides }
 pub IsGcdOfTwo-divides : (d x : ℤ) → pos 0 <ℤ d → Divides d x → IsGcdOfTwo d x d
 IsGcdOfTwo-divides d x p h = record { nonneg = omega (arith, ints); left = Divides_refl d; right = h; greatest = λ _ a _. a }
 
-pub IsRowDivisor-kept : (step : Step) (kept : List ℤ) (i n : ℕ) (before : ℤ) → pos 0 <ℤ before → DividesPlaces step kept i n before → IsRowDivisor step kept i n before before
-IsRowDivisor-kept step kept i n before p h = record { positive = p; of_before = Divides_refl before; of_places = h; greatest = λ _ a _. a }
-
-pub DividesPlaces-one : (step : Step) (kept : List ℤ) (i n : ℕ) (g : ℤ) → Divides g (pos 1) → DividesPlaces step kept i n g
-DividesPlaces-one step kept i n g h = record { at = λ s _. Divides_trans g (pos 1) (raw_number step kept i s) h (one-Divides (raw_number step kept i s)) }
-
 -- a row from which the pivot row is not taken is multiplied by the pivot
 pub raw_apart : (step : Step) (kept : List ℤ) (i s : ℕ) → IsApart step kept i → raw_number step kept i s ≡ step.pivot *ℤ old_number step kept i s
 raw_apart step kept i s h =
     let own : multiplier_of step i ≡ step.pivot = rw (ne_eqb i step.row h.other) refl in
     let none : factor_of step kept i ≡ pos 0 = rw (ne_eqb i step.row h.other) h.zero in
     rw (own, none) (omega (arith, ints))
-
-pub DividesPlaces-apart : (step : Step) (kept : List ℤ) (i n : ℕ) (g : ℤ) → IsApart step kept i → Divides g step.pivot → DividesPlaces step kept i n g
-DividesPlaces-apart step kept i n g h d = record { at = λ s _. subst (Divides g) (sym (raw_apart step kept i s h)) (Divides-*ℤ_right g step.pivot (old_number step kept i s) d) }

@@ -2,22 +2,24 @@
 use Rattle.std.proofs.Common.{◌≡◌, ℕ, ◌+◌, ◌-◌, ◌*◌, ◌^◌, ◌<◌, ◌≤◌, ◌==◌, ◌&&◌, nat_le, Bool, true, false, if◌then◌else◌, List, length, get_or, slice_index, slice_set, ℤ, pos, ◌*ℤ◌, neg_ℤ, ◌<ℤ◌, int_div, to_z, of_z, unsigned_abs, refl, sym, ap, ◌∙◌, subst, inl, inr, arith, eq-eqb, ne_eqb}
 use Rattle.std.proofs.lemmas.Bool.{cases_lt, cases_eq}
 use Rattle.std.proofs.lemmas.List.{get_or_read}
-use mir.Syntax.{w128}
+use mir.Syntax.{w64, w128}
 use Rattle.md_num.specs.Limits.{limit_of}
 use Rattle.md_math.specs.Sizes.{IsWithin}
-use Rattle.md_math.proofs.SizeLaws.{AllWithin-number_at, IsWithin-wider, IsWithin-neg_ℤ, IsWithin-zero}
+use Rattle.md_math.proofs.SizeLaws.{AllWithin-number_at, AllWithin-wider, IsWithin-wider, IsWithin-neg_ℤ, IsWithin-zero}
 use Rattle.md_math.proofs.Ring.{linear}
 use Rattle.md_dict.specs.declared.step.Step.{Step}
-use Rattle.md_dict.specs.Condensed.{Condensed, basic_at, kept_number, entry_at, IsShapedDictionary, TakesColumn}
+use Rattle.md_dict.specs.Condensed.{Condensed, basic_at, kept_number, entry_at, IsFresh, IsShapedDictionary, TakesColumn}
 use Rattle.md_dict.specs.Dictionary.{basic_value}
 use Rattle.md_dict.specs.Pivot.{with_column}
 use Rattle.md_dict.specs.Wide.{IsNarrow}
-use Rattle.md_dict.specs.Step.{new_entry, IsStepDivisor, IsStep, IsTable, IsReady, IsWritten}
+use Rattle.md_dict.specs.Step.{new_entry, IsStepDivisor, IsTable}
+use Rattle.md_dict.specs.Fill.{IsWideFor, IsFilledBy}
 use Rattle.md_dict.specs.Exchange.{step_of, exchanged, IsExchange, AreWritten}
-use Rattle.md_dict.proofs.Reading.{read_small, read_wide}
+use Rattle.md_dict.proofs.Reading.{read_short, read_small, read_wide}
 use Rattle.md_dict.proofs.Writing.{place_inside}
+use Rattle.md_dict.proofs.NewNumbers.{AreRowsNarrow-filled, IsNarrow-from}
 use Rattle.md_dict.proofs.Exchange.{limit_le, entry-right, entry-kept, entry-basic, IsStep-step_of}
-use Rattle.md_dict.proofs.Exchanged.{IsReady-of}
+use Rattle.md_dict.proofs.Exchanged.{IsReady-of, den_within}
 use Rattle.md_dict.proofs.RawPivot.{basic_other}
 
 -- a number that was read from the list is the kept number, within the limit
@@ -25,13 +27,15 @@ pub record IsRead (d : Condensed) (i s : ℕ) (x : ℤ) : Type 0 where
   pub value : x ≡ kept_number d i s
   pub size : IsWithin (limit_of d.bits) x
   pub bits : to_z w128 (of_z w128 x) ≡ x
+  pub short : to_z w64 (of_z w64 x) ≡ x
 
 pub read_kept : (d : Condensed) (i s : ℕ) (x : ℤ) → IsShapedDictionary d → i < d.rows + 2 → s < d.columns + 1 → x ≡ get_or d.kept (i * (d.columns + 1) + s) x → IsRead d i s x
 read_kept d i s x h a b e =
     let inside : i * (d.columns + 1) + s < length d.kept = omega (arith, place_inside (d.columns + 1) i s (d.rows + 2) b a, h.kept_length) in
     let value : x ≡ kept_number d i s = get_or_read d.kept (i * (d.columns + 1) + s) x inside e (pos 0) in
     let size : IsWithin (limit_of d.bits) x = subst (IsWithin (limit_of d.bits)) (sym value) (AllWithin-number_at (limit_of d.bits) d.kept (i * (d.columns + 1) + s) h.kept_size) in
-    record { value = value; size = size; bits = read_small x (IsWithin-wider (limit_of d.bits) (2 ^ 62) x (limit_le d.bits h.most_bits) size) }
+    let small : IsWithin (2 ^ 62) x = IsWithin-wider (limit_of d.bits) (2 ^ 62) x (limit_le d.bits h.most_bits) size in
+    record { value = value; size = size; bits = read_small x small; short = read_short x small }
 
 -- the denominator
 pub read_den : (d : Condensed) → IsShapedDictionary d → to_z w128 (of_z w128 d.den) ≡ d.den
@@ -56,22 +60,13 @@ IsStepDivisor-same d row column g h x n q = record {
   greatest = λ y a b. q.greatest y a (record { at = b.at });
 }
 
-pub IsStepDivisor-with : (step : Step) (kept : List ℤ) (g x : ℤ) (n : ℕ) → IsStepDivisor step kept n x → IsStepDivisor (record step { divisor = g }) kept n x
-IsStepDivisor-with step kept g x n q = record {
-  positive = q.positive;
-  of_den = q.of_den;
-  of_rows = record { at = q.of_rows.at };
-  greatest = λ y a b. q.greatest y a (record { at = b.at });
-}
-
--- a step with its numbers read back from their bits
-pub step_read : (step : Step) (pivot den g : ℤ) → pivot ≡ step.pivot → den ≡ step.den → record { rows = step.rows; columns = step.columns; row = step.row; place = step.place; entering = step.entering; leaving = step.leaving; pivot = pivot; den = den; limit = step.limit; divisor = g } ≡ record step { divisor = g }
-step_read step pivot den g p q = λ i. record { rows = step.rows; columns = step.columns; row = step.row; place = step.place; entering = step.entering; leaving = step.leaving; pivot = p i; den = q i; limit = step.limit; divisor = g }
-
 -- ---- a fact of one value, for an equal one
 
 pub entry_for : (v d : Condensed) (i j : ℕ) (x : ℤ) → v ≡ d → x ≡ entry_at v i j → x ≡ entry_at d i j
 entry_for v d i j x p h = subst (λ f. x ≡ entry_at f i j) p h
+
+pub number_for : (v d : Condensed) (i s : ℕ) (x : ℤ) → v ≡ d → x ≡ kept_number v i s → x ≡ kept_number d i s
+number_for v d i s x p h = subst (λ f. x ≡ kept_number f i s) p h
 
 pub within_for : (v d : Condensed) (x : ℤ) → v ≡ d → IsWithin (limit_of v.bits) x → IsWithin (limit_of d.bits) x
 within_for v d x p h = subst (λ f. IsWithin (limit_of f.bits) x) p h
@@ -79,49 +74,81 @@ within_for v d x p h = subst (λ f. IsWithin (limit_of f.bits) x) p h
 pub step_for : (v d : Condensed) (row column : ℕ) (s : Step) → v ≡ d → s ≡ step_of v row column (pos 1) → s ≡ step_of d row column (pos 1)
 step_for v d row column s p h = subst (λ f. s ≡ step_of f row column (pos 1)) p h
 
-pub exchange_for : (d : Condensed) (row column : ℕ) (g : ℤ) (s : Step) → s ≡ step_of d row column g → IsExchange d row column → IsExchange d s.row s.entering
-exchange_for d row column g s e h = subst (λ t. IsExchange d t.row t.entering) (sym e) h
-
-pub divisor_for : (d : Condensed) (row column : ℕ) (g : ℤ) (s : Step) → s ≡ step_of d row column g → IsStepDivisor (step_of d row column (pos 1)) d.kept (d.rows + 2) g → IsStepDivisor s d.kept (d.rows + 2) g
-divisor_for d row column g s e h = subst (λ t. IsStepDivisor t d.kept (d.rows + 2) g) (sym e) (IsStepDivisor-same d row column (pos 1) g g (d.rows + 2) h)
-
-pub step_is_of : (d : Condensed) (row column : ℕ) (s : Step) → s ≡ step_of d row column s.divisor → s ≡ step_of d s.row s.entering s.divisor
-step_is_of d row column s e = subst (λ t. s ≡ step_of d t.row t.entering s.divisor) (sym e) e
-
-pub IsStep-for : (d : Condensed) (s : Step) → s ≡ step_of d s.row s.entering s.divisor → IsExchange d s.row s.entering → IsStep s d.kept
-IsStep-for d s e h = subst (λ t. IsStep t d.kept) (sym e) (IsStep-step_of d s.row s.entering s.divisor h)
-
 -- ---- the value that the code writes
 
-pub exchanged_is : (v d : Condensed) (s : Step) (den : ℤ) (kept : List ℤ) → v ≡ d → s ≡ step_of d s.row s.entering s.divisor → den ≡ int_div (s.den *ℤ s.pivot) s.divisor → record { rows = v.rows; columns = v.columns; bits = v.bits; den = den; order = slice_set (slice_set v.order s.place s.leaving) (s.columns + s.row) s.entering; seat = slice_set (slice_set v.seat s.entering (s.columns + s.row)) s.leaving s.place; kept = kept } ≡ exchanged d s.row s.entering s.divisor kept
-exchanged_is v d s den kept p e q =
+pub exchanged_is : (v d : Condensed) (s : Step) (g den : ℤ) (kept : List ℤ) → v ≡ d → s ≡ step_of d s.row s.entering (pos 1) → den ≡ int_div (s.den *ℤ s.pivot) g → record { rows = v.rows; columns = v.columns; bits = v.bits; den = den; order = slice_set (slice_set v.order s.place s.leaving) (s.columns + s.row) s.entering; seat = slice_set (slice_set v.seat s.entering (s.columns + s.row)) s.leaving s.place; kept = kept } ≡ exchanged d s.row s.entering g kept
+exchanged_is v d s g den kept p e q =
     λ i. record {
       rows = (p i).rows;
       columns = (p i).columns;
       bits = (p i).bits;
-      den = (q ∙ ap (λ t. int_div (t.den *ℤ t.pivot) s.divisor) e) i;
+      den = (q ∙ ap (λ t. int_div (t.den *ℤ t.pivot) g) e) i;
       order = slice_set (slice_set (p i).order (e i).place (e i).leaving) ((e i).columns + (e i).row) (e i).entering;
       seat = slice_set (slice_set (p i).seat (e i).entering ((e i).columns + (e i).row)) (e i).leaving (e i).place;
       kept = kept;
     }
 
-pub AreWritten-for : (d : Condensed) (s : Step) (kept : List ℤ) → s ≡ step_of d s.row s.entering s.divisor → IsExchange d s.row s.entering → IsStepDivisor s d.kept (d.rows + 2) s.divisor → IsNarrow d.rows d.columns (limit_of d.bits) (new_entry s d.kept d.seat s.divisor) → IsWritten s s.divisor d.kept kept → IsTable s kept → AreWritten d s.row s.entering s.divisor kept
-AreWritten-for d s kept e h q n w t = record {
-  exchange = h;
-  divisor = subst (λ u. IsStepDivisor u d.kept (d.rows + 2) s.divisor) e q;
-  narrow = subst (λ u. IsNarrow d.rows d.columns (limit_of d.bits) (new_entry u d.kept d.seat s.divisor)) e n;
-  written = subst (λ u. IsWritten u s.divisor d.kept kept) e w;
-  table = subst (λ u. IsTable u kept) e t;
+-- a second table serves a step as the first one does
+pub IsTable-fresh : (d : Condensed) (s : Step) (fresh : List ℤ) → s ≡ step_of d s.row s.entering (pos 1) → IsExchange d s.row s.entering → IsFresh d.rows d.columns d.bits fresh → IsTable s fresh
+IsTable-fresh d s fresh e h f =
+    let t = (IsStep-step_of d s.row s.entering (pos 1) h).table in
+    subst (λ u. IsTable u fresh) (sym e) (record {
+      row_limit = t.row_limit;
+      column_limit = t.column_limit;
+      row_in = t.row_in;
+      place_in = t.place_in;
+      limit_size = t.limit_size;
+      kept_length = f.length_is;
+      kept_size = AllWithin-wider (limit_of d.bits) (2 ^ 62) fresh (limit_le d.bits h.shape.most_bits) f.size;
+      kept_limit = f.size;
+      den_size = t.den_size;
+      pivot_size = t.pivot_size;
+      den_positive = t.den_positive;
+      pivot_positive = t.pivot_positive;
+    })
+
+-- the divisor is no part of a table
+IsTable-with : (d : Condensed) (row column : ℕ) (g h : ℤ) (kept : List ℤ) → IsTable (step_of d row column g) kept → IsTable (step_of d row column h) kept
+IsTable-with d row column g h kept t = record {
+  row_limit = t.row_limit;
+  column_limit = t.column_limit;
+  row_in = t.row_in;
+  place_in = t.place_in;
+  limit_size = t.limit_size;
+  kept_length = t.kept_length;
+  kept_size = t.kept_size;
+  kept_limit = t.kept_limit;
+  den_size = t.den_size;
+  pivot_size = t.pivot_size;
+  den_positive = t.den_positive;
+  pivot_positive = t.pivot_positive;
 }
 
--- each row can be written
-pub IsReady-for : (d : Condensed) (s : Step) → s ≡ step_of d s.row s.entering s.divisor → IsExchange d s.row s.entering → IsStepDivisor s d.kept (d.rows + 2) s.divisor → IsNarrow d.rows d.columns (limit_of d.bits) (new_entry s d.kept d.seat s.divisor) → (i : ℕ) → i < s.rows + 2 → IsReady s d.kept s.divisor i
-IsReady-for d s e h q n i a =
-    subst (λ u. IsReady u d.kept s.divisor i) (sym e)
-    (IsReady-of d s.row s.entering s.divisor h
-    (subst (λ u. IsStepDivisor u d.kept (d.rows + 2) s.divisor) e q)
-    (subst (λ u. IsNarrow d.rows d.columns (limit_of d.bits) (new_entry u d.kept d.seat s.divisor)) e n)
-    i (subst (λ u. i < u.rows + 2) e a))
+-- what is written is the table after the pivot
+pub AreWritten-filled : (d : Condensed) (s : Step) (g : ℤ) (new : List ℤ) → s ≡ step_of d s.row s.entering (pos 1) → IsExchange d s.row s.entering → IsFilledBy s d.kept new g → IsTable s new → AreWritten d s.row s.entering g new
+AreWritten-filled d s g new e h f t = record {
+  exchange = h;
+  divisor = divisor;
+  narrow = IsNarrow-from (step_of d s.row s.entering g) d.kept d.seat h.place_in divisor filled.den (record { at = (AreRowsNarrow-filled (step_of d s.row s.entering (pos 1)) g d.kept new filled.divisor.positive table filled.rows filled.divisor.of_rows).at });
+  written = record { length_is = table.kept_length ∙ sym h.shape.kept_length; numbers = filled.rows.at };
+  table = IsTable-with d s.row s.entering (pos 1) g new table;
+}
+  where
+    filled : IsFilledBy (step_of d s.row s.entering (pos 1)) d.kept new g
+    filled = subst (λ u. IsFilledBy u d.kept new g) e f
+
+    table : IsTable (step_of d s.row s.entering (pos 1)) new
+    table = subst (λ u. IsTable u new) e t
+
+    divisor : IsStepDivisor (step_of d s.row s.entering g) d.kept (d.rows + 2) g
+    divisor = IsStepDivisor-same d s.row s.entering (pos 1) g g (d.rows + 2) filled.divisor
+
+-- where the denominator or a number is above the limit, not all entries are within it
+pub not_narrow : (d : Condensed) (row column : ℕ) (s : Step) (g : ℤ) → s ≡ step_of d row column (pos 1) → IsExchange d row column → IsWideFor s d.kept → IsStepDivisor (step_of d row column (pos 1)) d.kept (d.rows + 2) g → IsNarrow d.rows d.columns (limit_of d.bits) (new_entry (step_of d row column g) d.kept d.seat g) → ⊥
+not_narrow d row column s g e h w q n =
+    let wide : IsWideFor (step_of d row column (pos 1)) d.kept = subst (λ t. IsWideFor t d.kept) e w in
+    wide.wide g q (den_within d row column g h n)
+    (record { at = λ i s a b. (IsReady-of d row column g h (IsStepDivisor-same d row column (pos 1) g g (d.rows + 2) q) n i a).narrow s b })
 
 -- ---- a pivot at a column that is basic already
 

@@ -1,6 +1,7 @@
 pub mod Condensed
 pub mod Dictionary
 pub mod Exchange
+pub mod Fill
 pub mod FirstTable
 pub mod Pivot
 pub mod Start

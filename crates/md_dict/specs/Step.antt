@@ -105,27 +105,9 @@ pub record IsApart (step : Step) (kept : List ℤ) (i : ℕ) : Type 0 where
   pub other : i ≢ step.row
   pub zero : number_in step kept i step.place ≡ pos 0
 
--- the new numbers of a row are within the limit
-pub record IsRowNarrow (step : Step) (kept : List ℤ) (divisor : ℤ) (i : ℕ) : Type 0 where
-  pub at : (s : ℕ) → s < step.columns + 1 → IsWithin step.limit (int_div (raw_number step kept i s) divisor)
-
 -- the new numbers of the first rows are within the limit
 pub record AreRowsNarrow (step : Step) (kept : List ℤ) (divisor : ℤ) (n : ℕ) : Type 0 where
   pub at : (i s : ℕ) → i < n → s < step.columns + 1 → IsWithin step.limit (int_div (raw_number step kept i s) divisor)
-
--- the divisor times the new numbers of a row, at the first n places, are its raw numbers; all other numbers stay
-pub record IsRowWritten (step : Step) (divisor : ℤ) (old new : List ℤ) (i n : ℕ) : Type 0 where
-  pub length_is : length new ≡ length old
-  pub written : (s : ℕ) → s < n → divisor *ℤ number_in step new i s ≡ raw_number step old i s
-  pub left : (s : ℕ) → n ≤ s → s < step.columns + 1 → number_in step new i s ≡ number_in step old i s
-  pub others : (k s : ℕ) → k ≢ i → s < step.columns + 1 → number_in step new k s ≡ number_in step old k s
-
--- the same of the first n rows but the pivot row
-pub record AreRowsWritten (step : Step) (divisor : ℤ) (old new : List ℤ) (n : ℕ) : Type 0 where
-  pub length_is : length new ≡ length old
-  pub written : (i s : ℕ) → i < n → i ≢ step.row → s < step.columns + 1 → divisor *ℤ number_in step new i s ≡ raw_number step old i s
-  pub left : (i s : ℕ) → n ≤ i → s < step.columns + 1 → number_in step new i s ≡ number_in step old i s
-  pub pivot_row : (s : ℕ) → s < step.columns + 1 → number_in step new step.row s ≡ number_in step old step.row s
 
 -- the divisor times the new numbers are the raw numbers
 pub record IsWritten (step : Step) (divisor : ℤ) (old new : List ℤ) : Type 0 where

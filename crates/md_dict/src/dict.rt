@@ -1,4 +1,4 @@
-ghost use Rattle.std.specs.Prelude.{◌≡◌, ℕ, ◌+◌, ◌*◌, ◌^◌, ◌<◌, ◌≤◌, ℤ, pos, ◌<ℤ◌, ◌≤ℤ◌, ◌*ℤ◌, ◌⊎◌, length, ◌↔◌, int_div, IfErr, IfOk, IsTrue, MatchOption, OnOk, OnErr, slice_index, ◌==◌, if◌then◌else◌, unsigned_abs};
+ghost use Rattle.std.specs.Prelude.{◌≡◌, ℕ, ◌+◌, ◌*◌, ◌^◌, ◌<◌, ◌≤◌, ℤ, pos, ◌<ℤ◌, ◌≤ℤ◌, ◌*ℤ◌, ◌⊎◌, length, ◌↔◌, int_div, IfErr, IfNone, IfOk, IfSome, IsTrue, OnOk, OnErr, slice_index, ◌==◌, if◌then◌else◌, unsigned_abs};
 ghost use Rattle.md_num.specs.Limits.{limit_of};
 ghost use Rattle.md_math.specs.Lists.{number_at};
 ghost use Rattle.md_math.specs.Sizes.{AllWithin, IsWithin};
@@ -8,14 +8,16 @@ ghost use Rattle.md_dict.specs.Pivot.{with_column};
 ghost use Rattle.md_dict.specs.Wide.{IsFirstWide, IsNarrow, IsWideBasis};
 ghost use Rattle.md_dict.specs.FirstTable.{first_entry};
 
-use crate::first::{first_columns, first_numbers, numbers_to, wide_first};
+use crate::first::{first_columns, first_numbers, numbers_to, wide_first, zeros};
 use crate::refusals::{StartRefusal, TooWide};
+use crate::sizes::greatest_size;
 use crate::step::{Step, basic_number};
-use crate::wide::{new_den, wide_entry};
+use crate::wide::first_wide;
 use md_lp::{Entry, Lp};
-use md_num::Width;
+use md_num::{Width, exact_quotient, product};
 use std::alloc::Global;
 use std::marker::Model;
+use std::mem;
 
 /// The dictionary of a basis of a linear program with m rows and n program and slack columns: whole numbers over one denominator, in least terms.
 /// Its rows are the program rows, then the face row m and the main row m + 1. Its columns are the program and slack columns, then the start columns n to n + m - 1, and the right side n + m.
@@ -28,25 +30,27 @@ pub struct Dict {
     den: i128,
     order: Vec<u32>,
     seat: Vec<u32>,
-    kept: Vec<i128>,
+    kept: Vec<i64>,
+    fresh: Vec<i64>,
 }
 
-// A dictionary is seen by its basis and the numbers that it keeps.
+// A dictionary is seen by its basis and the numbers that it keeps. The second table, of the same length, is the one that the next pivot writes.
 impl Model for Dict {
-    ghost use Rattle.md_dict.specs.Condensed.{Condensed, IsShapedDictionary};
+    ghost use Rattle.md_dict.specs.Condensed.{Condensed, IsFresh, IsShapedDictionary};
 
     ghost Value = { Condensed };
 
     ghost view = { λ d. record { rows = d.rows; columns = d.columns; bits = d.width; den = d.den; order = d.order.items; seat = d.seat.items; kept = d.kept.items } };
 
-    ghost invariant = { λ d. IsShapedDictionary (record { rows = d.rows; columns = d.columns; bits = d.width; den = d.den; order = d.order.items; seat = d.seat.items; kept = d.kept.items }) };
+    ghost invariant = { λ d. IsShapedDictionary (record { rows = d.rows; columns = d.columns; bits = d.width; den = d.den; order = d.order.items; seat = d.seat.items; kept = d.kept.items }) × IsFresh d.rows d.columns d.width d.fresh.items };
 }
 
 impl Dict {
-    ghost use Rattle.md_dict.specs.Condensed.{Holds, IsGreatestSize, IsShapedDictionary, KeepsEachOnce, TakesColumn, basic_at, entry_at, kept_column_at};
+    ghost use Rattle.md_dict.specs.Condensed.{Holds, IsGreatestSize, IsShapedDictionary, KeepsEachOnce, TakesColumn, basic_at, entry_at, kept_column_at, kept_number};
     ghost use Rattle.md_dict.specs.Start.{IsRefused, IsStart};
     ghost use Rattle.md_dict.specs.Step.{IsStepDivisor, new_entry};
     ghost use Rattle.md_dict.specs.Exchange.{IsExchange, AreWritten, exchanged, step_of};
+    ghost use Rattle.md_dict.specs.Fill.{IsWideFor};
 
     /// The dictionary of the first basis, which has the start columns in row order.
     /// It is refused where it has an entry above the width's limit in size, and where memory ran out.
@@ -57,6 +61,9 @@ impl Dict {
         let rows = lp.rows();
         let columns = first_columns(lp);
         let Ok(kept) = first_numbers(alloc, lp, columns) else {
+            return Err(StartRefusal::Memory);
+        };
+        let Ok(fresh) = zeros(alloc, kept.len()) else {
             return Err(StartRefusal::Memory);
         };
         let limit = width.limit().unsigned_abs();
@@ -77,6 +84,7 @@ impl Dict {
             order,
             seat,
             kept,
+            fresh,
         })
     }
 
@@ -127,14 +135,6 @@ impl Dict {
         self.order[place as usize]
     }
 
-    /// The numbers that the dictionary keeps, row by row: in each row those of the columns that are not basic, by kept place, and the right side.
-    pub fn kept(&self) -> &[i128]
-        ensures value { result.now ≡ self.now.kept }
-        ensures shape { IsShapedDictionary self.now }
-    {
-        self.kept.as_slice()
-    }
-
     /// The entry at a row and a column of the whole dictionary.
     pub fn entry(&self, row: u32, column: u32) -> i128
         requires row_in { row < self.now.rows + 2 }
@@ -145,13 +145,12 @@ impl Dict {
         // A basis has at most one dictionary.
         ensures only { (p : Program) (den : ℤ) (e : ℕ → ℕ → ℤ) → Holds p self.now → IsDictionary self.now.rows self.now.columns (first_entry p) (basic_at self.now) den e → e row column ≡ entry_at self.now row column }
     {
-        let stride = self.columns as usize + 1;
         if column >= self.columns + self.rows {
-            return self.kept[row as usize * stride + self.columns as usize];
+            return self.kept_number(row as usize, self.columns as usize);
         }
         let place = self.seat[column as usize];
         if place < self.columns {
-            return self.kept[row as usize * stride + place as usize];
+            return self.kept_number(row as usize, place as usize);
         }
         basic_number(
             self.rows as usize,
@@ -169,7 +168,7 @@ impl Dict {
         ensures greatest { IsGreatestSize self.now (unsigned_abs result) }
     {
         let least = least_size(self.rows, self.den);
-        greatest_size(self.kept.as_slice(), least) as i128
+        i128::from(greatest_size(self.kept.as_slice(), least))
     }
 
     /// Makes a program or slack column basic at a row where its entry is positive.
@@ -191,12 +190,23 @@ impl Dict {
         if self.is_basic(column) {
             return Ok(());
         }
-        let step = self.step(row, column);
-        if let Some(entry) = self.wide_entry(&step) {
-            return Err(TooWide { entry });
+        let step = self.plain_step(row, column);
+        match self.exchange(&step) {
+            Some(_) => Ok(()),
+            None => Err(TooWide {
+                entry: self.first_wide(&step),
+            }),
         }
-        self.exchange(&step);
-        Ok(())
+    }
+
+    // The kept number of a row at a place.
+    fn kept_number(&self, row: usize, place: usize) -> i128
+        requires row_in { row < self.now.rows + 2 }
+        requires place_in { place < self.now.columns + 1 }
+        ensures value { result ≡ kept_number self.now row place }
+        ensures size { IsWithin (limit_of self.now.bits) result }
+    {
+        i128::from(self.kept[row * (self.columns as usize + 1) + place])
     }
 
     // Whether a column is basic.
@@ -222,74 +232,52 @@ impl Dict {
             place,
             entering: column as usize,
             leaving: self.order[columns + row as usize] as usize,
-            pivot: self.kept[row as usize * (columns + 1) + place],
+            pivot: self.kept_number(row as usize, place),
             den: self.den,
             limit: self.width.limit().unsigned_abs(),
             divisor: 1,
         }
     }
 
-    // The step of a pivot, with the number by which all is divided.
-    fn step(&self, row: u32, column: u32) -> Step
-        requires { IsExchange self.now row column }
-        ensures step { result ≡ step_of self.now row column result.divisor }
-        ensures divisor { IsStepDivisor (step_of self.now row column (pos 1)) self.now.kept (self.now.rows + 2) result.divisor }
-        ensures size { unsigned_abs result.divisor < 2 ^ 126 }
-    {
-        self.plain_step(row, column).divided(self.kept.as_slice())
-    }
-
     // The first entry after a pivot that is above the limit.
-    fn wide_entry(&self, step: &Step) -> Option<Entry>
+    fn first_wide(&self, step: &Step) -> Entry
         requires exchange { IsExchange self.now step.now.row step.now.entering }
-        requires step { step.now ≡ step_of self.now step.now.row step.now.entering step.now.divisor }
-        requires divisor { IsStepDivisor step.now self.now.kept (self.now.rows + 2) step.now.divisor }
-        requires size { unsigned_abs step.now.divisor < 2 ^ 126 }
-        ensures { MatchOption result
-            (IsNarrow self.now.rows self.now.columns (limit_of self.now.bits) (new_entry step.now self.now.kept self.now.seat step.now.divisor))
-            (IsFirstWide self.now.rows self.now.columns (limit_of self.now.bits) (int_div (step.now.den *ℤ step.now.pivot) step.now.divisor) (new_entry step.now self.now.kept self.now.seat step.now.divisor)) }
+        requires step { step.now ≡ step_of self.now step.now.row step.now.entering (pos 1) }
+        requires wide { IsWideFor step.now self.now.kept }
+        ensures { (g : ℤ) × IsStepDivisor (step_of self.now step.now.row step.now.entering (pos 1)) self.now.kept (self.now.rows + 2) g × IsFirstWide self.now.rows self.now.columns (limit_of self.now.bits) (int_div (step.now.den *ℤ step.now.pivot) g) (new_entry step.now self.now.kept self.now.seat g) result }
     {
-        wide_entry(step, self.kept.as_slice(), self.seat.as_slice())
+        let divided = step.divided(self.kept.as_slice());
+        first_wide(&divided, self.kept.as_slice(), self.seat.as_slice())
     }
 
-    // Writes what a pivot makes of the dictionary.
-    fn exchange(&mut self, step: &Step)
+    // Makes of the dictionary what a pivot makes of it, where no entry is then above the limit, and answers the number by which all was divided.
+    fn exchange(&mut self, step: &Step) -> Option<i128>
         requires exchange { IsExchange self.old step.now.row step.now.entering }
-        requires step { step.now ≡ step_of self.old step.now.row step.now.entering step.now.divisor }
-        requires divisor { IsStepDivisor step.now self.old.kept (self.old.rows + 2) step.now.divisor }
-        requires size { unsigned_abs step.now.divisor < 2 ^ 126 }
-        requires narrow { IsNarrow self.old.rows self.old.columns (limit_of self.old.bits) (new_entry step.now self.old.kept self.old.seat step.now.divisor) }
-        ensures new { self.new ≡ exchanged self.old step.now.row step.now.entering step.now.divisor self.new.kept }
-        ensures written { AreWritten self.old step.now.row step.now.entering step.now.divisor self.new.kept }
+        requires step { step.now ≡ step_of self.old step.now.row step.now.entering (pos 1) }
+        ensures new { IfSome result (λ divisor. self.new ≡ exchanged self.old step.now.row step.now.entering divisor self.new.kept) }
+        ensures written { IfSome result (λ divisor. AreWritten self.old step.now.row step.now.entering divisor self.new.kept) }
+        ensures wide { IfNone result (IsWideFor step.now self.old.kept) }
+        ensures stays { IfNone result (self.new ≡ self.old) }
     {
-        step.write(&mut self.kept);
+        let divisor = step.fill(self.kept.as_slice(), &mut self.fresh)?;
+        mem::swap(&mut self.kept, &mut self.fresh);
         self.order[step.place] = step.leaving as u32;
         self.order[step.columns + step.row] = step.entering as u32;
         self.seat[step.entering] = (step.columns + step.row) as u32;
         self.seat[step.leaving] = step.place as u32;
-        self.den = new_den(step);
+        self.den = exact_quotient(product(step.den, step.pivot), divisor);
+        Some(divisor)
     }
 }
 
 // The size that the basic columns have, if there are any.
-fn least_size(rows: u32, den: i128) -> u128
+fn least_size(rows: u32, den: i128) -> u64
+    requires { IsWithin (2 ^ 62) den }
     ensures { result ≡ (if rows == 0 then 0 else unsigned_abs den) }
 {
-    if rows == 0 { 0 } else { den.unsigned_abs() }
-}
-
-// The greatest of a number and the sizes of others.
-fn greatest_size(numbers: &[i128], least: u128) -> u128
-    requires numbers { AllWithin (2 ^ 62) numbers.now }
-    requires least { least ≤ 2 ^ 62 }
-    ensures size { result ≤ 2 ^ 62 }
-    ensures bound { (k : ℕ) → k < length numbers.now → unsigned_abs (number_at numbers.now k) ≤ result }
-    ensures least { least ≤ result }
-    ensures reached { (result ≡ least) ⊎ ((k : ℕ) × (k < length numbers.now) × (unsigned_abs (number_at numbers.now k) ≡ result)) }
-{
-    let mut greatest = least;
-    for x in numbers {
-        greatest = greatest.max(x.unsigned_abs());
+    if rows == 0 {
+        0
+    } else {
+        den.unsigned_abs() as u64
     }
-    greatest
 }

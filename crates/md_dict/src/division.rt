@@ -1,4 +1,4 @@
-ghost use Rattle.std.specs.Prelude.{◌≡◌, ◌*◌, ◌^◌, ◌<◌, pos, neg_ℤ, ◌*ℤ◌, ◌<ℤ◌, IfSome, IsTrue, if◌then◌else◌, unsigned_abs};
+ghost use Rattle.std.specs.Prelude.{◌≡◌, ◌*◌, ◌^◌, ◌<◌, pos, neg_ℤ, ◌*ℤ◌, ◌<ℤ◌, ◌↔◌, IfSome, IsTrue, MatchOption, if◌then◌else◌, unsigned_abs};
 ghost use Rattle.md_math.specs.Divisors.{Divides, IsGcdOfTwo};
 
 use md_num::{exact_quotient, gcd};
@@ -39,25 +39,16 @@ impl Divider {
         }
     }
 
-    // Whether it divides a number.
-    pub fn divides(&self, x: i128) -> bool
+    // The quotient of a number, where it divides it.
+    pub fn exact(&self, x: i128) -> Option<i128>
         requires positive { pos 0 <ℤ self.now.value }
-        requires size { unsigned_abs self.now.value < 2 ^ 126 }
-        ensures { IsTrue result → Divides self.now.value x }
-    {
-        self.guess(x.unsigned_abs()).is_some()
-            || is_multiple(x.unsigned_abs(), self.value.unsigned_abs())
-    }
-
-    // The quotient of a number that it divides.
-    pub fn quotient(&self, x: i128) -> i128
-        requires positive { pos 0 <ℤ self.now.value }
-        requires exact { Divides self.now.value x }
-        ensures value { self.now.value *ℤ result ≡ x }
+        requires value_size { unsigned_abs self.now.value < 2 ^ 126 }
+        requires size { unsigned_abs x < 2 ^ 126 }
+        ensures { MatchOption result (¬ Divides self.now.value x) (λ q. self.now.value *ℤ q ≡ x) }
     {
         match self.guess(x.unsigned_abs()) {
-            Some(size) => with_sign(x < 0, size),
-            None => exact_quotient(x, self.value),
+            Some(size) => Some(with_sign(x < 0, size)),
+            None => quotient(x, self.value),
         }
     }
 
@@ -69,16 +60,15 @@ impl Divider {
         ensures divisor { IsGcdOfTwo self.now.value x result.value }
         ensures size { unsigned_abs result.value < 2 ^ 126 }
     {
-        if self.divides(x) {
-            *self
-        } else {
-            Divider::new(gcd(self.value, x))
+        match self.exact(x) {
+            Some(_) => *self,
+            None => Divider::new(gcd(self.value, x)),
         }
     }
 }
 
 // What an odd number is multiplied by to give 1 in 64 bits: each step doubles how many of the lowest bits are right, beginning with five.
-fn inverse(odd: u64) -> u64 {
+pub fn inverse(odd: u64) -> u64 {
     let mut inverse = odd.wrapping_mul(3) ^ 2;
     for _ in 0..4 {
         inverse = inverse.wrapping_mul(2u64.wrapping_sub(odd.wrapping_mul(inverse)));
@@ -99,10 +89,24 @@ fn with_sign(is_negative: bool, size: u64) -> i128
     if is_negative { -number } else { number }
 }
 
+// The quotient of a number by one that divides it.
+fn quotient(x: i128, divisor: i128) -> Option<i128>
+    requires positive { pos 0 <ℤ divisor }
+    requires divisor_size { unsigned_abs divisor < 2 ^ 126 }
+    requires size { unsigned_abs x < 2 ^ 126 }
+    ensures { MatchOption result (¬ Divides divisor x) (λ q. divisor *ℤ q ≡ x) }
+{
+    if is_multiple(x.unsigned_abs(), divisor.unsigned_abs()) {
+        Some(exact_quotient(x, divisor))
+    } else {
+        None
+    }
+}
+
 // Whether a size is a multiple of another.
 fn is_multiple(size: u128, divisor: u128) -> bool
     requires { 0 < divisor }
-    ensures { IsTrue result → Divides (pos divisor) (pos size) }
+    ensures { IsTrue result ↔ Divides (pos divisor) (pos size) }
 {
     size % divisor == 0
 }

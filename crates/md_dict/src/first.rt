@@ -1,7 +1,7 @@
 ghost use Rattle.std.specs.Prelude.{◌≡◌, ◌+◌, ◌*◌, ◌^◌, ◌<◌, ◌≤◌, ℕ, ℤ, neg_ℤ, ◌*ℤ◌, length, IfOk, MatchOption, OnOk};
 ghost use Rattle.md_math.specs.Lists.{list_to, number_at};
 ghost use Rattle.md_math.specs.Sums.{sum_to};
-ghost use Rattle.md_math.specs.Sizes.{IsWithin};
+ghost use Rattle.md_math.specs.Sizes.{AllWithin, IsWithin};
 ghost use Rattle.md_math.specs.FirstFailure.{HoldsBelow, IsFirstFailure};
 ghost use Rattle.md_lp.specs.Program.{kind_at, row_count};
 ghost use Rattle.md_dict.specs.FirstTable.{sign_at, column_count, first_column, first_entry, first_number, main_entry, row_entry, slacks_before};
@@ -60,7 +60,7 @@ fn row_number(lp: &Lp, columns: u32, slack: u32, row: u32, place: u32) -> i128
 }
 
 // The number of the face row at a kept place: minus the sum of the program rows, which are built.
-fn face_number(kept: &[i128], columns: u32, rows: u32, place: u32) -> i128
+fn face_number(kept: &[i64], columns: u32, rows: u32, place: u32) -> i128
     requires place { place < columns + 1 }
     requires rows { rows ≤ 8192 }
     requires columns { columns ≤ 73728 }
@@ -72,7 +72,7 @@ fn face_number(kept: &[i128], columns: u32, rows: u32, place: u32) -> i128
     let stride = columns as usize + 1;
     let mut sum = 0;
     for row in 0..rows {
-        sum += kept[row as usize * stride + place as usize];
+        sum += i128::from(kept[row as usize * stride + place as usize]);
     }
     -sum
 }
@@ -90,7 +90,7 @@ fn main_number(lp: &Lp, place: u32) -> i128
 }
 
 // The next number of the first dictionary, at a row and a kept place.
-fn next_number(kept: &[i128], lp: &Lp, columns: u32, slack: u32, row: u32, place: u32) -> i128
+fn next_number(kept: &[i64], lp: &Lp, columns: u32, slack: u32, row: u32, place: u32) -> i128
     requires columns { columns ≡ column_count lp.now }
     requires size { columns ≤ 73728 }
     requires slack { row < row_count lp.now → slack ≡ lp.now.columns + slacks_before lp.now row }
@@ -99,6 +99,7 @@ fn next_number(kept: &[i128], lp: &Lp, columns: u32, slack: u32, row: u32, place
     requires built { IsBuilt lp.now kept.now }
     requires length { row * (columns + 1) ≤ length kept.now }
     ensures value { result ≡ first_number lp.now row place }
+    ensures size { IsWithin (2 ^ 57) result }
     ensures small { row < row_count lp.now → IsWithin (2 ^ 44) result }
 {
     let rows = lp.rows();
@@ -113,7 +114,7 @@ fn next_number(kept: &[i128], lp: &Lp, columns: u32, slack: u32, row: u32, place
 
 // Appends a row of the first dictionary.
 fn push_row(
-    kept: &mut Vec<i128>,
+    kept: &mut Vec<i64>,
     lp: &Lp,
     columns: u32,
     slack: u32,
@@ -130,13 +131,13 @@ fn push_row(
 {
     for place in 0..columns + 1 {
         let number = next_number(kept.as_slice(), lp, columns, slack, row, place);
-        kept.push(number)?;
+        kept.push(number as i64)?;
     }
     Ok(())
 }
 
 // The kept numbers of the first dictionary.
-pub fn first_numbers(alloc: Global, lp: &Lp, columns: u32) -> Result<Vec<i128>, NoMemory>
+pub fn first_numbers(alloc: Global, lp: &Lp, columns: u32) -> Result<Vec<i64>, NoMemory>
     requires columns { columns ≡ column_count lp.now }
     requires size { columns ≤ 73728 }
     ensures built { IfOk result (λ kept. IsBuilt lp.now kept.items) }
@@ -155,7 +156,7 @@ pub fn first_numbers(alloc: Global, lp: &Lp, columns: u32) -> Result<Vec<i128>, 
 }
 
 // The first kept place of a row whose number is above the limit.
-fn wide_place(kept: &[i128], columns: u32, limit: u128, row: u32) -> Option<u32>
+fn wide_place(kept: &[i64], columns: u32, limit: u128, row: u32) -> Option<u32>
     requires size { columns ≤ 73728 }
     requires row { row < 8194 }
     requires length { (row + 1) * (columns + 1) ≤ length kept.now }
@@ -165,7 +166,7 @@ fn wide_place(kept: &[i128], columns: u32, limit: u128, row: u32) -> Option<u32>
 {
     let start = row as usize * (columns as usize + 1);
     for place in 0..columns + 1 {
-        if !is_within(kept[start + place as usize], limit) {
+        if !is_within(i128::from(kept[start + place as usize]), limit) {
             return Some(place);
         }
     }
@@ -183,8 +184,20 @@ pub fn numbers_to(alloc: Global, count: u32) -> Result<Vec<u32>, NoMemory>
     Ok(numbers)
 }
 
+// A list of zeros.
+pub fn zeros(alloc: Global, count: usize) -> Result<Vec<i64>, NoMemory>
+    ensures length { IfOk result (λ list. length list.items ≡ count) }
+    ensures zero { IfOk result (λ list. AllWithin 0 list.items) }
+{
+    let mut list = Vec::with_capacity(alloc, count)?;
+    for _ in 0..count {
+        list.push(0)?;
+    }
+    Ok(list)
+}
+
 // The first entry of the first dictionary that is above the limit, by row, then by column.
-pub fn wide_first(kept: &[i128], columns: u32, rows: u32, limit: u128) -> Option<Entry>
+pub fn wide_first(kept: &[i64], columns: u32, rows: u32, limit: u128) -> Option<Entry>
     requires columns { columns ≤ 73728 }
     requires rows { rows ≤ 8192 }
     requires length { length kept.now ≡ (rows + 2) * (columns + 1) }
@@ -202,7 +215,7 @@ pub fn wide_first(kept: &[i128], columns: u32, rows: u32, limit: u128) -> Option
                 } else {
                     columns + rows
                 },
-                num: kept[start + place as usize],
+                num: i128::from(kept[start + place as usize]),
                 den: 1,
             });
         }

@@ -3,8 +3,11 @@
 
 mod dict;
 mod division;
+mod fill;
 mod first;
+mod quick;
 mod refusals;
+mod sizes;
 mod step;
 mod wide;
 

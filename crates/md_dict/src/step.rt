@@ -21,7 +21,7 @@ pub struct Step {
 }
 
 impl Step {
-    ghost use Rattle.md_dict.specs.Step.{IsStep, IsTable, IsReady, IsApart, IsRowWritten, IsRowNarrow, IsWritten, AreRowsNarrow, DividesPlaces, number_in, old_number, multiplier_of, factor_of, raw_number, IsRowDivisor, IsStepDivisor};
+    ghost use Rattle.md_dict.specs.Step.{IsStep, IsTable, IsApart, number_in, old_number, multiplier_of, factor_of, raw_number, IsRowDivisor, IsStepDivisor};
 
     // What the leaving column holds in a row.
     fn leaving_value(&self, row: usize) -> i128
@@ -40,18 +40,18 @@ impl Step {
     }
 
     // The kept number at a row and a place.
-    fn number(&self, kept: &[i128], row: usize, place: usize) -> i128
+    fn number(&self, kept: &[i64], row: usize, place: usize) -> i128
         requires table { IsTable self.now kept.now }
         requires row { row < self.now.rows + 2 }
         requires place { place < self.now.columns + 1 }
         ensures value { result ≡ number_in self.now kept.now row place }
         ensures size { IsWithin (2 ^ 62) result }
     {
-        kept[row * (self.columns + 1) + place]
+        i128::from(kept[row * (self.columns + 1) + place])
     }
 
     // The number before the pivot.
-    fn old_number(&self, kept: &[i128], row: usize, place: usize) -> i128
+    fn old_number(&self, kept: &[i64], row: usize, place: usize) -> i128
         requires table { IsTable self.now kept.now }
         requires row { row < self.now.rows + 2 }
         requires place { place < self.now.columns + 1 }
@@ -66,7 +66,7 @@ impl Step {
     }
 
     // What multiplies a row.
-    fn multiplier(&self, row: usize) -> i128
+    pub fn multiplier(&self, row: usize) -> i128
         requires den { IsWithin (2 ^ 62) self.now.den }
         requires pivot { IsWithin (2 ^ 62) self.now.pivot }
         ensures value { result ≡ multiplier_of self.now row }
@@ -80,7 +80,7 @@ impl Step {
     }
 
     // How often the pivot row is taken from a row.
-    fn factor(&self, kept: &[i128], row: usize) -> i128
+    pub fn factor(&self, kept: &[i64], row: usize) -> i128
         requires table { IsTable self.now kept.now }
         requires row { row < self.now.rows + 2 }
         ensures value { result ≡ factor_of self.now kept.now row }
@@ -94,7 +94,7 @@ impl Step {
     }
 
     // The number at a kept place after the pivot, over the denominator times the pivot.
-    pub fn raw_number(&self, kept: &[i128], row: usize, place: usize) -> i128
+    pub fn raw_number(&self, kept: &[i64], row: usize, place: usize) -> i128
         requires step { IsStep self.now kept.now }
         requires row { row < self.now.rows + 2 }
         requires place { place < self.now.columns + 1 }
@@ -110,7 +110,7 @@ impl Step {
     }
 
     // Whether a row is another than the pivot row, and that row is not taken from it, so that its numbers are multiplied by the pivot alone.
-    fn is_apart(&self, kept: &[i128], row: usize) -> bool
+    pub fn is_apart(&self, kept: &[i64], row: usize) -> bool
         requires table { IsTable self.now kept.now }
         requires row { row < self.now.rows + 2 }
         ensures { IsTrue result → IsApart self.now kept.now row }
@@ -118,19 +118,8 @@ impl Step {
         row != self.row && self.number(kept, row, self.place) == 0
     }
 
-    // Whether it is seen at once that `before` divides all raw numbers of a row.
-    fn keeps_divisor(&self, kept: &[i128], row: usize, before: &Divider) -> bool
-        requires table { IsTable self.now kept.now }
-        requires row { row < self.now.rows + 2 }
-        requires positive { pos 0 <ℤ before.now.value }
-        requires size { unsigned_abs before.now.value < 2 ^ 126 }
-        ensures { IsTrue result → DividesPlaces self.now kept.now row (self.now.columns + 1) before.now.value }
-    {
-        before.divides(1) || (self.is_apart(kept, row) && before.divides(self.pivot))
-    }
-
     // The greatest number that divides `before` and the raw numbers of a row.
-    fn row_divisor(&self, kept: &[i128], row: usize, before: Divider) -> Divider
+    pub fn row_divisor(&self, kept: &[i64], row: usize, before: Divider) -> Divider
         requires step { IsStep self.now kept.now }
         requires row { row < self.now.rows + 2 }
         requires positive { pos 0 <ℤ before.value }
@@ -138,9 +127,6 @@ impl Step {
         ensures divisor { IsRowDivisor self.now kept.now row (self.now.columns + 1) before.value result.value }
         ensures size { unsigned_abs result.value < 2 ^ 126 }
     {
-        if self.keeps_divisor(kept, row, &before) {
-            return before;
-        }
         let mut divisor = before;
         for place in 0..self.columns + 1 {
             divisor = divisor.common(self.raw_number(kept, row, place));
@@ -149,7 +135,7 @@ impl Step {
     }
 
     // The greatest number that divides the denominator times the pivot, and each raw number.
-    fn divisor(&self, kept: &[i128]) -> i128
+    fn divisor(&self, kept: &[i64]) -> i128
         requires { IsStep self.now kept.now }
         ensures divisor { IsStepDivisor self.now kept.now (self.now.rows + 2) result }
         ensures size { unsigned_abs result < 2 ^ 126 }
@@ -162,7 +148,7 @@ impl Step {
     }
 
     // The step with its divisor.
-    pub fn divided(&self, kept: &[i128]) -> Step
+    pub fn divided(&self, kept: &[i64]) -> Step
         requires { IsStep self.now kept.now }
         ensures step { result ≡ record self.now { divisor = result.divisor } }
         ensures divisor { IsStepDivisor self.now kept.now (self.now.rows + 2) result.divisor }
@@ -172,143 +158,6 @@ impl Step {
             divisor: self.divisor(kept),
             ..*self
         }
-    }
-
-    // The greatest size of a raw number whose quotient is within the limit, or a lower one.
-    fn bound(&self) -> u128
-        ensures { result ≤ self.now.limit * unsigned_abs self.now.divisor }
-    {
-        self.limit.saturating_mul(self.divisor.unsigned_abs())
-    }
-
-    // Whether a raw number is seen to be within a bound.
-    fn is_within(&self, kept: &[i128], row: usize, place: usize, bound: u128) -> bool
-        requires step { IsStep self.now kept.now }
-        requires row { row < self.now.rows + 2 }
-        requires place { place < self.now.columns + 1 }
-        ensures { IsTrue result → (unsigned_abs (raw_number self.now kept.now row place) ≤ bound) }
-    {
-        self.raw_number(kept, row, place).unsigned_abs() <= bound
-    }
-
-    // Whether all raw numbers of a row are within a bound.
-    fn are_within(&self, kept: &[i128], row: usize, bound: u128) -> bool
-        requires step { IsStep self.now kept.now }
-        requires row { row < self.now.rows + 2 }
-        ensures { IsTrue result → (s : ℕ) → s < self.now.columns + 1 → unsigned_abs (raw_number self.now kept.now row s) ≤ bound }
-    {
-        for place in 0..self.columns + 1 {
-            if !self.is_within(kept, row, place, bound) {
-                return false;
-            }
-        }
-        true
-    }
-
-    // Whether the new numbers of a row are seen to be within the limit. A row that is multiplied by no more than it is divided by needs one look.
-    fn is_row_narrow(&self, kept: &[i128], row: usize, bound: u128) -> bool
-        requires step { IsStep self.now kept.now }
-        requires divisor { IsStepDivisor self.now kept.now (self.now.rows + 2) self.now.divisor }
-        requires divisor_size { unsigned_abs self.now.divisor < 2 ^ 126 }
-        requires bound { bound ≤ self.now.limit * unsigned_abs self.now.divisor }
-        requires row { row < self.now.rows + 2 }
-        ensures { IsTrue result → IsRowNarrow self.now kept.now self.now.divisor row }
-    {
-        if self.pivot <= self.divisor && self.is_apart(kept, row) {
-            self.is_within(kept, row, self.place, bound)
-        } else {
-            self.are_within(kept, row, bound)
-        }
-    }
-
-    // Whether all new numbers are seen to be within the limit.
-    pub fn is_narrow(&self, kept: &[i128]) -> bool
-        requires step { IsStep self.now kept.now }
-        requires divisor { IsStepDivisor self.now kept.now (self.now.rows + 2) self.now.divisor }
-        requires divisor_size { unsigned_abs self.now.divisor < 2 ^ 126 }
-        ensures { IsTrue result → AreRowsNarrow self.now kept.now self.now.divisor (self.now.rows + 2) }
-    {
-        let bound = self.bound();
-        for row in 0..self.rows + 2 {
-            if !self.is_row_narrow(kept, row, bound) {
-                return false;
-            }
-        }
-        true
-    }
-
-    // Writes the new numbers of a row.
-    fn write_row(&self, kept: &mut Vec<i128>, row: usize, divider: &Divider)
-        requires divider { divider.now.value ≡ self.now.divisor }
-        requires table { IsTable self.now kept.old.items }
-        requires row { row < self.now.rows + 2 }
-        requires positive { pos 0 <ℤ self.now.divisor }
-        requires divisor_size { unsigned_abs self.now.divisor < 2 ^ 126 }
-        requires ready { IsReady self.now kept.old.items self.now.divisor row }
-        ensures written { IsRowWritten self.now self.now.divisor kept.old.items kept.new.items row (self.now.columns + 1) }
-        ensures table { IsTable self.now kept.new.items }
-    {
-        let multiplier = self.multiplier(row);
-        let factor = self.factor(kept, row);
-        for place in 0..self.columns + 1 {
-            let number = cross(
-                multiplier,
-                self.old_number(kept, row, place),
-                factor,
-                self.old_number(kept, self.row, place),
-            );
-            kept[row * (self.columns + 1) + place] = divider.quotient(number);
-        }
-    }
-
-    // Writes what the leaving column holds in a row, at the place of the entering one.
-    fn write_place(&self, kept: &mut Vec<i128>, row: usize)
-        requires table { IsTable self.now kept.old.items }
-        requires row { row < self.now.rows + 2 }
-        requires positive { pos 0 <ℤ self.now.divisor }
-        requires apart { IsApart self.now kept.old.items row }
-        requires same { self.now.pivot ≡ self.now.divisor }
-        requires ready { IsReady self.now kept.old.items self.now.divisor row }
-        ensures written { IsRowWritten self.now self.now.divisor kept.old.items kept.new.items row (self.now.columns + 1) }
-        ensures table { IsTable self.now kept.new.items }
-    {
-        kept[row * (self.columns + 1) + self.place] = self.leaving_value(row);
-    }
-
-    // Writes the new numbers of a row other than the pivot row. Where it is multiplied and divided by the same number, one place alone changes.
-    fn write_other(&self, kept: &mut Vec<i128>, row: usize, divider: &Divider)
-        requires divider { divider.now.value ≡ self.now.divisor }
-        requires table { IsTable self.now kept.old.items }
-        requires row { row < self.now.rows + 2 }
-        requires positive { pos 0 <ℤ self.now.divisor }
-        requires divisor_size { unsigned_abs self.now.divisor < 2 ^ 126 }
-        requires ready { IsReady self.now kept.old.items self.now.divisor row }
-        ensures written { IsRowWritten self.now self.now.divisor kept.old.items kept.new.items row (self.now.columns + 1) }
-        ensures table { IsTable self.now kept.new.items }
-    {
-        if self.pivot == self.divisor && self.is_apart(kept, row) {
-            self.write_place(kept, row);
-        } else {
-            self.write_row(kept, row, divider);
-        }
-    }
-
-    // Writes all new numbers: the pivot row last, since the other rows are made from it.
-    pub fn write(&self, kept: &mut Vec<i128>)
-        requires table { IsTable self.now kept.old.items }
-        requires positive { pos 0 <ℤ self.now.divisor }
-        requires divisor_size { unsigned_abs self.now.divisor < 2 ^ 126 }
-        requires ready { (i : ℕ) → i < self.now.rows + 2 → IsReady self.now kept.old.items self.now.divisor i }
-        ensures written { IsWritten self.now self.now.divisor kept.old.items kept.new.items }
-        ensures table { IsTable self.now kept.new.items }
-    {
-        let divider = Divider::new(self.divisor);
-        for row in 0..self.rows + 2 {
-            if row != self.row {
-                self.write_other(kept, row, &divider);
-            }
-        }
-        self.write_row(kept, self.row, &divider);
     }
 }
 

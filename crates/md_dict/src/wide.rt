@@ -29,7 +29,7 @@ fn seat_after(step: &Step, seat: &[u32], column: usize) -> usize
 }
 
 // The number at a column after the pivot, over the denominator times the pivot.
-fn raw_at(step: &Step, kept: &[i128], seat: &[u32], row: usize, column: usize) -> i128
+fn raw_at(step: &Step, kept: &[i64], seat: &[u32], row: usize, column: usize) -> i128
     requires step { IsStep step.now kept.now }
     requires seated { IsSeated step.now seat.now }
     requires row { row < step.now.rows + 2 }
@@ -57,7 +57,7 @@ fn raw_at(step: &Step, kept: &[i128], seat: &[u32], row: usize, column: usize) -
 }
 
 // The entry at a column after the pivot.
-fn new_entry(step: &Step, kept: &[i128], seat: &[u32], row: usize, column: usize) -> i128
+fn new_entry(step: &Step, kept: &[i64], seat: &[u32], row: usize, column: usize) -> i128
     requires step { IsStep step.now kept.now }
     requires seated { IsSeated step.now seat.now }
     requires divisor { IsStepDivisor step.now kept.now (step.now.rows + 2) step.now.divisor }
@@ -70,7 +70,7 @@ fn new_entry(step: &Step, kept: &[i128], seat: &[u32], row: usize, column: usize
 }
 
 // The denominator after the pivot.
-pub fn new_den(step: &Step) -> i128
+fn new_den(step: &Step) -> i128
     requires den { IsWithin (2 ^ 62) step.now.den }
     requires pivot { IsWithin (2 ^ 62) step.now.pivot }
     requires positive { pos 0 <ℤ step.now.divisor }
@@ -89,7 +89,7 @@ pub fn is_within(x: i128, limit: u128) -> bool
 }
 
 // The first column of a row whose entry after the pivot is above the limit.
-fn wide_in_row(step: &Step, kept: &[i128], seat: &[u32], row: usize) -> Option<usize>
+fn wide_in_row(step: &Step, kept: &[i64], seat: &[u32], row: usize) -> Option<usize>
     requires step { IsStep step.now kept.now }
     requires seated { IsSeated step.now seat.now }
     requires divisor { IsStepDivisor step.now kept.now (step.now.rows + 2) step.now.divisor }
@@ -107,38 +107,24 @@ fn wide_in_row(step: &Step, kept: &[i128], seat: &[u32], row: usize) -> Option<u
     None
 }
 
-// Whether all entries after the pivot are seen to be within the limit, in whatever order.
-fn is_narrow(step: &Step, kept: &[i128]) -> bool
-    requires step { IsStep step.now kept.now }
-    requires divisor { IsStepDivisor step.now kept.now (step.now.rows + 2) step.now.divisor }
-    requires divisor_size { unsigned_abs step.now.divisor < 2 ^ 126 }
-    ensures { IsTrue result → (seat : List ℕ) → IsNarrow step.now.rows step.now.columns step.now.limit (new_entry step.now kept.now seat step.now.divisor) }
-{
-    is_within(new_den(step), step.limit) && step.is_narrow(kept)
-}
-
-// The first entry after the pivot that is above the limit, by row, then by column. Most often there is none, which is seen faster in the order of the kept numbers.
-pub fn wide_entry(step: &Step, kept: &[i128], seat: &[u32]) -> Option<Entry>
+// The first entry after the pivot that is above the limit, by row, then by column, where there is one.
+pub fn first_wide(step: &Step, kept: &[i64], seat: &[u32]) -> Entry
     requires step { IsStep step.now kept.now }
     requires seated { IsSeated step.now seat.now }
     requires divisor { IsStepDivisor step.now kept.now (step.now.rows + 2) step.now.divisor }
     requires divisor_size { unsigned_abs step.now.divisor < 2 ^ 126 }
-    ensures { MatchOption result
-        (IsNarrow step.now.rows step.now.columns step.now.limit (new_entry step.now kept.now seat.now step.now.divisor))
-        (IsFirstWide step.now.rows step.now.columns step.now.limit (int_div (step.now.den *ℤ step.now.pivot) step.now.divisor) (new_entry step.now kept.now seat.now step.now.divisor)) }
+    requires wide { ¬ IsNarrow step.now.rows step.now.columns step.now.limit (new_entry step.now kept.now seat.now step.now.divisor) }
+    ensures { IsFirstWide step.now.rows step.now.columns step.now.limit (int_div (step.now.den *ℤ step.now.pivot) step.now.divisor) (new_entry step.now kept.now seat.now step.now.divisor) result }
 {
-    if is_narrow(step, kept) {
-        return None;
-    }
     for row in 0..step.rows + 2 {
         if let Some(column) = wide_in_row(step, kept, seat, row) {
-            return Some(Entry {
+            return Entry {
                 row: row as u32,
                 column: column as u32,
                 num: new_entry(step, kept, seat, row, column),
                 den: new_den(step),
-            });
+            };
         }
     }
-    None
+    unreachable!()
 }

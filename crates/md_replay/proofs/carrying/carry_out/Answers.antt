@@ -21,7 +21,7 @@ cannot b e h p = (let k : IsTrue b = h p in cc)
 pub returns-then-not-can_pivot-clause-lawless : goal.returns-then-not-can_pivot-clause-lawless
 returns-then-not-can_pivot-clause-lawless c =
     let size : length (take c.loop-place.place c.args.pivots.now) ≡ c.loop-place.place = length-take-le c.loop-place.place c.args.pivots.now (omega arith) in
-    refused_here c.args.lp.now c.args.width c.args.pivots.now c.loop-place.place c.loop-place.dict c.loop-place.invariant.at (subst IsShapedDictionary c.dict.view_is c.dict.invariant)
+    refused_here c.args.lp.now c.args.width c.args.pivots.now c.loop-place.place c.loop-place.dict c.loop-place.invariant.at (subst IsShapedDictionary c.dict.view_is c.dict.invariant.0)
     c.get-pivot.result c.get-pivot.ensures (c.loop-place.place + 1) (omega arith)
     (cannot c.can_pivot.result c.if-not-can_pivot.true c.can_pivot.ensures.1)
 
@@ -34,7 +34,7 @@ returns-in-Err-pivot-clause-replayed c =
     let followed : IsFollowed c.args.lp.now (carried ++ c.get-pivot.result ∷ []) c.followed_by.result =
     c.followed_by.ensures c.args.lp.now c.args.width carried c.loop-place.invariant.at (omega arith) told.followed in
     let can : CanPivot c.loop-place.dict c.get-pivot.result = c.can_pivot.ensures.0 c.if-not-can_pivot.false in
-    replayed_wide c.args.lp.now c.args.width c.args.pivots.now c.loop-place.place c.loop-place.dict c.loop-place.invariant.at (subst IsShapedDictionary c.dict.view_is c.dict.invariant)
+    replayed_wide c.args.lp.now c.args.width c.args.pivots.now c.loop-place.place c.loop-place.dict c.loop-place.invariant.at (subst IsShapedDictionary c.dict.view_is c.dict.invariant.0)
     c.get-pivot.result c.get-pivot.ensures c.tell.new.told.dens c.tell.new.told.greatest c.followed_by.result c.in-Err-pivot.refusal.entry
     told.bases told.count_is followed can (c.in-Err-pivot.ensures.too_wide c.args.lp.now c.loop-place.invariant.at.holds)
 
@@ -49,10 +49,10 @@ loop-place-preserved c =
     let can : CanPivot c.loop-place.dict c.get-pivot.result = c.can_pivot.ensures.0 c.if-not-can_pivot.false in
     record {
       at =
-          at_on c.args.lp.now c.args.width c.args.pivots.now c.loop-place.place c.loop-place.dict c.loop-place.invariant.at (subst IsShapedDictionary c.dict.view_is c.dict.invariant)
+          at_on c.args.lp.now c.args.width c.args.pivots.now c.loop-place.place c.loop-place.dict c.loop-place.invariant.at (subst IsShapedDictionary c.dict.view_is c.dict.invariant.0)
           c.get-pivot.result c.get-pivot.ensures c.pivot.new.self can (c.in_default.ensures.dictionary c.args.lp.now c.loop-place.invariant.at.holds) c.in_default.ensures.basis;
       told =
-          told_on c.args.lp.now c.args.width c.args.pivots.now c.loop-place.place c.loop-place.dict c.loop-place.invariant.at (subst IsShapedDictionary c.dict.view_is c.dict.invariant)
+          told_on c.args.lp.now c.args.width c.args.pivots.now c.loop-place.place c.loop-place.dict c.loop-place.invariant.at (subst IsShapedDictionary c.dict.view_is c.dict.invariant.0)
           c.get-pivot.result c.get-pivot.ensures c.tell.new.told.dens c.tell.new.told.greatest c.tell.new.told.wide c.followed_by.result
           told.bases told.count_is told.wide followed;
     }
@@ -60,5 +60,5 @@ loop-place-preserved c =
 pub returns-clause-replayed : goal.returns-clause-replayed
 returns-clause-replayed c =
     let whole : take c.loop-place.place c.args.pivots.now ≡ c.args.pivots.now = take_all c.loop-place.place c.args.pivots.now (omega arith) in
-    replayed_whole c.args.lp.now c.args.width c.args.pivots.now c.loop-place.place c.loop-place.dict c.loop-place.invariant.at (subst IsShapedDictionary c.dict-2.view_is c.dict-2.invariant) c.tell-2.new.told whole
+    replayed_whole c.args.lp.now c.args.width c.args.pivots.now c.loop-place.place c.loop-place.dict c.loop-place.invariant.at (subst IsShapedDictionary c.dict-2.view_is c.dict-2.invariant.0) c.tell-2.new.told whole
     (told_here c.args.lp.now c.args.width (take c.loop-place.place c.args.pivots.now) c.loop-place.dict c.loop-place.told c.tell-2.new.told c.loop-place.invariant.at c.loop-place.invariant.told c.in_ok-tell-2.ensures)

@@ -15,7 +15,7 @@ loop-step-init c = record {
   reached =
       subst (λ (path : List Pivot). IsReached c.args.order c.args.lp.now c.args.width path c.in_ok-dict.dict) (sym c.new-path.ensures)
       (IsReached-first c.args.order c.args.lp.now c.args.width c.in_ok-dict.dict c.in_ok-dict.ensures.ok
-      (IsNarrow-shaped c.in_ok-dict.dict (subst IsShapedDictionary c.dict.view_is c.dict.invariant)));
+      (IsNarrow-shaped c.in_ok-dict.dict (subst IsShapedDictionary c.dict.view_is c.dict.invariant.0)));
   next = c.next_in-step.ensures;
 }
 

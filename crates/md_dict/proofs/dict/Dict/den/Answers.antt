@@ -5,4 +5,4 @@ use Rattle.md_dict.proofs.Readers.{only_den}
 use Rattle.md_dict.proofs.dict.Dict.den.Goals as goal
 
 pub returns-clause-only : goal.returns-clause-only
-returns-clause-only c = λ p den e h q. only_den p c.args.self.now h den e q ∙ sym (read_den (the_view c.self.inside) c.self.invariant ∙ ap (λ d. d.den) c.self.view_is)
+returns-clause-only c = λ p den e h q. only_den p c.args.self.now h den e q ∙ sym (read_den (the_view c.self.inside) c.self.invariant.0 ∙ ap (λ d. d.den) c.self.view_is)

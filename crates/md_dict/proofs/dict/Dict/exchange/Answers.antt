@@ -1,26 +1,66 @@
-use Rattle.std.proofs.Common.{◌∙◌, sym, subst}
+use Rattle.std.proofs.Common.{◌≡◌, ◌*ℤ◌, pos, int_div, ◌∙◌, sym, ap, subst}
 use Rattle.md_dict.specs.contracts.dict.Dict.{the_view}
-use Rattle.md_dict.specs.Condensed.{IsShapedDictionary}
-use Rattle.md_dict.specs.Step.{IsTable, IsReady, IsWritten}
-use Rattle.md_dict.proofs.Reading.{read_result}
-use Rattle.md_dict.proofs.Values.{IsStep-for, IsReady-for, exchanged_is, AreWritten-for}
+use Rattle.md_dict.specs.Condensed.{IsShapedDictionary, IsFresh}
+use Rattle.md_dict.specs.Step.{IsStep}
+use Rattle.md_dict.proofs.Reading.{read_result, read_small, read_wide, sizes_small}
+use Rattle.md_dict.proofs.Change.{quotient_is}
+use Rattle.md_dict.proofs.Exchange.{IsStep-step_of}
+use Rattle.md_dict.proofs.Values.{IsTable-fresh, AreWritten-filled, exchanged_is}
 use Rattle.md_dict.proofs.Exchanged.{IsShaped-exchanged}
 use Rattle.md_dict.proofs.dict.Dict.exchange.Goals as goal
 
-pub write-requires-clause-table : goal.write-requires-clause-table
-write-requires-clause-table c =
-    subst (λ d. IsTable c.args.step.now d.kept) (sym c.self.view_is) ((IsStep-for c.args.self.now c.args.step.now c.requires.step c.requires.exchange).table)
+pub fill-requires-clause-step : goal.fill-requires-clause-step
+fill-requires-clause-step c =
+    let kept = c.as_slice.ensures.value ∙ ap (λ d. d.kept) c.self.view_is in
+    rw kept (subst (λ s. IsStep s c.args.self.now.kept) (sym c.requires.step) (IsStep-step_of c.args.self.now c.args.step.now.row c.args.step.now.entering (pos 1) c.requires.exchange))
 
-pub write-requires-clause-ready : goal.write-requires-clause-ready
-write-requires-clause-ready c = λ i a.
-    subst (λ d. IsReady c.args.step.now d.kept c.args.step.now.divisor i) (sym c.self.view_is)
-    (IsReady-for c.args.self.now c.args.step.now c.requires.step c.requires.exchange c.requires.divisor c.requires.narrow i a)
+pub fill-requires-clause-table : goal.fill-requires-clause-table
+fill-requires-clause-table c =
+    IsTable-fresh c.args.self.now c.args.step.now c.self.inside.fresh.items c.requires.step c.requires.exchange
+    (subst (λ d. IsFresh d.rows d.columns d.bits c.self.inside.fresh.items) c.self.view_is c.self.invariant.1)
 
-pub invariant_of-self : goal.invariant_of-self
-invariant_of-self c =
-    let written : IsWritten c.args.step.now c.args.step.now.divisor c.args.self.now.kept c.write.new.kept.items =
-    subst (λ d. IsWritten c.args.step.now c.args.step.now.divisor d.kept c.write.new.kept.items) c.self.view_is c.write.ensures.written in
-    subst IsShapedDictionary
-    (sym (exchanged_is (the_view c.self.inside) c.args.self.now c.args.step.now _ c.write.new.kept.items c.self.view_is c.requires.step (read_result c.new_den-self-inside.result c.new_den-self-inside.type_inv ∙ c.new_den-self-inside.ensures)))
-    (IsShaped-exchanged c.args.self.now c.args.step.now.row c.args.step.now.entering c.args.step.now.divisor c.write.new.kept.items
-    (AreWritten-for c.args.self.now c.args.step.now c.write.new.kept.items c.requires.step c.requires.exchange c.requires.divisor c.requires.narrow written c.write.ensures.table))
+pub product-requires : goal.product-requires
+product-requires c =
+    let t = c.fill.ensures.table in
+    rw (read_small c.args.step.now.den t.den_size, read_small c.args.step.now.pivot t.pivot_size) (sizes_small c.args.step.now.den c.args.step.now.pivot t.den_size t.pivot_size)
+
+pub exact_quotient-self-inside-requires-clause-exact : goal.exact_quotient-self-inside-requires-clause-exact
+exact_quotient-self-inside-requires-clause-exact c =
+    let t = c.fill.ensures.table in
+    let f = c.in_ok-divisor.ensures.filled in
+    rw (read_wide c.in_ok-divisor.divisor f.size, read_result c.product.result c.product.type_inv, c.product.ensures.value, read_small c.args.step.now.den t.den_size, read_small c.args.step.now.pivot t.pivot_size) f.divisor.of_den
+
+pub invariant_of-self-2 : goal.invariant_of-self-2
+invariant_of-self-2 c =
+    let t = c.fill.ensures.table in
+    let f = c.in_ok-divisor.ensures.filled in
+    let kept = c.as_slice.ensures.value ∙ ap (λ d. d.kept) c.self.view_is in
+    let items : c.swap.new.x.items ≡ c.fill.new.fresh.items = ap (λ v. v.items) c.swap.ensures.x_after in
+    let den : c.exact_quotient-self-inside.result ≡ int_div (c.args.step.now.den *ℤ c.args.step.now.pivot) c.in_ok-divisor.divisor =
+    quotient_is c.in_ok-divisor.divisor _ c.exact_quotient-self-inside.result f.divisor.positive f.divisor.of_den
+    (rw (read_wide c.in_ok-divisor.divisor f.size, read_result c.product.result c.product.type_inv, c.product.ensures.value, read_small c.args.step.now.den t.den_size, read_small c.args.step.now.pivot t.pivot_size) at c.exact_quotient-self-inside.ensures.value) in (
+      rw items
+          (subst IsShapedDictionary
+          (sym (exchanged_is (the_view c.self.inside) c.args.self.now c.args.step.now c.in_ok-divisor.divisor _ c.fill.new.fresh.items c.self.view_is c.requires.step (read_result c.exact_quotient-self-inside.result c.exact_quotient-self-inside.type_inv ∙ den)))
+          (IsShaped-exchanged c.args.self.now c.args.step.now.row c.args.step.now.entering c.in_ok-divisor.divisor c.fill.new.fresh.items
+          (AreWritten-filled c.args.self.now c.args.step.now c.in_ok-divisor.divisor c.fill.new.fresh.items c.requires.step c.requires.exchange (rw kept at f) t))),
+      subst (λ v. IsFresh c.self.inside.rows c.self.inside.columns c.self.inside.width v.items) (sym c.swap.ensures.y_after) (record { length_is = c.self.invariant.0.kept_length; size = c.self.invariant.0.kept_size }),
+    )
+
+pub returns-clause-new : goal.returns-clause-new
+returns-clause-new c =
+    let t = c.fill.ensures.table in
+    let f = c.in_ok-divisor.ensures.filled in
+    let den : c.exact_quotient-self-inside.result ≡ int_div (c.args.step.now.den *ℤ c.args.step.now.pivot) c.in_ok-divisor.divisor =
+    quotient_is c.in_ok-divisor.divisor _ c.exact_quotient-self-inside.result f.divisor.positive f.divisor.of_den
+    (rw (read_wide c.in_ok-divisor.divisor f.size, read_result c.product.result c.product.type_inv, c.product.ensures.value, read_small c.args.step.now.den t.den_size, read_small c.args.step.now.pivot t.pivot_size) at c.exact_quotient-self-inside.ensures.value) in
+    rw (read_wide c.in_ok-divisor.divisor f.size)
+    (exchanged_is (the_view c.self.inside) c.args.self.now c.args.step.now c.in_ok-divisor.divisor _ c.swap.new.x.items c.self.view_is c.requires.step (read_result c.exact_quotient-self-inside.result c.exact_quotient-self-inside.type_inv ∙ den))
+
+pub returns-clause-written : goal.returns-clause-written
+returns-clause-written c =
+    let f = c.in_ok-divisor.ensures.filled in
+    let kept = c.as_slice.ensures.value ∙ ap (λ d. d.kept) c.self.view_is in
+    let items : c.swap.new.x.items ≡ c.fill.new.fresh.items = ap (λ v. v.items) c.swap.ensures.x_after in
+    rw (read_wide c.in_ok-divisor.divisor f.size, items)
+    (AreWritten-filled c.args.self.now c.args.step.now c.in_ok-divisor.divisor c.fill.new.fresh.items c.requires.step c.requires.exchange (rw kept at f) c.fill.ensures.table)

@@ -3,7 +3,8 @@ use Rattle.std.proofs.lemmas.List.{get_or_read}
 use Rattle.md_dict.specs.contracts.dict.Dict.{the_view}
 use Rattle.md_dict.specs.Condensed.{basic_at, kept_number}
 use Rattle.md_dict.specs.Exchange.{IsExchange}
-use Rattle.md_dict.proofs.Values.{read_kept, read_den, read_limit, step_is, step_for}
+use Rattle.md_dict.proofs.Reading.{read_result}
+use Rattle.md_dict.proofs.Values.{read_den, read_limit, step_is, step_for}
 use Rattle.md_dict.proofs.dict.Dict.plain_step.Goals as goal
 
 pub returns : goal.returns
@@ -16,9 +17,8 @@ returns c =
     let place : c.index.result.now ≡ slice_index c.self.inside.seat.items c.args.column = get_or_read c.self.inside.seat.items c.args.column c.index.result.now (omega arith) c.index.ensures 0 in
     let leaving : c.index-2.result.now ≡ basic_at (the_view c.self.inside) c.args.row = get_or_read c.self.inside.order.items (c.self.inside.columns + c.args.row) c.index-2.result.now (omega arith) c.index-2.ensures 0 in
     let inside : c.index.result.now < c.self.inside.columns = subst (λ s. s < c.self.inside.columns) (sym place) h.place_in in
-    let pivot = read_kept (the_view c.self.inside) c.args.row c.index.result.now c.index-3.result.now h.shape (omega arith) (omega arith) c.index-3.ensures in
     step_for (the_view c.self.inside) c.args.self.now c.args.row c.args.column _ c.self.view_is
     (step_is (the_view c.self.inside) c.args.row c.args.column c.index.result.now c.index-2.result.now c.unsigned_abs.result _ _ place leaving
-    (pivot.bits ∙ pivot.value ∙ ap (λ s. kept_number (the_view c.self.inside) c.args.row s) place)
+    (read_result c.kept_number.result c.kept_number.type_inv ∙ c.kept_number.ensures.value ∙ ap (λ d. kept_number d c.args.row c.index.result.now) (sym c.self.view_is) ∙ ap (λ s. kept_number (the_view c.self.inside) c.args.row s) place)
     (read_den (the_view c.self.inside) h.shape)
     (read_limit c.self.inside.width c.unsigned_abs.result c.limit.result h.shape.most_bits c.limit.ensures.value c.unsigned_abs.ensures.value))

@@ -1,8 +1,8 @@
-use Rattle.std.proofs.Common.{refl}
 use Rattle.md_dict.proofs.Reading.{read_wide}
 use Rattle.md_dict.proofs.StepDivisor.{IsGcdOfTwo-divides}
+use Rattle.md_dict.proofs.NewNumbers.{divides_from}
 use Rattle.md_dict.proofs.division.Divider.common.Goals as goal
 
-pub returns-then-divides-clause-divisor : goal.returns-then-divides-clause-divisor
-returns-then-divides-clause-divisor c =
-    IsGcdOfTwo-divides c.args.self.now.value c.args.x c.requires.positive (rw (read_wide c.args.x c.requires.size) at c.if-divides.ensures refl)
+pub returns-in-Some-clause-divisor : goal.returns-in-Some-clause-divisor
+returns-in-Some-clause-divisor c =
+    IsGcdOfTwo-divides c.args.self.now.value c.args.x c.requires.positive (divides_from c.args.self.now.value _ c.args.x (rw (read_wide c.args.x c.requires.size) at c.in-Some.ensures))

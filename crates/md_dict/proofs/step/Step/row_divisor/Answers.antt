@@ -1,6 +1,6 @@
-use Rattle.std.proofs.Common.{◌≡◌, ◌+◌, refl, arith}
+use Rattle.std.proofs.Common.{◌≡◌, ◌+◌, arith}
 use Rattle.md_dict.proofs.Reading.{read_result}
-use Rattle.md_dict.proofs.StepDivisor.{IsRowDivisor-none, IsRowDivisor-more, IsRowDivisor-kept}
+use Rattle.md_dict.proofs.StepDivisor.{IsRowDivisor-none, IsRowDivisor-more}
 use Rattle.md_dict.proofs.step.Step.row_divisor.Goals as goal
 
 pub loop-place-init : goal.loop-place-init
@@ -14,7 +14,3 @@ pub returns-clause-divisor : goal.returns-clause-divisor
 returns-clause-divisor c =
     let done : c.loop-place.place ≡ c.args.self.now.columns + 1 = omega arith in
     rw (← done) c.loop-place.invariant.0
-
-pub returns-then-keeps_divisor-clause-divisor : goal.returns-then-keeps_divisor-clause-divisor
-returns-then-keeps_divisor-clause-divisor c =
-    IsRowDivisor-kept c.args.self.now c.args.kept.now c.args.row (c.args.self.now.columns + 1) c.args.before.value c.requires.positive (c.if-keeps_divisor.ensures refl)

@@ -1,0 +1,62 @@
+use Rattle.std.proofs.Common.{◌≡◌, ◌+◌, ◌*ℤ◌, refl, ◌∙◌, subst}
+use Rattle.md_math.proofs.Order.{positive-*ℤ}
+use Rattle.md_dict.specs.Step.{IsRowDivisor}
+use Rattle.md_dict.specs.Fill.{IsUnfit, IsIndivisible, AreRowsFilled}
+use Rattle.md_dict.proofs.Reading.{read_result, read_small, read_wide}
+use Rattle.md_dict.proofs.NewNumbers.{IsCandidate-first, IsCandidate-next, smaller_candidate, IsWideFor-above, IsWideFor-den, IsStepDivisor-filled}
+use Rattle.md_dict.proofs.step.Step.fill.Goals as goal
+
+pub row_divisor-divider-requires-clause-positive : goal.row_divisor-divider-requires-clause-positive
+row_divisor-divider-requires-clause-positive c =
+    let value : c.new-first.result.value ≡ c.args.self.now.den *ℤ c.args.self.now.pivot =
+    c.new-first.ensures ∙ read_result c.product.result c.product.type_inv ∙ (rw (read_small c.args.self.now.den c.requires.step.table.den_size, read_small c.args.self.now.pivot c.requires.step.table.pivot_size) at c.product.ensures.value) in
+    rw value (positive-*ℤ c.args.self.now.den c.args.self.now.pivot c.requires.step.table.den_positive c.requires.step.table.pivot_positive)
+
+pub loop-unfit-init : goal.loop-unfit-init
+loop-unfit-init c =
+    let value : c.new-first.result.value ≡ c.args.self.now.den *ℤ c.args.self.now.pivot =
+    c.new-first.ensures ∙ read_result c.product.result c.product.type_inv ∙ (rw (read_small c.args.self.now.den c.requires.step.table.den_size, read_small c.args.self.now.pivot c.requires.step.table.pivot_size) at c.product.ensures.value) in (
+      IsCandidate-first c.args.self.now c.args.kept.now c.row_divisor-divider.result.value c.requires.step.table.row_in
+          (subst (λ z. IsRowDivisor c.args.self.now c.args.kept.now c.args.self.now.row (c.args.self.now.columns + 1) z c.row_divisor-divider.result.value) value c.row_divisor-divider.ensures.divisor)
+          c.row_divisor-divider.ensures.size,
+      c.requires.table,
+    )
+
+pub loop-unfit-smaller : goal.loop-unfit-smaller
+loop-unfit-smaller c =
+    let unfit : IsUnfit c.args.self.now c.args.kept.now c.loop-unfit.divider.value c.in-Err.unfit = subst (λ v. IsUnfit c.args.self.now c.args.kept.now v.value c.in-Err.unfit) c.filling.ensures.divider c.in-Err.ensures.unfit in
+    let whole : IsIndivisible c.args.self.now c.args.kept.now c.loop-unfit.divider.value c.in-Indivisible.number = subst (λ u. IsUnfit c.args.self.now c.args.kept.now c.loop-unfit.divider.value u) c.in-Indivisible.is unfit in
+    smaller_candidate c.args.self.now c.args.kept.now c.loop-unfit.divider.value c.in-Indivisible.number c.common-divider.result.value c.loop-unfit.invariant.0.positive whole
+    (rw (read_wide c.in-Indivisible.number whole.size) at c.common-divider.ensures.divisor)
+
+pub loop-unfit-preserved : goal.loop-unfit-preserved
+loop-unfit-preserved c =
+    let unfit : IsUnfit c.args.self.now c.args.kept.now c.loop-unfit.divider.value c.in-Err.unfit = subst (λ v. IsUnfit c.args.self.now c.args.kept.now v.value c.in-Err.unfit) c.filling.ensures.divider c.in-Err.ensures.unfit in
+    let whole : IsIndivisible c.args.self.now c.args.kept.now c.loop-unfit.divider.value c.in-Indivisible.number = subst (λ u. IsUnfit c.args.self.now c.args.kept.now c.loop-unfit.divider.value u) c.in-Indivisible.is unfit in (
+      IsCandidate-next c.args.self.now c.args.kept.now c.loop-unfit.divider.value c.in-Indivisible.number c.common-divider.result.value c.loop-unfit.invariant.0 whole
+          (rw (read_wide c.in-Indivisible.number whole.size) at c.common-divider.ensures.divisor)
+          c.common-divider.ensures.size,
+      c.fill_rows.ensures.table,
+    )
+
+pub returns-in-TooWide-clause-wide : goal.returns-in-TooWide-clause-wide
+returns-in-TooWide-clause-wide c =
+    let unfit : IsUnfit c.args.self.now c.args.kept.now c.loop-unfit.divider.value c.in-Err.unfit = subst (λ v. IsUnfit c.args.self.now c.args.kept.now v.value c.in-Err.unfit) c.filling.ensures.divider c.in-Err.ensures.unfit in
+    IsWideFor-above c.args.self.now c.args.kept.now c.loop-unfit.divider.value c.loop-unfit.invariant.0 (subst (λ u. IsUnfit c.args.self.now c.args.kept.now c.loop-unfit.divider.value u) c.in-TooWide.is unfit)
+
+pub returns-then-has_small_den-clause-filled : goal.returns-then-has_small_den-clause-filled
+returns-then-has_small_den-clause-filled c =
+    let filled : AreRowsFilled c.args.self.now c.loop-unfit.divider.value c.args.kept.now c.fill_rows.new.fresh.items (c.args.self.now.rows + 2) = subst (λ v. AreRowsFilled c.args.self.now v.value c.args.kept.now c.fill_rows.new.fresh.items (c.args.self.now.rows + 2)) c.filling.ensures.divider c.in_default.ensures.filled in
+    rw (read_wide c.loop-unfit.divider.value c.loop-unfit.invariant.0.size) (record {
+      divisor = IsStepDivisor-filled c.args.self.now c.loop-unfit.divider.value c.args.kept.now c.fill_rows.new.fresh.items c.loop-unfit.invariant.0 filled;
+      size = c.loop-unfit.invariant.0.size;
+      den = rw (read_wide c.loop-unfit.divider.value c.loop-unfit.invariant.0.size) at c.if-has_small_den.ensures.0 refl;
+      rows = filled;
+    })
+
+pub returns-else-has_small_den-clause-wide : goal.returns-else-has_small_den-clause-wide
+returns-else-has_small_den-clause-wide c =
+    let filled : AreRowsFilled c.args.self.now c.loop-unfit.divider.value c.args.kept.now c.fill_rows.new.fresh.items (c.args.self.now.rows + 2) = subst (λ v. AreRowsFilled c.args.self.now v.value c.args.kept.now c.fill_rows.new.fresh.items (c.args.self.now.rows + 2)) c.filling.ensures.divider c.in_default.ensures.filled in
+    IsWideFor-den c.args.self.now c.args.kept.now c.loop-unfit.divider.value
+    (IsStepDivisor-filled c.args.self.now c.loop-unfit.divider.value c.args.kept.now c.fill_rows.new.fresh.items c.loop-unfit.invariant.0 filled)
+    (λ w. let clash = (rw (read_wide c.loop-unfit.divider.value c.loop-unfit.invariant.0.size) at c.if-has_small_den.ensures.1) w in cc)

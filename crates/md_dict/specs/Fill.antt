@@ -1,0 +1,83 @@
+-- How the numbers after a pivot are written beside those before it, row by row.
+use Rattle.std.specs.Prelude.{◌≡◌, ◌≢◌, ℕ, ◌+◌, ◌-◌, ◌*◌, ◌<◌, ◌≤◌, ◌^◌, ℤ, pos, ◌*ℤ◌, ◌<ℤ◌, int_div, List, IfSome, unsigned_abs}
+use Rattle.md_math.specs.Sizes.{IsWithin}
+use Rattle.md_math.specs.Divisors.{Divides}
+use Rattle.md_dict.specs.declared.step.Step.{Step}
+use Rattle.md_dict.specs.declared.quick.QuickDivider.{QuickDivider}
+use Rattle.md_dict.specs.declared.fill.Filling.{Filling}
+use Rattle.md_dict.specs.declared.fill.Unfit.{Unfit}
+use Rattle.md_dict.specs.declared.fill.Unfit.TheVariants.{Indivisible, TooWide}
+use Rattle.md_dict.specs.Step.{number_in, multiplier_of, factor_of, raw_number, DividesRows, IsStepDivisor, AreRowsNarrow}
+
+-- it divides by d, and its quotients are within a limit, so that d times each has 63 bits
+pub record IsQuick (d : ℤ) (limit : ℕ) (divider : QuickDivider) : Type 0 where
+  pub value : divider.value ≡ d
+  pub size : IsWithin (2 ^ 63 - 1) divider.value
+  pub most : divider.most ≤ limit
+  pub room : divider.most * unsigned_abs divider.value < 2 ^ 63
+
+-- the two products of each raw number of a row have 63 bits together, whatever their signs
+pub record IsSmallRow (step : Step) (kept : List ℤ) (i : ℕ) : Type 0 where
+  pub at : (s : ℕ) → s < step.columns + 1 → unsigned_abs (multiplier_of step i) * unsigned_abs (number_in step kept i s) + unsigned_abs (factor_of step kept i) * unsigned_abs (number_in step kept step.row s) < 2 ^ 63
+
+-- what the new numbers are made with: a positive divisor, and the greatest size in the pivot row
+pub record IsFilling (step : Step) (kept : List ℤ) (filling : Filling) : Type 0 where
+  pub positive : pos 0 <ℤ filling.divider.value
+  pub size : unsigned_abs filling.divider.value < 2 ^ 126
+  pub of_den : Divides filling.divider.value (step.den *ℤ step.pivot)
+  pub quick : IfSome filling.quick (IsQuick filling.divider.value step.limit)
+  pub reach : (s : ℕ) → s < step.columns + 1 → unsigned_abs (number_in step kept step.row s) ≤ filling.reach
+  pub reach_size : filling.reach ≤ 2 ^ 62
+
+-- d times the new numbers of a row, at the first n places but that of the pivot, are its raw numbers
+pub record AreFilled (step : Step) (d : ℤ) (kept new : List ℤ) (i n : ℕ) : Type 0 where
+  pub at : (s : ℕ) → s < n → s ≢ step.place → d *ℤ number_in step new i s ≡ raw_number step kept i s
+
+-- the numbers of the other rows stay
+pub record Leaves (step : Step) (i : ℕ) (old new : List ℤ) : Type 0 where
+  pub others : (k s : ℕ) → k ≢ i → s < step.columns + 1 → number_in step new k s ≡ number_in step old k s
+
+-- d times the new numbers of the first n rows are their raw numbers
+pub record AreRowsFilled (step : Step) (d : ℤ) (kept new : List ℤ) (n : ℕ) : Type 0 where
+  pub at : (i s : ℕ) → i < n → s < step.columns + 1 → d *ℤ number_in step new i s ≡ raw_number step kept i s
+
+-- a raw number that d does not divide
+pub record IsIndivisible (step : Step) (kept : List ℤ) (d x : ℤ) : Type 0 where
+  pub row : ℕ
+  pub place : ℕ
+  pub row_in : row < step.rows + 2
+  pub place_in : place < step.columns + 1
+  pub is : x ≡ raw_number step kept row place
+  pub size : unsigned_abs x < 2 ^ 126
+  pub not : ¬ Divides d x
+
+-- a raw number that is above the limit, divided by d or by less
+pub record IsAbove (step : Step) (kept : List ℤ) (d : ℤ) : Type 0 where
+  pub row : ℕ
+  pub place : ℕ
+  pub row_in : row < step.rows + 2
+  pub place_in : place < step.columns + 1
+  pub above : step.limit * unsigned_abs d < unsigned_abs (raw_number step kept row place)
+
+-- why the new numbers are not written for d
+abbrev pub IsUnfit : Step → List ℤ → ℤ → Unfit → Type 0
+IsUnfit step kept d (Indivisible x) = IsIndivisible step kept d x
+IsUnfit step kept d TooWide = IsAbove step kept d
+
+-- a positive number that each common divisor of the denominator times the pivot and the raw numbers divides
+pub record IsCandidate (step : Step) (kept : List ℤ) (d : ℤ) : Type 0 where
+  pub positive : pos 0 <ℤ d
+  pub size : unsigned_abs d < 2 ^ 126
+  pub of_den : Divides d (step.den *ℤ step.pivot)
+  pub greatest : (x : ℤ) → Divides x (step.den *ℤ step.pivot) → DividesRows step kept (step.rows + 2) x → Divides x d
+
+-- the denominator or a number is above the limit after the pivot
+pub record IsWideFor (step : Step) (kept : List ℤ) : Type 0 where
+  pub wide : (g : ℤ) → IsStepDivisor step kept (step.rows + 2) g → IsWithin step.limit (int_div (step.den *ℤ step.pivot) g) → AreRowsNarrow step kept g (step.rows + 2) → ⊥
+
+-- the new numbers are written, and the new denominator is within the limit
+pub record IsFilledBy (step : Step) (kept new : List ℤ) (d : ℤ) : Type 0 where
+  pub divisor : IsStepDivisor step kept (step.rows + 2) d
+  pub size : unsigned_abs d < 2 ^ 126
+  pub den : IsWithin step.limit (int_div (step.den *ℤ step.pivot) d)
+  pub rows : AreRowsFilled step d kept new (step.rows + 2)
