@@ -1,9 +1,10 @@
 //! Settings solved, answers checked after they were written, and pivots carried out, over files in memory.
 use crate::mechdes;
 use crate::test_settings::{
-    CORRELATED, INDEPENDENT, ONE_TYPE, OUT_OF_REACH, PAYING, POSTED_PRICE, POSTED_PRICE_FRONT,
+    CORRELATED, HONEST, INDEPENDENT, OUT_OF_REACH, PAYING, POSTED_PRICE, POSTED_PRICE_FRONT,
     TAKING, TWO_OUTCOMES, WELFARE_VOTE,
 };
+use crate::tests::words;
 use md_ports::{MemShelf, MemSink};
 use std::alloc::{AllocError, Global};
 use std::test::Fail;
@@ -44,7 +45,7 @@ static SOLVED: [(&str, u8, &str); 8] = [
     (INDEPENDENT, 0, "answer,1,general,optimal\nvalue,3,2\n"),
 ];
 
-// The buyer's high value, the further words, the pivots, the status, and what is printed and said.
+// The buyer's high value, the words, the second file, the status, and what is printed and said.
 type Walk = (
     &'static str,
     &'static [&'static str],
@@ -54,7 +55,7 @@ type Walk = (
     &'static str,
 );
 
-static WALKS: [Walk; 8] = [
+static WALKS: [Walk; 11] = [
     (
         "20",
         &["solve", "setting", "--width", "4"],
@@ -112,6 +113,30 @@ static WALKS: [Walk; 8] = [
         "mechdes: answer refused: line 1: ended\n",
     ),
     ("3", &["solve"], "", 64, "", "mechdes: usage\n"),
+    (
+        "3",
+        &["audit", "setting", "second", "second"],
+        "answer,1,general,table\ntable,1\nlottery,low,1,0\nlottery,high,1,0\npay,low,0\npay,high,0\nend\n",
+        64,
+        "",
+        "mechdes: usage\n",
+    ),
+    (
+        "3",
+        &["solve", "second"],
+        "",
+        65,
+        "",
+        "mechdes: setting refused: missing format\n",
+    ),
+    (
+        "3",
+        &["solve", "second"],
+        HONEST,
+        65,
+        "",
+        "mechdes: setting refused: unknown word truth\n",
+    ),
 ];
 
 // What a command answered.
@@ -129,10 +154,7 @@ fn carried_out(
     setting: &str,
     second: &[u8],
 ) -> Result<Reply, AllocError> {
-    let mut words = Vec::new(alloc);
-    for text in texts {
-        words.push(String::from_str(alloc, text)?)?;
-    }
+    let words = words(alloc, texts)?;
     let mut shelf = MemShelf::new(alloc);
     shelf.put("setting", setting.as_bytes())?;
     shelf.put("second", second)?;
@@ -167,9 +189,9 @@ fn solves_settings_and_checks_what_it_printed(rt: HostRuntime) -> Result<(), Fai
 #[test]
 fn tells_wide_bases_and_carries_pivots_out(rt: HostRuntime) -> Result<(), Fail> {
     let alloc = rt.alloc();
-    for (high, words, pivots, status, printed, said) in &WALKS {
+    for (high, words, second, status, printed, said) in &WALKS {
         let setting = format!(in alloc; "{POSTED_PRICE_FRONT}{high}]]\n")?;
-        let walked = carried_out(alloc, words, &setting, pivots.as_bytes())?;
+        let walked = carried_out(alloc, words, &setting, second.as_bytes())?;
         assert_eq!(rt; walked.status, *status, "at {words:?}");
         assert!(rt; walked.out.bytes() == printed.as_bytes(), "at {words:?}");
         assert!(rt; walked.err.bytes() == said.as_bytes(), "at {words:?}");
@@ -214,22 +236,155 @@ fn solves_for_each_high_value(rt: HostRuntime) -> Result<(), Fail> {
     Ok(())
 }
 
+// The words, the second file, the read and the write that fail, how many bytes that write takes, the status, and what
+// stands on both streams after. Reads, and the writes to each stream, are numbered from 1, so that 0 is none.
+type Fault = (
+    &'static [&'static str],
+    &'static str,
+    u32,
+    u32,
+    u32,
+    u8,
+    &'static str,
+    &'static str,
+);
+
+const VALID: &str =
+    "answer,1,general,optimal\nvalue,3,2\ntable,1\nlottery,low,1,0\nlottery,high,0,1\npay,low,0\npay,high,3\nbound,2\nrow,1,0,1\nrow,2,0,3\nrow,3,0,1\nrow,5,0,6\nend\n";
+
+static FAULTS: [Fault; 14] = [
+    (
+        &["audit", "setting", "second"],
+        VALID,
+        1,
+        0,
+        0,
+        70,
+        "",
+        "mechdes: read fault\n",
+    ),
+    (
+        &["audit", "setting", "second"],
+        VALID,
+        2,
+        0,
+        0,
+        70,
+        "",
+        "mechdes: read fault\n",
+    ),
+    (
+        &["audit", "setting", "second"],
+        VALID,
+        0,
+        1,
+        4,
+        71,
+        "admi",
+        "",
+    ),
+    (
+        &["rows", "setting"],
+        "",
+        1,
+        0,
+        0,
+        70,
+        "",
+        "mechdes: read fault\n",
+    ),
+    (&["rows", "setting"], "", 0, 1, 8, 71, "program,", ""),
+    (
+        &["check", "setting", "second"],
+        VALID,
+        1,
+        0,
+        0,
+        70,
+        "",
+        "mechdes: read fault\n",
+    ),
+    (
+        &["check", "setting", "second"],
+        VALID,
+        2,
+        0,
+        0,
+        70,
+        "",
+        "mechdes: read fault\n",
+    ),
+    (
+        &["check", "setting", "second"],
+        VALID,
+        0,
+        1,
+        2,
+        71,
+        "va",
+        "",
+    ),
+    (
+        &["solve", "setting"],
+        "",
+        1,
+        0,
+        0,
+        70,
+        "",
+        "mechdes: read fault\n",
+    ),
+    (&["solve", "setting"], "", 0, 1, 7, 71, "answer,", ""),
+    (
+        &["replay", "setting", "second"],
+        "end\n",
+        1,
+        0,
+        0,
+        70,
+        "",
+        "mechdes: read fault\n",
+    ),
+    (
+        &["replay", "setting", "second"],
+        "end\n",
+        2,
+        0,
+        0,
+        70,
+        "",
+        "mechdes: read fault\n",
+    ),
+    (
+        &["replay", "setting", "second"],
+        "end\n",
+        0,
+        1,
+        6,
+        71,
+        "basis,",
+        "",
+    ),
+    (&["solve", "setting"], "", 1, 1, 3, 71, "", "mec"),
+];
+
 #[test]
-fn tells_faults_of_a_solve(rt: HostRuntime) -> Result<(), Fail> {
+fn tells_each_fault(rt: HostRuntime) -> Result<(), Fail> {
     let alloc = rt.alloc();
-    let mut words = Vec::new(alloc);
-    words.push(String::from_str(alloc, "solve")?)?;
-    words.push(String::from_str(alloc, "setting")?)?;
-    let mut shelf = MemShelf::new(alloc);
-    shelf.put("setting", ONE_TYPE.as_bytes())?;
-    shelf.fail_at(1)?;
-    let mut out = MemSink::new(alloc, 1000)?;
-    let mut err = MemSink::new(alloc, 100)?;
-    assert_eq!(rt; mechdes(alloc, &words, &mut shelf, &mut out, &mut err), 70);
-    assert!(rt; err.bytes() == "mechdes: read fault\n".as_bytes());
-    out.fail_at(1, 7)?;
-    assert_eq!(rt; mechdes(alloc, &words, &mut shelf, &mut out, &mut err), 71);
-    assert!(rt; out.bytes() == "answer,".as_bytes());
-    assert!(rt; err.bytes() == "mechdes: read fault\n".as_bytes());
+    for (texts, second, read, write, taken, status, printed, said) in &FAULTS {
+        let words = words(alloc, texts)?;
+        let mut shelf = MemShelf::new(alloc);
+        shelf.put("setting", POSTED_PRICE.as_bytes())?;
+        shelf.put("second", second.as_bytes())?;
+        shelf.fail_at(*read)?;
+        let mut out = MemSink::new(alloc, 1000)?;
+        out.fail_at(*write, *taken)?;
+        let mut err = MemSink::new(alloc, 100)?;
+        err.fail_at(*write, *taken)?;
+        let got = mechdes(alloc, &words, &mut shelf, &mut out, &mut err);
+        assert_eq!(rt; got, *status, "at {texts:?}");
+        assert!(rt; out.bytes() == printed.as_bytes(), "at {texts:?}");
+        assert!(rt; err.bytes() == said.as_bytes(), "at {texts:?}");
+    }
     Ok(())
 }

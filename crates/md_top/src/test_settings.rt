@@ -8,6 +8,10 @@ pub(crate) const ONE_TYPE: &str =
 pub(crate) const POSTED_PRICE: &str =
     "format = \"mechanism-setting\"\nversion = 1\nkind = \"general\"\ntruth = \"dominant\"\nrational = \"ex-post\"\npayments = true\noutcomes = [\"keep\", \"sell\"]\n[objective]\nrevenue = 1\n[[agent]]\nname = \"buyer\"\ntypes = [\"low\", \"high\"]\nweights = [1, 1]\nutility = [[0, 1], [0, 3]]\n";
 
+// The same setting, but the word for its truth is none that a setting may have.
+pub(crate) const HONEST: &str =
+    "format = \"mechanism-setting\"\nversion = 1\nkind = \"general\"\ntruth = \"honest\"\nrational = \"ex-post\"\npayments = true\noutcomes = [\"keep\", \"sell\"]\n[objective]\nrevenue = 1\n[[agent]]\nname = \"buyer\"\ntypes = [\"low\", \"high\"]\nweights = [1, 1]\nutility = [[0, 1], [0, 3]]\n";
+
 // Two voters, each of whom likes one of two outcomes.
 pub(crate) const VOTE: &str =
     "format = \"mechanism-setting\"\nversion = 1\nkind = \"general\"\ntruth = \"dominant\"\nrational = \"none\"\npayments = false\noutcomes = [\"a\", \"b\"]\n[[agent]]\nname = \"first\"\ntypes = [\"l\", \"r\"]\nweights = [1, 1]\nutility = [[1, 0], [0, 1]]\n[[agent]]\nname = \"second\"\ntypes = [\"l\", \"r\"]\nweights = [1, 1]\nutility = [[1, 0], [0, 1]]\n";

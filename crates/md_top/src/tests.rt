@@ -156,7 +156,7 @@ static CASES: [(&str, &str, u8, &str, &str); 23] = [
     ),
 ];
 
-fn words(alloc: Global, texts: &[&str]) -> Result<Vec<String>, AllocError> {
+pub(crate) fn words(alloc: Global, texts: &[&str]) -> Result<Vec<String>, AllocError> {
     let mut words = Vec::new(alloc);
     for text in texts {
         words.push(String::from_str(alloc, text)?)?;
@@ -202,7 +202,7 @@ fn says_over_clean_objects(rt: HostRuntime) -> Result<(), Fail> {
 fn tells_faults_and_wrong_words(rt: HostRuntime) -> Result<(), Fail> {
     let alloc = rt.alloc();
     let mut shelf = MemShelf::new(alloc);
-    shelf.put("setting", ONE_TYPE.as_bytes())?;
+    shelf.put("setting", POSTED_PRICE.as_bytes())?;
     let mut out = MemSink::new(alloc, 100)?;
     let mut err = MemSink::new(alloc, 100)?;
     let audit = words(alloc, &["audit", "setting", "absent"])?;
@@ -237,7 +237,7 @@ static PROGRAMS: [(&str, &str); 2] = [
 ];
 
 // A setting, an answer, the status and what `check` prints.
-static CHECKS: [(&str, &str, u8, &str); 15] = [
+static CHECKS: [(&str, &str, u8, &str); 16] = [
     (ONE_TYPE, ONE_TYPE_TABLE, 22, "undecided\n"),
     (
         POSTED_PRICE,
@@ -322,6 +322,12 @@ static CHECKS: [(&str, &str, u8, &str); 15] = [
         "answer,1,general,unbounded\ntable,1\nlottery,t,1\npay,t,0\nray,t,-1\nend\n",
         20,
         "rejected,7,0,1\n",
+    ),
+    (
+        POSTED_PRICE,
+        "answer,1,general,toowide\npivot,4,0\npivot,1,1\nwide,3,3,-25,5\nend\n",
+        22,
+        "undecided\n",
     ),
 ];
 
