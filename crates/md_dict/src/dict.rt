@@ -259,7 +259,7 @@ impl Dict {
         ensures wide { IfNone result (IsWideFor step.now self.old.kept) }
         ensures stays { IfNone result (self.new ≡ self.old) }
     {
-        let divisor = step.fill(self.kept.as_slice(), &mut self.fresh)?;
+        let divisor = step.fill(self.kept.as_slice(), self.fresh.as_mut_slice())?;
         mem::swap(&mut self.kept, &mut self.fresh);
         self.order[step.place] = step.leaving as u32;
         self.order[step.columns + step.row] = step.entering as u32;

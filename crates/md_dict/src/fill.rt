@@ -86,7 +86,7 @@ impl Step {
         kept: &[i64],
         row: usize,
         quick: &QuickDivider,
-        fresh: &mut Vec<i64>,
+        fresh: &mut [i64],
     ) -> usize
         requires step { IsStep self.now kept.now }
         requires row { row < self.now.rows + 2 }
@@ -94,11 +94,11 @@ impl Step {
         requires most { quick.now.most ≤ self.now.limit }
         requires size { IsWithin (2 ^ 63 - 1) quick.now.value }
         requires room { quick.now.most * unsigned_abs quick.now.value < 2 ^ 63 }
-        requires table { IsTable self.now fresh.old.items }
+        requires table { IsTable self.now fresh.old }
         ensures places { result ≤ self.now.columns + 1 }
-        ensures filled { AreFilled self.now quick.now.value kept.now fresh.new.items row result }
-        ensures leaves { Leaves self.now row fresh.old.items fresh.new.items }
-        ensures table { IsTable self.now fresh.new.items }
+        ensures filled { AreFilled self.now quick.now.value kept.now fresh.new row result }
+        ensures leaves { Leaves self.now row fresh.old fresh.new }
+        ensures table { IsTable self.now fresh.new }
     {
         let multiplier = self.multiplier(row) as i64;
         let factor = self.factor(kept, row) as i64;
@@ -121,19 +121,19 @@ impl Step {
         row: usize,
         from: usize,
         divider: &Divider,
-        fresh: &mut Vec<i64>,
+        fresh: &mut [i64],
     ) -> Result<(), Unfit>
         requires step { IsStep self.now kept.now }
         requires row { row < self.now.rows + 2 }
         requires from { from ≤ self.now.columns + 1 }
         requires positive { pos 0 <ℤ divider.now.value }
         requires size { unsigned_abs divider.now.value < 2 ^ 126 }
-        requires filled { AreFilled self.now divider.now.value kept.now fresh.old.items row from }
-        requires table { IsTable self.now fresh.old.items }
-        ensures filled { OnOk result (AreFilled self.now divider.now.value kept.now fresh.new.items row (self.now.columns + 1)) }
+        requires filled { AreFilled self.now divider.now.value kept.now fresh.old row from }
+        requires table { IsTable self.now fresh.old }
+        ensures filled { OnOk result (AreFilled self.now divider.now.value kept.now fresh.new row (self.now.columns + 1)) }
         ensures unfit { IfErr result (IsUnfit self.now kept.now divider.now.value) }
-        ensures leaves { Leaves self.now row fresh.old.items fresh.new.items }
-        ensures table { IsTable self.now fresh.new.items }
+        ensures leaves { Leaves self.now row fresh.old fresh.new }
+        ensures table { IsTable self.now fresh.new }
     {
         for place in from..self.columns + 1 {
             fresh[row * (self.columns + 1) + place] = self.new_number(kept, row, place, divider)?;
@@ -142,14 +142,14 @@ impl Step {
     }
 
     // Copies a row.
-    fn copy_row(&self, kept: &[i64], row: usize, fresh: &mut Vec<i64>)
+    fn copy_row(&self, kept: &[i64], row: usize, fresh: &mut [i64])
         requires step { IsStep self.now kept.now }
         requires row { row < self.now.rows + 2 }
         requires apart { IsApart self.now kept.now row }
-        requires table { IsTable self.now fresh.old.items }
-        ensures filled { AreFilled self.now self.now.pivot kept.now fresh.new.items row (self.now.columns + 1) }
-        ensures leaves { Leaves self.now row fresh.old.items fresh.new.items }
-        ensures table { IsTable self.now fresh.new.items }
+        requires table { IsTable self.now fresh.old }
+        ensures filled { AreFilled self.now self.now.pivot kept.now fresh.new row (self.now.columns + 1) }
+        ensures leaves { Leaves self.now row fresh.old fresh.new }
+        ensures table { IsTable self.now fresh.new }
     {
         let start = row * (self.columns + 1);
         for place in 0..self.columns + 1 {
@@ -163,16 +163,16 @@ impl Step {
         kept: &[i64],
         row: usize,
         filling: &Filling,
-        fresh: &mut Vec<i64>,
+        fresh: &mut [i64],
     ) -> Result<(), Unfit>
         requires step { IsStep self.now kept.now }
         requires row { row < self.now.rows + 2 }
         requires filling { IsFilling self.now kept.now filling.now }
-        requires table { IsTable self.now fresh.old.items }
-        ensures filled { OnOk result (AreFilled self.now filling.now.divider.value kept.now fresh.new.items row (self.now.columns + 1)) }
+        requires table { IsTable self.now fresh.old }
+        ensures filled { OnOk result (AreFilled self.now filling.now.divider.value kept.now fresh.new row (self.now.columns + 1)) }
         ensures unfit { IfErr result (IsUnfit self.now kept.now filling.now.divider.value) }
-        ensures leaves { Leaves self.now row fresh.old.items fresh.new.items }
-        ensures table { IsTable self.now fresh.new.items }
+        ensures leaves { Leaves self.now row fresh.old fresh.new }
+        ensures table { IsTable self.now fresh.new }
     {
         if self.pivot == filling.divider.value && self.is_apart(kept, row) {
             self.copy_row(kept, row, fresh);
@@ -193,15 +193,15 @@ impl Step {
         kept: &[i64],
         row: usize,
         filling: &Filling,
-        fresh: &mut Vec<i64>,
+        fresh: &mut [i64],
     ) -> Result<(), Unfit>
         requires step { IsStep self.now kept.now }
         requires row { row < self.now.rows + 2 }
         requires filling { IsFilling self.now kept.now filling.now }
-        requires table { IsTable self.now fresh.old.items }
-        ensures filled { OnOk result (AreRowsFilled self.now filling.now.divider.value kept.now fresh.old.items row → AreRowsFilled self.now filling.now.divider.value kept.now fresh.new.items (row + 1)) }
+        requires table { IsTable self.now fresh.old }
+        ensures filled { OnOk result (AreRowsFilled self.now filling.now.divider.value kept.now fresh.old row → AreRowsFilled self.now filling.now.divider.value kept.now fresh.new (row + 1)) }
         ensures unfit { IfErr result (IsUnfit self.now kept.now filling.now.divider.value) }
-        ensures table { IsTable self.now fresh.new.items }
+        ensures table { IsTable self.now fresh.new }
     {
         self.fill_others(kept, row, filling, fresh)?;
         let number = self.new_number(kept, row, self.place, &filling.divider)?;
@@ -210,13 +210,13 @@ impl Step {
     }
 
     // Writes all new numbers.
-    fn fill_rows(&self, kept: &[i64], filling: &Filling, fresh: &mut Vec<i64>) -> Result<(), Unfit>
+    fn fill_rows(&self, kept: &[i64], filling: &Filling, fresh: &mut [i64]) -> Result<(), Unfit>
         requires step { IsStep self.now kept.now }
         requires filling { IsFilling self.now kept.now filling.now }
-        requires table { IsTable self.now fresh.old.items }
-        ensures filled { OnOk result (AreRowsFilled self.now filling.now.divider.value kept.now fresh.new.items (self.now.rows + 2)) }
+        requires table { IsTable self.now fresh.old }
+        ensures filled { OnOk result (AreRowsFilled self.now filling.now.divider.value kept.now fresh.new (self.now.rows + 2)) }
         ensures unfit { IfErr result (IsUnfit self.now kept.now filling.now.divider.value) }
-        ensures table { IsTable self.now fresh.new.items }
+        ensures table { IsTable self.now fresh.new }
     {
         for row in 0..self.rows + 2 {
             self.fill_row(kept, row, filling, fresh)?;
@@ -257,12 +257,12 @@ impl Step {
 
     // Writes all new numbers, where none is above the limit, and answers the number by which all is divided.
     // It begins with what divides the pivot row. Where that does not divide a number of another row, all is written anew for their greatest common divisor.
-    pub fn fill(&self, kept: &[i64], fresh: &mut Vec<i64>) -> Option<i128>
+    pub fn fill(&self, kept: &[i64], fresh: &mut [i64]) -> Option<i128>
         requires step { IsStep self.now kept.now }
-        requires table { IsTable self.now fresh.old.items }
-        ensures filled { IfSome result (IsFilledBy self.now kept.now fresh.new.items) }
+        requires table { IsTable self.now fresh.old }
+        ensures filled { IfSome result (IsFilledBy self.now kept.now fresh.new) }
         ensures wide { IfNone result (IsWideFor self.now kept.now) }
-        ensures table { IsTable self.now fresh.new.items }
+        ensures table { IsTable self.now fresh.new }
     {
         let first = Divider::new(product(self.den, self.pivot));
         let mut divider = self.row_divisor(kept, self.row, first);

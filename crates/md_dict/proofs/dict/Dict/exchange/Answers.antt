@@ -1,4 +1,5 @@
-use Rattle.std.proofs.Common.{◌≡◌, ◌*ℤ◌, pos, int_div, ◌∙◌, sym, ap, subst}
+use Rattle.std.proofs.Common.{◌≡◌, ◌*ℤ◌, pos, int_div, ℕ, List, ◌++◌, length, take, ℤ, ◌∙◌, sym, ap, subst, arith}
+use Rattle.std.proofs.Math.Seq.{take-append_seam}
 use Rattle.md_dict.specs.contracts.dict.Dict.{the_view}
 use Rattle.md_dict.specs.Condensed.{IsShapedDictionary, IsFresh}
 use Rattle.md_dict.specs.Step.{IsStep}
@@ -9,6 +10,10 @@ use Rattle.md_dict.proofs.Values.{IsTable-fresh, AreWritten-filled, exchanged_is
 use Rattle.md_dict.proofs.Exchanged.{IsShaped-exchanged}
 use Rattle.md_dict.proofs.dict.Dict.exchange.Goals as goal
 
+-- the first part of two, by its length
+taken : (xs ys : List ℤ) (n : ℕ) → n ≡ length xs → take n (xs ++ ys) ≡ xs
+taken xs ys n e = rw e (take-append_seam xs ys)
+
 pub fill-requires-clause-step : goal.fill-requires-clause-step
 fill-requires-clause-step c =
     let kept = c.as_slice.ensures.value ∙ ap (λ d. d.kept) c.self.view_is in
@@ -16,8 +21,9 @@ fill-requires-clause-step c =
 
 pub fill-requires-clause-table : goal.fill-requires-clause-table
 fill-requires-clause-table c =
-    IsTable-fresh c.args.self.now c.args.step.now c.self.inside.fresh.items c.requires.step c.requires.exchange
-    (subst (λ d. IsFresh d.rows d.columns d.bits c.self.inside.fresh.items) c.self.view_is c.self.invariant.1)
+    rw c.as_mut_slice.ensures.value
+    (IsTable-fresh c.args.self.now c.args.step.now c.self.inside.fresh.items c.requires.step c.requires.exchange
+    (subst (λ d. IsFresh d.rows d.columns d.bits c.self.inside.fresh.items) c.self.view_is c.self.invariant.1))
 
 pub product-requires : goal.product-requires
 product-requires c =
@@ -35,15 +41,16 @@ invariant_of-self-2 c =
     let t = c.fill.ensures.table in
     let f = c.in_ok-divisor.ensures.filled in
     let kept = c.as_slice.ensures.value ∙ ap (λ d. d.kept) c.self.view_is in
-    let items : c.swap.new.x.items ≡ c.fill.new.fresh.items = ap (λ v. v.items) c.swap.ensures.x_after in
+    let length_is : c.self.inside.fresh.len ≡ length c.fill.new.fresh = omega (arith, c.fill.auto.fresh, c.as_mut_slice.ensures.len, c.self.inside.fresh.ok) in
+    let items : c.swap.new.x.items ≡ c.fill.new.fresh = ap (λ v. v.items) c.swap.ensures.x_after ∙ taken c.fill.new.fresh _ c.self.inside.fresh.len length_is in
     let den : c.exact_quotient-self-inside.result ≡ int_div (c.args.step.now.den *ℤ c.args.step.now.pivot) c.in_ok-divisor.divisor =
     quotient_is c.in_ok-divisor.divisor _ c.exact_quotient-self-inside.result f.divisor.positive f.divisor.of_den
     (rw (read_wide c.in_ok-divisor.divisor f.size, read_result c.product.result c.product.type_inv, c.product.ensures.value, read_small c.args.step.now.den t.den_size, read_small c.args.step.now.pivot t.pivot_size) at c.exact_quotient-self-inside.ensures.value) in (
       rw items
           (subst IsShapedDictionary
-          (sym (exchanged_is (the_view c.self.inside) c.args.self.now c.args.step.now c.in_ok-divisor.divisor _ c.fill.new.fresh.items c.self.view_is c.requires.step (read_result c.exact_quotient-self-inside.result c.exact_quotient-self-inside.type_inv ∙ den)))
-          (IsShaped-exchanged c.args.self.now c.args.step.now.row c.args.step.now.entering c.in_ok-divisor.divisor c.fill.new.fresh.items
-          (AreWritten-filled c.args.self.now c.args.step.now c.in_ok-divisor.divisor c.fill.new.fresh.items c.requires.step c.requires.exchange (rw kept at f) t))),
+          (sym (exchanged_is (the_view c.self.inside) c.args.self.now c.args.step.now c.in_ok-divisor.divisor _ c.fill.new.fresh c.self.view_is c.requires.step (read_result c.exact_quotient-self-inside.result c.exact_quotient-self-inside.type_inv ∙ den)))
+          (IsShaped-exchanged c.args.self.now c.args.step.now.row c.args.step.now.entering c.in_ok-divisor.divisor c.fill.new.fresh
+          (AreWritten-filled c.args.self.now c.args.step.now c.in_ok-divisor.divisor c.fill.new.fresh c.requires.step c.requires.exchange (rw kept at f) t))),
       subst (λ v. IsFresh c.self.inside.rows c.self.inside.columns c.self.inside.width v.items) (sym c.swap.ensures.y_after) (record { length_is = c.self.invariant.0.kept_length; size = c.self.invariant.0.kept_size }),
     )
 
@@ -61,6 +68,7 @@ pub returns-clause-written : goal.returns-clause-written
 returns-clause-written c =
     let f = c.in_ok-divisor.ensures.filled in
     let kept = c.as_slice.ensures.value ∙ ap (λ d. d.kept) c.self.view_is in
-    let items : c.swap.new.x.items ≡ c.fill.new.fresh.items = ap (λ v. v.items) c.swap.ensures.x_after in
+    let length_is : c.self.inside.fresh.len ≡ length c.fill.new.fresh = omega (arith, c.fill.auto.fresh, c.as_mut_slice.ensures.len, c.self.inside.fresh.ok) in
+    let items : c.swap.new.x.items ≡ c.fill.new.fresh = ap (λ v. v.items) c.swap.ensures.x_after ∙ taken c.fill.new.fresh _ c.self.inside.fresh.len length_is in
     rw (read_wide c.in_ok-divisor.divisor f.size, items)
-    (AreWritten-filled c.args.self.now c.args.step.now c.in_ok-divisor.divisor c.fill.new.fresh.items c.requires.step c.requires.exchange (rw kept at f) c.fill.ensures.table)
+    (AreWritten-filled c.args.self.now c.args.step.now c.in_ok-divisor.divisor c.fill.new.fresh c.requires.step c.requires.exchange (rw kept at f) c.fill.ensures.table)

@@ -46,9 +46,9 @@ returns-in-TooWide-clause-wide c =
 
 pub returns-then-has_small_den-clause-filled : goal.returns-then-has_small_den-clause-filled
 returns-then-has_small_den-clause-filled c =
-    let filled : AreRowsFilled c.args.self.now c.loop-unfit.divider.value c.args.kept.now c.fill_rows.new.fresh.items (c.args.self.now.rows + 2) = subst (λ v. AreRowsFilled c.args.self.now v.value c.args.kept.now c.fill_rows.new.fresh.items (c.args.self.now.rows + 2)) c.filling.ensures.divider c.in_default.ensures.filled in
+    let filled : AreRowsFilled c.args.self.now c.loop-unfit.divider.value c.args.kept.now c.fill_rows.new.fresh (c.args.self.now.rows + 2) = subst (λ v. AreRowsFilled c.args.self.now v.value c.args.kept.now c.fill_rows.new.fresh (c.args.self.now.rows + 2)) c.filling.ensures.divider c.in_default.ensures.filled in
     rw (read_wide c.loop-unfit.divider.value c.loop-unfit.invariant.0.size) (record {
-      divisor = IsStepDivisor-filled c.args.self.now c.loop-unfit.divider.value c.args.kept.now c.fill_rows.new.fresh.items c.loop-unfit.invariant.0 filled;
+      divisor = IsStepDivisor-filled c.args.self.now c.loop-unfit.divider.value c.args.kept.now c.fill_rows.new.fresh c.loop-unfit.invariant.0 filled;
       size = c.loop-unfit.invariant.0.size;
       den = rw (read_wide c.loop-unfit.divider.value c.loop-unfit.invariant.0.size) at c.if-has_small_den.ensures.0 refl;
       rows = filled;
@@ -56,7 +56,7 @@ returns-then-has_small_den-clause-filled c =
 
 pub returns-else-has_small_den-clause-wide : goal.returns-else-has_small_den-clause-wide
 returns-else-has_small_den-clause-wide c =
-    let filled : AreRowsFilled c.args.self.now c.loop-unfit.divider.value c.args.kept.now c.fill_rows.new.fresh.items (c.args.self.now.rows + 2) = subst (λ v. AreRowsFilled c.args.self.now v.value c.args.kept.now c.fill_rows.new.fresh.items (c.args.self.now.rows + 2)) c.filling.ensures.divider c.in_default.ensures.filled in
+    let filled : AreRowsFilled c.args.self.now c.loop-unfit.divider.value c.args.kept.now c.fill_rows.new.fresh (c.args.self.now.rows + 2) = subst (λ v. AreRowsFilled c.args.self.now v.value c.args.kept.now c.fill_rows.new.fresh (c.args.self.now.rows + 2)) c.filling.ensures.divider c.in_default.ensures.filled in
     IsWideFor-den c.args.self.now c.args.kept.now c.loop-unfit.divider.value
-    (IsStepDivisor-filled c.args.self.now c.loop-unfit.divider.value c.args.kept.now c.fill_rows.new.fresh.items c.loop-unfit.invariant.0 filled)
+    (IsStepDivisor-filled c.args.self.now c.loop-unfit.divider.value c.args.kept.now c.fill_rows.new.fresh c.loop-unfit.invariant.0 filled)
     (λ w. let clash = (rw (read_wide c.loop-unfit.divider.value c.loop-unfit.invariant.0.size) at c.if-has_small_den.ensures.1) w in cc)

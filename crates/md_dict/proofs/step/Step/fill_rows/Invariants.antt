@@ -3,4 +3,4 @@ use Rattle.md_dict.specs.Fill.{AreRowsFilled}
 use Rattle.md_dict.proofs.step.Step.fill_rows.Given as goal
 
 abbrev pub invariant-loop-row : goal.invariant-loop-row
-invariant-loop-row l = AreRowsFilled l.self l.filling.divider.value l.kept l.fresh.items l.row × IsTable l.self l.fresh.items
+invariant-loop-row l = AreRowsFilled l.self l.filling.divider.value l.kept l.fresh l.row × IsTable l.self l.fresh

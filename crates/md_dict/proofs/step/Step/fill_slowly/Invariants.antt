@@ -3,4 +3,4 @@ use Rattle.md_dict.specs.Fill.{AreFilled, Leaves}
 use Rattle.md_dict.proofs.step.Step.fill_slowly.Given as goal
 
 abbrev pub invariant-loop-place : goal.invariant-loop-place
-invariant-loop-place l = AreFilled l.self l.divider.value l.kept l.fresh.items l.row l.place × Leaves l.self l.row l.fn.fresh.items l.fresh.items × IsTable l.self l.fresh.items
+invariant-loop-place l = AreFilled l.self l.divider.value l.kept l.fresh l.row l.place × Leaves l.self l.row l.fn.fresh l.fresh × IsTable l.self l.fresh
