@@ -55,9 +55,7 @@ pub fn broken_or_summed(
         if let Some(broken) = broken_at(lp, den, point, row) {
             return Some(broken);
         }
-        let face = bound.face.get(row as usize);
-        let main = bound.main.get(row as usize);
-        lp.add_row(row, face, main, face_sums, main_sums);
+        lp.add_row_by(row, &bound.face, &bound.main, face_sums, main_sums);
     }
     None
 }

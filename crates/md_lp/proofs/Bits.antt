@@ -12,7 +12,10 @@ small_back limit z h l = to_z-of_z w128 z (fits_signed_from_abs w128 z (omega (a
 pub short_back : (limit : ℕ) (z : ℤ) → IsWithin limit z → limit < 2 ^ 63 → to_z w64 (of_z w64 z) ≡ z
 short_back limit z h l = to_z-of_z w64 z (fits_signed_from_abs w64 z (omega (arith, h.within)))
 
--- the result of a call
+-- the result of a call, of 64 bits and of 128
+pub short_result_back : (z : ℤ) → mag z < 2 ^ 63 → to_z w64 (of_z w64 z) ≡ z
+short_result_back z h = to_z-of_z w64 z (record { sfits = h })
+
 pub result_back : (z : ℤ) → mag z < 2 ^ 127 → to_z w128 (of_z w128 z) ≡ z
 result_back z h = to_z-of_z w128 z (record { sfits = h })
 

@@ -1,4 +1,5 @@
 pub mod Bits
+pub mod Packing
 pub mod SparseRows
 pub mod StoredTerms
 pub mod ShapeLaws

@@ -10,7 +10,7 @@ use Rattle.md_lp.specs.declared.term.Term.{Term}
 use Rattle.md_lp.specs.Shape.{column_in, IsAscending, HasPlaces}
 use Rattle.md_lp.specs.Search.{IsGapFor}
 use Rattle.md_lp.specs.declared.stored_term.StoredTerm.{StoredTerm}
-use Rattle.md_lp.specs.Stored.{shown_terms}
+use Rattle.md_lp.specs.Stored.{kept_column, shown_terms}
 use Rattle.md_lp.proofs.StoredTerms.{no_stored, column_in-shown, length-shown}
 
 -- the first n terms have their places, and `least` is one more than the last column, or 0
@@ -62,14 +62,14 @@ rising terms i j h l b = elim (cases_lt i j) [
 ]
 
 -- the comparisons with a column rise along the terms, as a binary search asks
-comparisons_rise : (terms : List StoredTerm) (column : ℕ) → IsAscending (shown_terms terms) → IsNonDecreasingBy (λ t. ordering_index (nat_cmp t.column column)) terms
-comparisons_rise terms column h = IsNonDecreasingBy-from_default (λ t. ordering_index (nat_cmp t.column column)) terms no_stored (λ i j le in_range.
+comparisons_rise : (terms : List StoredTerm) (column : ℕ) → IsAscending (shown_terms terms) → IsNonDecreasingBy (λ t. ordering_index (nat_cmp (kept_column t) column)) terms
+comparisons_rise terms column h = IsNonDecreasingBy-from_default (λ t. ordering_index (nat_cmp (kept_column t) column)) terms no_stored (λ i j le in_range.
     let inside : j < length (shown_terms terms) = omega (arith, length-shown terms) in
-    let columns_rise : (get_or terms i no_stored).column ≤ (get_or terms j no_stored).column = rw (column_in-shown terms i, column_in-shown terms j) at (rising terms i j h le inside) in
+    let columns_rise : kept_column (get_or terms i no_stored) ≤ kept_column (get_or terms j no_stored) = rw (column_in-shown terms i, column_in-shown terms j) at (rising terms i j h le inside) in
     grind (arith, nat_tests))
 
 -- a binary search by column ends at the column, or at the gap for it
-pub searched : (terms : List StoredTerm) (column : ℕ) → IsAscending (shown_terms terms) → (r : Result ℕ ℕ) → IsSearchInRange r (length terms) → IsBinarySearchResult (λ t. nat_cmp t.column column) terms r → record { found : IfOk r (λ at. (at < length terms) × (column_in (shown_terms terms) at ≡ column)); absent : IfErr r (IsGapFor (shown_terms terms) column) }
+pub searched : (terms : List StoredTerm) (column : ℕ) → IsAscending (shown_terms terms) → (r : Result ℕ ℕ) → IsSearchInRange r (length terms) → IsBinarySearchResult (λ t. nat_cmp (kept_column t) column) terms r → record { found : IfOk r (λ at. (at < length terms) × (column_in (shown_terms terms) at ≡ column)); absent : IfErr r (IsGapFor (shown_terms terms) column) }
 searched terms column h (Ok at) in_range equal = record { found = (in_range, column_in-shown terms at ∙ ranked _ column _ (sym (equal no_stored))); absent = tt }
 searched terms column h (Err at) in_range parted = record {
   found = tt;

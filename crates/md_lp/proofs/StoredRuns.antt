@@ -6,7 +6,7 @@ use Rattle.md_math.specs.Sizes.{IsWithin, AllWithin}
 use Rattle.md_lp.specs.declared.stored_term.StoredTerm.{StoredTerm}
 use Rattle.md_lp.specs.Runs.{AddsRow}
 use Rattle.md_lp.specs.Shape.{column_in, IsAscending}
-use Rattle.md_lp.specs.Stored.{shown_terms}
+use Rattle.md_lp.specs.Stored.{kept_column, kept_value, shown_terms}
 use Rattle.md_lp.proofs.Bits.{small_back}
 use Rattle.md_lp.proofs.SparseRows.{no_term}
 use Rattle.md_lp.proofs.StoredTerms.{no_stored, at_shown, column_in-shown, value-shown, length-shown}
@@ -16,20 +16,20 @@ module _ (terms : List StoredTerm) (i first : ℕ) (weight : ℤ) (old new : Lis
   inside : i < length (shown_terms terms)
   inside = omega (arith, length-shown terms, b)
 
-  module _ (values : All (λ t. IsWithin (2 ^ 44) t.value) (shown_terms terms)) (small : IsWithin (2 ^ 62 - 1) weight) (room : AllWithin (2 ^ 124) old) (c : (get_or terms i no_stored).column - first < length new) where
-    pub step_room : unsigned_abs (number_at new ((get_or terms i no_stored).column - first)) + unsigned_abs (get_or terms i no_stored).value * unsigned_abs weight < 2 ^ 126
-    step_room = rw (at_shown terms i) at (run_room (shown_terms terms) i first weight old new ((get_or terms i no_stored).column - first) ascending values small room h inside c)
+  module _ (values : All (λ t. IsWithin (2 ^ 44) t.value) (shown_terms terms)) (small : IsWithin (2 ^ 62 - 1) weight) (room : AllWithin (2 ^ 124) old) (c : kept_column (get_or terms i no_stored) - first < length new) where
+    pub step_room : unsigned_abs (number_at new (kept_column (get_or terms i no_stored) - first)) + unsigned_abs (kept_value (get_or terms i no_stored)) * unsigned_abs weight < 2 ^ 126
+    step_room = rw (at_shown terms i) at (run_room (shown_terms terms) i first weight old new (kept_column (get_or terms i no_stored) - first) ascending values small room h inside c)
 
-    pub sum_back : to_z w128 (of_z w128 (number_at new ((get_or terms i no_stored).column - first))) ≡ number_at new ((get_or terms i no_stored).column - first)
-    sum_back = small_back (2 ^ 126) (number_at new ((get_or terms i no_stored).column - first)) (record { within = omega (arith, step_room) }) (lit< tt)
+    pub sum_back : to_z w128 (of_z w128 (number_at new (kept_column (get_or terms i no_stored) - first))) ≡ number_at new (kept_column (get_or terms i no_stored) - first)
+    sum_back = small_back (2 ^ 126) (number_at new (kept_column (get_or terms i no_stored) - first)) (record { within = omega (arith, step_room) }) (lit< tt)
 
-  pub step_more : (sum : ℤ) → first ≤ column_in (shown_terms terms) i → sum ≡ number_at new ((get_or terms i no_stored).column - first) +ℤ (get_or terms i no_stored).value *ℤ weight → AddsSoFar (shown_terms terms) (i + 1) first weight old (set new ((get_or terms i no_stored).column - first) sum)
+  pub step_more : (sum : ℤ) → first ≤ column_in (shown_terms terms) i → sum ≡ number_at new (kept_column (get_or terms i no_stored) - first) +ℤ kept_value (get_or terms i no_stored) *ℤ weight → AddsSoFar (shown_terms terms) (i + 1) first weight old (set new (kept_column (get_or terms i no_stored) - first) sum)
   step_more sum from e =
-      let here : column_in (shown_terms terms) i ≡ (get_or terms i no_stored).column = column_in-shown terms i in
+      let here : column_in (shown_terms terms) i ≡ kept_column (get_or terms i no_stored) = column_in-shown terms i in
       let sum_is : sum ≡ number_at new (column_in (shown_terms terms) i - first) +ℤ (get_or (shown_terms terms) i no_term).value *ℤ weight = rw (here, value-shown terms i) e in
       rw (← here) (AddsSoFar-more (shown_terms terms) i first weight sum old new inside from h sum_is)
 
-  pub step_past : first ≤ column_in (shown_terms terms) i → length new ≤ (get_or terms i no_stored).column - first → AddsRow (shown_terms terms) first weight old new
+  pub step_past : first ≤ column_in (shown_terms terms) i → length new ≤ kept_column (get_or terms i no_stored) - first → AddsRow (shown_terms terms) first weight old new
   step_past from past =
       let beyond : length new ≤ column_in (shown_terms terms) i - first = rw (column_in-shown terms i) past in
       AddsRow-past (shown_terms terms) i first weight old new ascending inside from beyond h

@@ -1,6 +1,5 @@
 -- What contracts see of terms as they are kept.
-use Rattle.std.proofs.Common.{◌≡◌, ℕ, ◌-◌, ◌^◌, ◌<◌, ◌≤◌, pos, to_z, of_z, List, [], ◌∷◌, ◌++◌, length, get_or, take, drop, All, inl, inr, refl, subst, sym, ap, ◌∙◌, lit<, arith}
-use mir.Syntax.{w64}
+use Rattle.std.proofs.Common.{◌≡◌, ℕ, ◌-◌, ◌<◌, ◌≤◌, List, [], ◌∷◌, ◌++◌, length, get_or, take, drop, All, inl, inr, refl, subst, sym, ap, ◌∙◌, arith}
 use Rattle.std.proofs.Math.ListN.{get_or-map}
 use Rattle.std.proofs.lemmas.List.{length-map, map-append, take_all, length-drop, drop-map}
 use Rattle.md_math.specs.Sizes.{IsWithin}
@@ -9,20 +8,20 @@ use Rattle.md_lp.specs.declared.stored_term.StoredTerm.{StoredTerm}
 use Rattle.std.proofs.lemmas.Bool.{cases_lt}
 use Rattle.md_lp.specs.Search.{IsGapFor, StartsFrom}
 use Rattle.md_lp.specs.Shape.{column_in, IsAscending}
-use Rattle.md_lp.specs.Stored.{shown_term, shown_terms}
-use Rattle.md_lp.proofs.Bits.{short_back}
+use Rattle.md_lp.specs.Stored.{kept_column, kept_value, shown_term, shown_terms}
 use Rattle.md_lp.proofs.SparseRows.{no_term}
 
 abbrev pub no_stored : StoredTerm
-no_stored = record { column = 0; value = pos 0 }
+no_stored = record { packed = 0 }
 
 pub at_shown : (terms : List StoredTerm) (i : ℕ) → get_or (shown_terms terms) i no_term ≡ shown_term (get_or terms i no_stored)
+unfolding kept_column kept_value
 at_shown terms i = get_or-map shown_term terms i no_stored
 
-pub column_in-shown : (terms : List StoredTerm) (i : ℕ) → column_in (shown_terms terms) i ≡ (get_or terms i no_stored).column
+pub column_in-shown : (terms : List StoredTerm) (i : ℕ) → column_in (shown_terms terms) i ≡ kept_column (get_or terms i no_stored)
 column_in-shown terms i = ap (λ (t : Term). t.column) (at_shown terms i)
 
-pub value-shown : (terms : List StoredTerm) (i : ℕ) → (get_or (shown_terms terms) i no_term).value ≡ (get_or terms i no_stored).value
+pub value-shown : (terms : List StoredTerm) (i : ℕ) → (get_or (shown_terms terms) i no_term).value ≡ kept_value (get_or terms i no_stored)
 value-shown terms i = ap (λ (t : Term). t.value) (at_shown terms i)
 
 pub length-shown : (terms : List StoredTerm) → length (shown_terms terms) ≡ length terms
@@ -31,14 +30,11 @@ length-shown terms = length-map terms shown_term
 pub shown-push : (terms : List StoredTerm) (term : StoredTerm) → shown_terms (terms ++ term ∷ []) ≡ shown_terms terms ++ shown_term term ∷ []
 shown-push terms term = map-append shown_term terms (term ∷ [])
 
--- the value of a term that is kept, and that it is read back from its bits
-pub value_size : (limit : ℕ) (terms : List StoredTerm) (i : ℕ) → All (λ t. IsWithin limit t.value) (shown_terms terms) → i < length terms → IsWithin limit (get_or terms i no_stored).value
+-- the value of a term that is kept
+pub value_size : (limit : ℕ) (terms : List StoredTerm) (i : ℕ) → All (λ t. IsWithin limit t.value) (shown_terms terms) → i < length terms → IsWithin limit (kept_value (get_or terms i no_stored))
 value_size limit terms i h b =
     let inside : i < length (shown_terms terms) = omega (arith, length-shown terms) in
     subst (IsWithin limit) (value-shown terms i) (h i no_term inside)
-
-pub value_back : (terms : List StoredTerm) (i : ℕ) → All (λ t. IsWithin (2 ^ 44) t.value) (shown_terms terms) → i < length terms → to_z w64 (of_z w64 (get_or terms i no_stored).value) ≡ (get_or terms i no_stored).value
-value_back terms i h b = short_back (2 ^ 44) _ (value_size (2 ^ 44) terms i h b) (lit< tt)
 
 -- ---- the terms from a column on
 

@@ -56,6 +56,7 @@ fn row_divisor(terms: &[Term], right: i128) -> i128
 fn divided_terms(alloc: Global, terms: &[Term], by: i128) -> Result<Vec<StoredTerm>, NoMemory>
     requires positive { pos 0 <ℤ by }
     requires exact { All (λ term. Divides by term.value) terms.now }
+    requires columns { All (λ term. term.column < 65536) terms.now }
     requires sizes { All (λ term. IsWithin (2 ^ 44) term.value) terms.now }
     ensures { IfOk result (λ divided. IsDividedTerms by terms.now (shown_terms divided.items)) }
 {
@@ -73,7 +74,8 @@ pub fn divided_row(
     terms: &[Term],
     right: i128,
 ) -> Result<StoredRow, NoMemory>
-    requires { AllWithin (2 ^ 44) (right ∷ map (λ term. term.value) terms.now) }
+    requires columns { All (λ term. term.column < 65536) terms.now }
+    requires sizes { AllWithin (2 ^ 44) (right ∷ map (λ term. term.value) terms.now) }
     ensures { IfOk result (λ row. IsDividedRow (record { kind = kind; terms = terms.now; right = right }) (shown row)) }
 {
     let by = row_divisor(terms, right);

@@ -235,28 +235,44 @@ impl Lp {
     {
         clear(sums);
         for row in 0..self.rows() {
-            add_row(self.terms(row), first, numbers.get(row as usize), sums);
+            add_row(
+                self.terms(row),
+                first,
+                numbers.as_slice(),
+                row as usize,
+                sums,
+            );
         }
     }
 
-    /// Adds a row to two lists of sums, one for each column: each coefficient times the one number to the first list, and times the other to the second. The row is read once for both.
-    pub fn add_row(
+    /// Adds a row to two lists of sums, one for each column: each coefficient times the row's number of the first list of numbers to the first sums, and times that of the second to the second. The row is read once for both.
+    pub fn add_row_by(
         &self,
         row: u32,
-        number: i128,
-        other: i128,
+        numbers: &Nums,
+        others: &Nums,
         sums: &mut [i128],
         other_sums: &mut [i128],
     )
         requires row { row < row_count self.now }
-        requires number { IsWithin (2 ^ 62 - 1) number }
-        requires other { IsWithin (2 ^ 62 - 1) other }
+        requires one_each { length numbers.now ≡ row_count self.now }
+        requires other_one_each { length others.now ≡ row_count self.now }
+        requires sizes { AllWithin (2 ^ 62 - 1) numbers.now }
+        requires other_sizes { AllWithin (2 ^ 62 - 1) others.now }
         requires room { AllWithin (2 ^ 124) sums.old }
         requires other_room { AllWithin (2 ^ 124) other_sums.old }
         requires same { length other_sums.old ≡ length sums.old }
-        ensures value { AddsRow (row_at self.now row).terms 0 number sums.old sums.new }
-        ensures other { AddsRow (row_at self.now row).terms 0 other other_sums.old other_sums.new }
+        ensures value { AddsRow (row_at self.now row).terms 0 (number_at numbers.now row) sums.old sums.new }
+        ensures other { AddsRow (row_at self.now row).terms 0 (number_at others.now row) other_sums.old other_sums.new }
     {
-        add_row_to_both(self.terms(row), 0, number, other, sums, other_sums);
+        add_row_to_both(
+            self.terms(row),
+            0,
+            numbers.as_slice(),
+            others.as_slice(),
+            row as usize,
+            sums,
+            other_sums,
+        );
     }
 }

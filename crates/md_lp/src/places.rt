@@ -28,7 +28,7 @@ pub fn place_of(terms: &[StoredTerm], column: u32) -> Result<usize, usize>
     ensures found { IfOk result (λ at. (at < length terms.now) × (column_in (shown_terms terms.now) at ≡ column)) }
     ensures absent { IfErr result (IsGapFor (shown_terms terms.now) column) }
 {
-    terms.binary_search_by_key(&column, |term| term.column)
+    terms.binary_search_by_key(&column, |term| term.column())
 }
 
 // The terms from a column on.
@@ -51,7 +51,7 @@ pub fn value_at(terms: &[StoredTerm], column: u32) -> i128
     ensures { result ≡ value_of (shown_terms terms.now) column }
 {
     match place_of(terms, column) {
-        Ok(at) => i128::from(terms[at].value),
+        Ok(at) => i128::from(terms[at].value()),
         Err(_) => 0,
     }
 }

@@ -1,24 +1,44 @@
-ghost use Rattle.std.specs.Prelude.{◌≡◌, ◌^◌};
+ghost use Rattle.std.specs.Prelude.{◌≡◌, ◌^◌, ◌<◌};
 ghost use Rattle.md_math.specs.Sizes.{IsWithin};
-ghost use Rattle.md_lp.specs.Stored.{shown_term};
+ghost use Rattle.md_lp.specs.Stored.{kept_column, kept_value, shown_term};
 
 use crate::term::Term;
 
-// A term as it is kept, in 16 bytes: its value has 64 bits.
+// A term as it is kept, in 8 bytes: the lowest 16 bits are its column, and the 48 above them its value.
 #[derive(Clone, Copy, Debug, PartialEq, Eq)]
 pub struct StoredTerm {
-    pub column: u32,
-    pub value: i64,
+    packed: u64,
+}
+
+impl StoredTerm {
+    // The column of the term.
+    #[inline]
+    #[tactic(auto, unfolding(crate::specs::Stored::kept_column))]
+    pub fn column(&self) -> u32
+        ensures { result ≡ kept_column self.now }
+    {
+        (self.packed % 65536) as u32
+    }
+
+    // The value of the term.
+    #[inline]
+    #[tactic(auto, unfolding(crate::specs::Stored::kept_value))]
+    pub fn value(&self) -> i64
+        ensures { result ≡ kept_value self.now }
+    {
+        self.packed.cast_signed() >> 16
+    }
 }
 
 // A term in the form in which it is kept.
 pub fn stored_term(column: u32, value: i128) -> StoredTerm
-    requires { IsWithin (2 ^ 44) value }
+    requires column { column < 65536 }
+    requires value { IsWithin (2 ^ 44) value }
     ensures { shown_term result ≡ record { column = column; value = value } }
 {
+    let packed = value as i64 * 65536 + i64::from(column);
     StoredTerm {
-        column,
-        value: value as i64,
+        packed: packed.cast_unsigned(),
     }
 }
 
@@ -27,7 +47,7 @@ pub fn term_of(stored: StoredTerm) -> Term
     ensures { result ≡ shown_term stored }
 {
     Term {
-        column: stored.column,
-        value: i128::from(stored.value),
+        column: stored.column(),
+        value: i128::from(stored.value()),
     }
 }

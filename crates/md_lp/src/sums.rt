@@ -20,7 +20,7 @@ pub fn sum_of_terms(terms: &[StoredTerm], numbers: &Nums) -> i128
 {
     let mut sum = 0;
     for term in terms {
-        sum = add_step(sum, term.value, numbers.get(term.column as usize));
+        sum = add_step(sum, term.value(), numbers.get(term.column() as usize));
     }
     sum
 }
@@ -40,35 +40,38 @@ pub fn sum_of_products(left: &Nums, right: &Nums) -> i128
     sum
 }
 
-// Adds, to each sum, the coefficient of its column times the weight. The sums are those of columns from `first` on.
-pub fn add_row(terms: &[StoredTerm], first: u32, weight: i128, sums: &mut [i128])
+// Adds, to each sum, the coefficient of its column times the weight of the row. The sums are those of columns from `first` on.
+pub fn add_row(terms: &[StoredTerm], first: u32, weights: &[i128], row: usize, sums: &mut [i128])
     requires ascending { IsAscending (shown_terms terms.now) }
     requires values { All (λ term. IsWithin (2 ^ 44) term.value) (shown_terms terms.now) }
-    requires weight { IsWithin (2 ^ 62 - 1) weight }
+    requires row { row < length weights.now }
+    requires weight { IsWithin (2 ^ 62 - 1) (number_at weights.now row) }
     requires room { AllWithin (2 ^ 124) sums.old }
-    ensures { AddsRow (shown_terms terms.now) first weight sums.old sums.new }
+    ensures { AddsRow (shown_terms terms.now) first (number_at weights.now row) sums.old sums.new }
 {
-    if weight == 0 {
+    if weights[row] == 0 {
         return;
     }
-    add_terms(from_column(terms, first), first, weight, sums)
+    add_terms(from_column(terms, first), first, weights, row, sums)
 }
 
-// The same, where no term stands before the column `first`.
-fn add_terms(terms: &[StoredTerm], first: u32, weight: i128, sums: &mut [i128])
+// The same, where no term stands before the column `first`. The weight is read from its list for each term: so the machine sees its 64 bits beside those of the value, and needs one multiplication.
+#[inline(never)]
+fn add_terms(terms: &[StoredTerm], first: u32, weights: &[i128], row: usize, sums: &mut [i128])
     requires ascending { IsAscending (shown_terms terms.now) }
     requires from { (k : ℕ) → k < length terms.now → first ≤ column_in (shown_terms terms.now) k }
     requires values { All (λ term. IsWithin (2 ^ 44) term.value) (shown_terms terms.now) }
-    requires weight { IsWithin (2 ^ 62 - 1) weight }
+    requires row { row < length weights.now }
+    requires weight { IsWithin (2 ^ 62 - 1) (number_at weights.now row) }
     requires room { AllWithin (2 ^ 124) sums.old }
-    ensures { AddsRow (shown_terms terms.now) first weight sums.old sums.new }
+    ensures { AddsRow (shown_terms terms.now) first (number_at weights.now row) sums.old sums.new }
 {
     for term in terms {
-        let place = (term.column - first) as usize;
+        let place = (term.column() - first) as usize;
         if place >= sums.len() {
             break;
         }
-        sums[place] = add_step(sums[place], term.value, weight);
+        sums[place] = add_step(sums[place], term.value(), weights[row]);
     }
 }
 
@@ -81,66 +84,75 @@ pub fn clear(sums: &mut [i128])
     }
 }
 
-// Adds a row to two lists of sums of the same columns, each with its weight, in one reading of the terms.
+// Adds a row to two lists of sums of the same columns, each with the row's weight of its own list, in one reading of the terms.
 pub fn add_row_to_both(
     terms: &[StoredTerm],
     first: u32,
-    weight: i128,
-    other: i128,
+    weights: &[i128],
+    other_weights: &[i128],
+    row: usize,
     sums: &mut [i128],
     others: &mut [i128],
 )
     requires ascending { IsAscending (shown_terms terms.now) }
     requires values { All (λ term. IsWithin (2 ^ 44) term.value) (shown_terms terms.now) }
-    requires weight { IsWithin (2 ^ 62 - 1) weight }
-    requires other { IsWithin (2 ^ 62 - 1) other }
+    requires row { row < length weights.now }
+    requires other_row { row < length other_weights.now }
+    requires weight { IsWithin (2 ^ 62 - 1) (number_at weights.now row) }
+    requires other { IsWithin (2 ^ 62 - 1) (number_at other_weights.now row) }
     requires room { AllWithin (2 ^ 124) sums.old }
     requires other_room { AllWithin (2 ^ 124) others.old }
     requires same { length others.old ≡ length sums.old }
-    ensures sums { AddsRow (shown_terms terms.now) first weight sums.old sums.new }
-    ensures others { AddsRow (shown_terms terms.now) first other others.old others.new }
+    ensures sums { AddsRow (shown_terms terms.now) first (number_at weights.now row) sums.old sums.new }
+    ensures others { AddsRow (shown_terms terms.now) first (number_at other_weights.now row) others.old others.new }
 {
-    if weight == 0 {
-        add_row(terms, first, other, others);
+    if weights[row] == 0 {
+        add_row(terms, first, other_weights, row, others);
         return;
     }
     add_terms_to_both(
         from_column(terms, first),
         first,
-        weight,
-        other,
+        weights,
+        other_weights,
+        row,
         sums,
         others,
     )
 }
 
-// The same, where no term stands before the column `first`.
+// The same, where no term stands before the column `first`. The two weights are read from their lists for each term, as above.
+#[inline(never)]
 fn add_terms_to_both(
     terms: &[StoredTerm],
     first: u32,
-    weight: i128,
-    other: i128,
+    weights: &[i128],
+    other_weights: &[i128],
+    row: usize,
     sums: &mut [i128],
     others: &mut [i128],
 )
     requires ascending { IsAscending (shown_terms terms.now) }
     requires from { (k : ℕ) → k < length terms.now → first ≤ column_in (shown_terms terms.now) k }
     requires values { All (λ term. IsWithin (2 ^ 44) term.value) (shown_terms terms.now) }
-    requires weight { IsWithin (2 ^ 62 - 1) weight }
-    requires other { IsWithin (2 ^ 62 - 1) other }
+    requires row { row < length weights.now }
+    requires other_row { row < length other_weights.now }
+    requires weight { IsWithin (2 ^ 62 - 1) (number_at weights.now row) }
+    requires other { IsWithin (2 ^ 62 - 1) (number_at other_weights.now row) }
     requires room { AllWithin (2 ^ 124) sums.old }
     requires other_room { AllWithin (2 ^ 124) others.old }
     requires same { length others.old ≡ length sums.old }
-    ensures sums { AddsRow (shown_terms terms.now) first weight sums.old sums.new }
-    ensures others { AddsRow (shown_terms terms.now) first other others.old others.new }
+    ensures sums { AddsRow (shown_terms terms.now) first (number_at weights.now row) sums.old sums.new }
+    ensures others { AddsRow (shown_terms terms.now) first (number_at other_weights.now row) others.old others.new }
 {
     for term in terms {
-        let at = (term.column - first) as usize;
+        let at = (term.column() - first) as usize;
         if at >= sums.len() {
             break;
         }
-        sums[at] = add_step(sums[at], term.value, weight);
-        others[at] = add_step(others[at], term.value, other);
+        let value = term.value();
+        sums[at] = add_step(sums[at], value, weights[row]);
+        others[at] = add_step(others[at], value, other_weights[row]);
     }
 }
 

@@ -1,4 +1,4 @@
-ghost use Rattle.std.specs.Prelude.{◌≡◌, IfOk};
+ghost use Rattle.std.specs.Prelude.{◌≡◌, length, IfOk};
 
 use super::*;
 use md_num::{NoMemory, Nums};
@@ -11,6 +11,18 @@ fn nums(alloc: Global, numbers: &[i128]) -> Result<Nums, NoMemory>
     let mut list = Nums::new(alloc);
     for number in numbers {
         list.push(*number)?;
+    }
+    Ok(list)
+}
+
+// So many zeros.
+fn zeros(alloc: Global, count: u32) -> Result<Nums, NoMemory>
+    ensures { IfOk result (λ list. length list ≡ count) }
+{
+    let mut list = Nums::new(alloc);
+    for place in 0..count {
+        let _ = place;
+        list.push(0)?;
     }
     Ok(list)
 }
@@ -67,6 +79,30 @@ fn refuses_what_exceeds_the_greatest_size(rt: HostRuntime) -> Result<(), Fail> {
         Ok(())
     );
     assert_eq!(rt; lp.rows(), 1);
+    Ok(())
+}
+
+#[test]
+fn keeps_the_greatest_sizes_at_the_first_and_the_last_column(rt: HostRuntime) -> Result<(), Fail> {
+    let mut lp = Lp::new(rt.alloc(), 65_536, zeros(rt.alloc(), 65_536)?)?;
+    let greatest = 17_592_186_044_416;
+    lp.push_row(
+        RowKind::AtMost,
+        &[term(0, greatest), term(65_535, -greatest)],
+        1,
+    )?;
+    lp.push_row(
+        RowKind::AtMost,
+        &[term(0, -greatest), term(65_535, greatest)],
+        1,
+    )?;
+    assert_eq!(rt; lp.rows(), 2);
+    assert_eq!(rt; lp.columns(), 65_536);
+    assert_eq!(rt; lp.coefficient(0, 0), greatest);
+    assert_eq!(rt; lp.coefficient(0, 65_535), -greatest);
+    assert_eq!(rt; lp.coefficient(1, 0), -greatest);
+    assert_eq!(rt; lp.coefficient(1, 65_535), greatest);
+    assert_eq!(rt; lp.coefficient(0, 1), 0);
     Ok(())
 }
 

@@ -16,7 +16,7 @@ divided_terms-requires-clause-exact c =
 pub divided_terms-requires-clause-sizes : goal.divided_terms-requires-clause-sizes
 divided_terms-requires-clause-sizes c =
     let raw : Row = record { kind = c.args.kind; terms = c.args.terms.now; right = c.args.right } in
-    value_sizes (2 ^ 44) raw c.requires
+    value_sizes (2 ^ 44) raw c.requires.sizes
 
 pub exact_quotient-requires-clause-exact : goal.exact_quotient-requires-clause-exact
 exact_quotient-requires-clause-exact c =

@@ -29,8 +29,8 @@ loop-term-preserved c =
     rw (c.in_ok-push.ensures.items, by, shown-push c.loop-term.divided.items c.stored_term.result, shown)
     (IsDividedTerms-more c.args.by c.args.terms.now (shown_terms c.loop-term.divided.items) i pushed c.loop-term-test.true before refl (sym quotient))
 
-pub stored_term-requires : goal.stored_term-requires
-stored_term-requires c =
+pub stored_term-requires-clause-value : goal.stored_term-requires-clause-value
+stored_term-requires-clause-value c =
     let i = c.loop-term.term-index in
     let item = get_or c.args.terms.now i no_term in
     let small : IsWithin (2 ^ 44) item.value = c.requires.sizes i no_term c.loop-term-test.true in

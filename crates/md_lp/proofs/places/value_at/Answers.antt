@@ -3,8 +3,8 @@ use Rattle.std.proofs.lemmas.Bool.{cases_lt}
 use Rattle.md_lp.specs.Shape.{column_in}
 use Rattle.md_lp.specs.Stored.{shown_terms}
 use Rattle.md_lp.proofs.SparseRows.{value_of-present, value_of-absent}
-use Rattle.md_lp.proofs.Bits.{result_back}
-use Rattle.md_lp.proofs.StoredTerms.{length-shown, value-shown, value_back}
+use Rattle.md_lp.proofs.Bits.{result_back, short_result_back}
+use Rattle.md_lp.proofs.StoredTerms.{length-shown, value-shown}
 use Rattle.md_lp.proofs.places.value_at.Goals as goal
 
 pub returns-in-Ok : goal.returns-in-Ok
@@ -15,7 +15,8 @@ returns-in-Ok c =
     let inside : at < length terms = omega (arith, length-shown c.args.terms.now, found.0) in
     result_back c.from.result c.from.type_inv
     ∙ c.from.ensures
-    ∙ value_back c.args.terms.now at c.requires.values found.0
+    ∙ short_result_back c.value.result c.value.type_inv
+    ∙ c.value.ensures
     ∙ sym (value-shown c.args.terms.now at)
     ∙ sym (rw found.1 at (value_of-present terms at c.requires.ascending inside))
 

@@ -1,6 +1,7 @@
+use Rattle.md_math.specs.Lists.{number_at}
 use Rattle.md_lp.specs.Stored.{shown_terms}
 use Rattle.md_lp.proofs.RowRuns.{AddsSoFar}
 use Rattle.md_lp.proofs.sums.add_terms.Given as goal
 
 abbrev pub invariant-loop-term : goal.invariant-loop-term
-invariant-loop-term l = AddsSoFar (shown_terms l.terms) l.term-index l.first l.weight l.fn.sums l.sums
+invariant-loop-term l = AddsSoFar (shown_terms l.terms) l.term-index l.first (number_at l.weights l.row) l.fn.sums l.sums

@@ -1,4 +1,4 @@
-use Rattle.std.proofs.Common.{◌≡◌, ◌^◌, ◌<◌, map, to_z, of_z, arith}
+use Rattle.std.proofs.Common.{◌≡◌, ◌^◌, ◌<◌, ◌≤◌, get_or, map, to_z, of_z, arith}
 use mir.Syntax.{w128}
 use Rattle.std.proofs.lemmas.Int.{to_z-of_z}
 use Rattle.std.proofs.lemmas.List.{map-append, length-map}
@@ -6,6 +6,7 @@ use Rattle.md_math.specs.Sizes.{AllWithin}
 use Rattle.md_lp.specs.Program.{Program, Row, row_count}
 use Rattle.md_lp.specs.Shape.{HasPlaces, numbers_of}
 use Rattle.md_lp.specs.Stored.{shown}
+use Rattle.md_lp.proofs.SparseRows.{All-below}
 use Rattle.md_lp.proofs.Building.{IsShaped-push, AppendsDivided-push}
 use Rattle.md_lp.proofs.lp.Lp.push_row.Goals as goal
 
@@ -45,3 +46,9 @@ pub returns-clause-taken : goal.returns-clause-taken
 returns-clause-taken c =
     let few : row_count c.args.self.now < 8192 = rw (← c.self.view_is) (omega (arith, length-map c.self.inside.rows.items shown)) in
     (record { places = places_here c; sizes = sizes_here c }, few)
+
+pub divided_row-requires-clause-columns : goal.divided_row-requires-clause-columns
+divided_row-requires-clause-columns c =
+    let places : HasPlaces c.self.inside.columns c.args.terms.now = c.has_places.ensures.0 c.if-not-has_places.false in
+    let few : c.self.inside.columns ≤ 65536 = c.self.invariant.columns in
+    λ k none b. (let below : (get_or c.args.terms.now k none).column < c.self.inside.columns = All-below c.self.inside.columns c.args.terms.now places k none b in omega arith)
