@@ -1,17 +1,20 @@
 -- The new numbers of a dictionary: how they are made, and what they are where they are all written.
-use Rattle.std.proofs.Common.{◌≡◌, ◌≢◌, ℕ, ◌+◌, ◌-◌, ◌*◌, ◌^◌, ◌<◌, ◌≤◌, ◌==◌, ◌&&◌, nat_le, Bool, true, false, if◌then◌else◌, List, length, set, ℤ, pos, ◌-ℤ◌, ◌*ℤ◌, ◌<ℤ◌, neg_ℤ, int_div, unsigned_abs, refl, sym, ap, ap₂, ◌∙◌, subst, inl, inr, arith, eq-eqb, ne_eqb, mul-le-mul, mul-le-mul_right}
+use Rattle.std.proofs.Common.{◌≡◌, ◌≢◌, ℕ, ◌+◌, ◌-◌, ◌*◌, ◌^◌, ◌<◌, ◌≤◌, ◌==◌, ◌&&◌, nat_le, Bool, true, false, if◌then◌else◌, List, length, set, ℤ, pos, ◌-ℤ◌, ◌*ℤ◌, ◌<ℤ◌, ◌⊎◌, neg_ℤ, int_div, unsigned_abs, refl, sym, ap, ap₂, ◌∙◌, subst, inl, inr, arith, eq-eqb, ne_eqb, mul-le-mul, mul-le-mul_right}
 use Rattle.std.proofs.lemmas.Bool.{cases_lt, cases_eq}
 use Rattle.std.proofs.lemmas.Int.{ints, unsigned_abs-mul}
 use Rattle.std.proofs.Math.Nat as NatL
 use Rattle.md_math.specs.Sizes.{IsWithin}
 use Rattle.md_math.specs.Divisors.{Divides, IsGcdOfTwo}
 use Rattle.md_math.proofs.Division.{Divides-int_div, Divides_trans, Divides-*ℤ_right, Divides_refl}
+use Rattle.md_math.proofs.Order.{positive-*ℤ}
 use Rattle.md_math.proofs.SizeLaws.{AllWithin-number_at}
 use Rattle.md_dict.specs.Dictionary.{basic_value}
 use Rattle.md_dict.specs.declared.step.Step.{Step}
 use Rattle.md_dict.specs.Wide.{IsNarrow}
-use Rattle.md_dict.specs.Step.{raw_number, seat_after, new_entry, old_number, number_in, multiplier_of, factor_of, DividesRows, IsApart, AreRowsNarrow, IsRowDivisor, IsStepDivisor, IsTable, IsWritten}
-use Rattle.md_dict.specs.Fill.{AreFilled, AreRowsFilled, IsAbove, IsCandidate, IsIndivisible, IsWideFor, Leaves}
+use Rattle.md_dict.specs.Step.{raw_number, seat_after, new_entry, old_number, number_in, multiplier_of, factor_of, DividesRows, IsApart, AreRowsNarrow, IsStepDivisor, IsTable}
+use Rattle.md_dict.specs.Fill.{AreFilled, AreRowsFilled, AreRowsWritten, IsAbove, IsCandidate, IsIndivisible, IsWideFor, Leaves, Stays}
+use Rattle.md_dict.proofs.Reading.{product_small}
+use Rattle.md_dict.proofs.RawPivot.{basic_other}
 use Rattle.md_dict.proofs.StepDivisor.{raw_apart, positive_divisor}
 use Rattle.md_dict.proofs.Change.{raw_at-basic, raw_at-kept, raw_at-right, Divides-basic_value, quotient_is}
 use Rattle.md_dict.proofs.Writing.{written_here, written_beside, written_elsewhere}
@@ -98,30 +101,52 @@ Leaves-trans step i old mid new h k = record { others = λ r s o b. k.others r s
 pub apart_kept : (step : Step) (kept : List ℤ) (i s : ℕ) → IsApart step kept i → s ≢ step.place → step.pivot *ℤ number_in step kept i s ≡ raw_number step kept i s
 apart_kept step kept i s q o = sym (raw_apart step kept i s q ∙ ap (λ z. step.pivot *ℤ z) (old_number-beside step kept i s o))
 
--- the number at the place of the pivot makes the row whole, and one more row is filled
-pub AreRowsFilled-more : (step : Step) (d : ℤ) (kept old mid : List ℤ) (i : ℕ) (x : ℤ) → step.place < step.columns → i * (step.columns + 1) + step.place < length mid → AreFilled step d kept mid i (step.columns + 1) → Leaves step i old mid → d *ℤ x ≡ raw_number step kept i step.place → AreRowsFilled step d kept old i → AreRowsFilled step d kept (set mid (i * (step.columns + 1) + step.place) x) (i + 1)
-AreRowsFilled-more step d kept old mid i x p inside f l e h = record {
+-- a row that stays has its new numbers
+pub stays_number : (step : Step) (d : ℤ) (kept : List ℤ) (i s : ℕ) → Stays step d kept i → d *ℤ number_in step kept i s ≡ raw_number step kept i s
+stays_number step d kept i s h =
+    subst (λ z. z *ℤ number_in step kept i s ≡ raw_number step kept i s) h.divided
+    (elim (cases_eq s step.place) [
+      | inr o ↦ apart_kept step kept i s h.apart o
+      | inl same ↦
+          subst (λ t. step.pivot *ℤ number_in step kept i t ≡ raw_number step kept i t) (sym same)
+          (ap (λ z. step.pivot *ℤ z) (h.apart.zero ∙ sym (old_number-here step kept i ∙ basic_other step.rows step.columns step.row step.leaving i step.den h.apart.other (inl h.not_face)))
+          ∙ sym (raw_apart step kept i step.place h.apart))
+    ])
+
+-- the number at the place of the pivot makes the row whole, and one more row is written
+pub AreRowsWritten-more : (step : Step) (d : ℤ) (kept old mid : List ℤ) (i : ℕ) (x : ℤ) → step.place < step.columns → i * (step.columns + 1) + step.place < length mid → AreFilled step d kept mid i (step.columns + 1) → Leaves step i old mid → d *ℤ x ≡ raw_number step kept i step.place → AreRowsWritten step d kept old i → AreRowsWritten step d kept (set mid (i * (step.columns + 1) + step.place) x) (i + 1)
+AreRowsWritten-more step d kept old mid i x p inside f l e h = record {
   at = λ k s b c.
       elim (cases_eq k i) [
-        | inr o ↦ ap (λ z. d *ℤ z) (written_elsewhere step mid i step.place k s x o (omega arith) c ∙ l.others k s o c) ∙ h.at k s (omega arith) c
+        | inr o ↦
+            subst (λ z. Stays step d kept k ⊎ (d *ℤ z ≡ raw_number step kept k s))
+            (sym (written_elsewhere step mid i step.place k s x o (omega arith) c ∙ l.others k s o c))
+            (h.at k s (omega arith) c)
         | inl same ↦
-            subst (λ r. d *ℤ number_in step (set mid (i * (step.columns + 1) + step.place) x) r s ≡ raw_number step kept r s) (sym same)
+            inr (subst (λ r. d *ℤ number_in step (set mid (i * (step.columns + 1) + step.place) x) r s ≡ raw_number step kept r s) (sym same)
             (elim (cases_eq s step.place) [
               | inl here ↦
                   subst (λ t. d *ℤ number_in step (set mid (i * (step.columns + 1) + step.place) x) i t ≡ raw_number step kept i t) (sym here)
                   (ap (λ z. d *ℤ z) (written_here step mid i step.place x inside) ∙ e)
               | inr o ↦ ap (λ z. d *ℤ z) (written_beside step mid i step.place s x o) ∙ f.at s c o
-            ])
+            ]))
+      ];
+}
+
+-- or the row stays
+pub AreRowsWritten-stays : (step : Step) (d : ℤ) (kept new : List ℤ) (i : ℕ) → Stays step d kept i → AreRowsWritten step d kept new i → AreRowsWritten step d kept new (i + 1)
+AreRowsWritten-stays step d kept new i q h = record {
+  at = λ k s b c.
+      elim (cases_eq k i) [
+        | inl same ↦ inl (subst (Stays step d kept) (sym same) q)
+        | inr o ↦ h.at k s (omega arith) c
       ];
 }
 
 -- ---- all rows
 
-pub AreRowsFilled-none : (step : Step) (d : ℤ) (kept new : List ℤ) → AreRowsFilled step d kept new 0
-AreRowsFilled-none step d kept new = record { at = λ i s b _. absurd (omega arith) }
-
-pub IsWritten-filled : (step : Step) (d : ℤ) (kept new : List ℤ) → IsTable step kept → IsTable step new → AreRowsFilled step d kept new (step.rows + 2) → IsWritten step d kept new
-IsWritten-filled step d kept new t u h = record { length_is = u.kept_length ∙ sym t.kept_length; numbers = h.at }
+pub AreRowsWritten-none : (step : Step) (d : ℤ) (kept new : List ℤ) → AreRowsWritten step d kept new 0
+AreRowsWritten-none step d kept new = record { at = λ i s b _. absurd (omega arith) }
 
 -- all new numbers are within the limit
 pub AreRowsNarrow-filled : (step : Step) (d : ℤ) (kept new : List ℤ) → pos 0 <ℤ d → IsTable step new → AreRowsFilled step d kept new (step.rows + 2) → DividesRows step kept (step.rows + 2) d → AreRowsNarrow step kept d (step.rows + 2)
@@ -137,31 +162,41 @@ AreRowsNarrow-filled step d kept new p t h q = record {
 pub divides_from : (d q x : ℤ) → d *ℤ q ≡ x → Divides d x
 divides_from d q x e = subst (Divides d) e (Divides-*ℤ_right d d q (Divides_refl d))
 
-pub IsStepDivisor-filled : (step : Step) (d : ℤ) (kept new : List ℤ) → IsCandidate step kept d → AreRowsFilled step d kept new (step.rows + 2) → IsStepDivisor step kept (step.rows + 2) d
-IsStepDivisor-filled step d kept new c h = record {
+pub IsStepDivisor-written : (step : Step) (d : ℤ) (kept new : List ℤ) → IsCandidate step kept d → AreRowsWritten step d kept new (step.rows + 2) → IsStepDivisor step kept (step.rows + 2) d
+IsStepDivisor-written step d kept new c h = record {
   positive = c.positive;
   of_den = c.of_den;
-  of_rows = record { at = λ i s a b. divides_from d (number_in step new i s) (raw_number step kept i s) (h.at i s a b) };
+  of_rows = record {
+    at = λ i s a b.
+        elim (h.at i s a b) [
+          | inl q ↦ divides_from d (number_in step kept i s) (raw_number step kept i s) (stays_number step d kept i s q)
+          | inr e ↦ divides_from d (number_in step new i s) (raw_number step kept i s) e
+        ];
+  };
   greatest = c.greatest;
 }
 
--- it begins with what divides the pivot row
-pub IsCandidate-first : (step : Step) (kept : List ℤ) (d : ℤ) → step.row < step.rows → IsRowDivisor step kept step.row (step.columns + 1) (step.den *ℤ step.pivot) d → unsigned_abs d < 2 ^ 126 → IsCandidate step kept d
-IsCandidate-first step kept d a h l = record {
-  positive = h.positive;
-  size = l;
-  of_den = h.of_before;
-  greatest = λ x p q. h.greatest x p (record { at = λ s b. q.at step.row s (omega arith) b });
-}
+-- it begins with the denominator times the pivot
+pub IsCandidate-whole : (step : Step) (kept : List ℤ) (d : ℤ) → IsTable step kept → d ≡ step.den *ℤ step.pivot → IsCandidate step kept d
+IsCandidate-whole step kept d t e =
+    subst (IsCandidate step kept) (sym e) (record {
+      positive = positive-*ℤ step.den step.pivot t.den_positive t.pivot_positive;
+      size = product_small step.den step.pivot t.den_size t.pivot_size;
+      of_den = Divides_refl (step.den *ℤ step.pivot);
+      greatest = λ x a _. a;
+    })
 
 -- the next one divides one more raw number
-pub IsCandidate-next : (step : Step) (kept : List ℤ) (d x g : ℤ) → IsCandidate step kept d → IsIndivisible step kept d x → IsGcdOfTwo d x g → unsigned_abs g < 2 ^ 126 → IsCandidate step kept g
-IsCandidate-next step kept d x g c h q l = record {
+pub IsCandidate-common : (step : Step) (kept : List ℤ) (d g : ℤ) (i s : ℕ) → IsCandidate step kept d → i < step.rows + 2 → s < step.columns + 1 → IsGcdOfTwo d (raw_number step kept i s) g → unsigned_abs g < 2 ^ 126 → IsCandidate step kept g
+IsCandidate-common step kept d g i s c a b q l = record {
   positive = positive_divisor d g c.positive q.left q.nonneg;
   size = l;
   of_den = Divides_trans g d (step.den *ℤ step.pivot) q.left c.of_den;
-  greatest = λ y a b. q.greatest y (c.greatest y a b) (subst (Divides y) (sym h.is) (b.at h.row h.place h.row_in h.place_in));
+  greatest = λ y p r. q.greatest y (c.greatest y p r) (r.at i s a b);
 }
+
+pub IsCandidate-next : (step : Step) (kept : List ℤ) (d x g : ℤ) → IsCandidate step kept d → IsIndivisible step kept d x → IsGcdOfTwo d x g → unsigned_abs g < 2 ^ 126 → IsCandidate step kept g
+IsCandidate-next step kept d x g c h q l = IsCandidate-common step kept d g h.row h.place c h.row_in h.place_in (subst (λ z. IsGcdOfTwo d z g) h.is q) l
 
 -- and is smaller
 pub smaller_candidate : (step : Step) (kept : List ℤ) (d x g : ℤ) → pos 0 <ℤ d → IsIndivisible step kept d x → IsGcdOfTwo d x g → unsigned_abs g < unsigned_abs d

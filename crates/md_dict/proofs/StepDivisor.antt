@@ -1,10 +1,10 @@
 -- The greatest common divisor of the raw numbers, one number and one row at a time.
-use Rattle.std.proofs.Common.{◌≡◌, ℕ, ◌+◌, ◌<◌, List, ℤ, pos, ◌*ℤ◌, ◌≤ℤ◌, ◌<ℤ◌, int_div, unsigned_abs, ◌*◌, ◌≤◌, mul-le-mul_right, ap, ◌∙◌, refl, sym, ne_eqb, subst, inl, inr, arith}
+use Rattle.std.proofs.Common.{◌≡◌, ℕ, ◌+◌, ◌<◌, List, ℤ, pos, ◌*ℤ◌, ◌≤ℤ◌, ◌<ℤ◌, unsigned_abs, refl, ne_eqb, subst, inl, inr, arith}
 use Rattle.std.proofs.lemmas.Bool.{cases_lt}
 use Rattle.md_math.specs.Divisors.{Divides, IsGcdOfTwo}
-use Rattle.md_math.proofs.Division.{Divides_trans, Divides_refl, Divides-int_div}
+use Rattle.md_math.proofs.Division.{Divides_trans, Divides_refl}
 use Rattle.md_math.proofs.Order.{positive-*ℤ}
-use Rattle.std.proofs.lemmas.Int.{ints, unsigned_abs-mul}
+use Rattle.std.proofs.lemmas.Int.{ints}
 use Rattle.std.proofs.Math.Nat as NatL
 use Rattle.md_dict.specs.declared.step.Step.{Step}
 use Rattle.md_dict.specs.Step.{raw_number, old_number, multiplier_of, factor_of, IsApart, IsRowDivisor, IsStepDivisor}
@@ -59,14 +59,6 @@ IsStepDivisor-more step kept n d g h q = record {
   };
   greatest = λ x a b. q.greatest x (h.greatest x a (record { at = λ i s c e. b.at i s (omega arith) e })) (record { at = λ s c. b.at n s (omega arith) c });
 }
-
--- an exact quotient is no greater than the number
-pub quotient_size : (d x : ℤ) → pos 0 <ℤ d → Divides d x → unsigned_abs (int_div x d) ≤ unsigned_abs x
-quotient_size d x p h =
-    let product : unsigned_abs d * unsigned_abs (int_div x d) ≡ unsigned_abs x = sym (unsigned_abs-mul d (int_div x d)) ∙ ap unsigned_abs (Divides-int_div d x h) in
-    let above : 1 ≤ unsigned_abs d = omega (arith, ints) in
-    let more : 1 * unsigned_abs (int_div x d) ≤ unsigned_abs d * unsigned_abs (int_div x d) = mul-le-mul_right (unsigned_abs (int_div x d)) above in
-    omega (arith, product, more)
 
 -- divisibility is one of sizes
 pub Divides-sizes : (d x : ℤ) → Divides (pos (unsigned_abs d)) (pos (unsigned_abs x)) → Divides d x

@@ -13,7 +13,7 @@ use Rattle.md_dict.specs.Dictionary.{basic_value}
 use Rattle.md_dict.specs.Pivot.{with_column}
 use Rattle.md_dict.specs.Wide.{IsNarrow}
 use Rattle.md_dict.specs.Step.{new_entry, IsStepDivisor, IsTable}
-use Rattle.md_dict.specs.Fill.{IsWideFor, IsFilledBy}
+use Rattle.md_dict.specs.Fill.{AreRowsFilled, IsWideFor, IsFilledBy}
 use Rattle.md_dict.specs.Exchange.{step_of, exchanged, IsExchange, AreWritten}
 use Rattle.md_dict.proofs.Reading.{read_short, read_small, read_wide}
 use Rattle.md_dict.proofs.Writing.{place_inside}
@@ -107,6 +107,11 @@ IsTable-fresh d s fresh e h f =
       pivot_positive = t.pivot_positive;
     })
 
+pub IsFresh-table : (d : Condensed) (s : Step) (fresh : List ℤ) → s ≡ step_of d s.row s.entering (pos 1) → IsTable s fresh → IsFresh d.rows d.columns d.bits fresh
+IsFresh-table d s fresh e t =
+    let u : IsTable (step_of d s.row s.entering (pos 1)) fresh = subst (λ r. IsTable r fresh) e t in
+    record { length_is = u.kept_length; size = u.kept_limit }
+
 -- the divisor is no part of a table
 IsTable-with : (d : Condensed) (row column : ℕ) (g h : ℤ) (kept : List ℤ) → IsTable (step_of d row column g) kept → IsTable (step_of d row column h) kept
 IsTable-with d row column g h kept t = record {
@@ -125,17 +130,20 @@ IsTable-with d row column g h kept t = record {
 }
 
 -- what is written is the table after the pivot
-pub AreWritten-filled : (d : Condensed) (s : Step) (g : ℤ) (new : List ℤ) → s ≡ step_of d s.row s.entering (pos 1) → IsExchange d s.row s.entering → IsFilledBy s d.kept new g → IsTable s new → AreWritten d s.row s.entering g new
-AreWritten-filled d s g new e h f t = record {
+pub AreWritten-settled : (d : Condensed) (s : Step) (g : ℤ) (fresh new : List ℤ) → s ≡ step_of d s.row s.entering (pos 1) → IsExchange d s.row s.entering → IsFilledBy s d.kept fresh g → AreRowsFilled s g d.kept new (s.rows + 2) → IsTable s new → AreWritten d s.row s.entering g new
+AreWritten-settled d s g fresh new e h f r t = record {
   exchange = h;
   divisor = divisor;
-  narrow = IsNarrow-from (step_of d s.row s.entering g) d.kept d.seat h.place_in divisor filled.den (record { at = (AreRowsNarrow-filled (step_of d s.row s.entering (pos 1)) g d.kept new filled.divisor.positive table filled.rows filled.divisor.of_rows).at });
-  written = record { length_is = table.kept_length ∙ sym h.shape.kept_length; numbers = filled.rows.at };
+  narrow = IsNarrow-from (step_of d s.row s.entering g) d.kept d.seat h.place_in divisor filled.den (record { at = (AreRowsNarrow-filled (step_of d s.row s.entering (pos 1)) g d.kept new filled.divisor.positive table rows filled.divisor.of_rows).at });
+  written = record { length_is = table.kept_length ∙ sym h.shape.kept_length; numbers = rows.at };
   table = IsTable-with d s.row s.entering (pos 1) g new table;
 }
   where
-    filled : IsFilledBy (step_of d s.row s.entering (pos 1)) d.kept new g
-    filled = subst (λ u. IsFilledBy u d.kept new g) e f
+    filled : IsFilledBy (step_of d s.row s.entering (pos 1)) d.kept fresh g
+    filled = subst (λ u. IsFilledBy u d.kept fresh g) e f
+
+    rows : AreRowsFilled (step_of d s.row s.entering (pos 1)) g d.kept new (d.rows + 2)
+    rows = subst (λ u. AreRowsFilled u g d.kept new (u.rows + 2)) e r
 
     table : IsTable (step_of d s.row s.entering (pos 1)) new
     table = subst (λ u. IsTable u new) e t

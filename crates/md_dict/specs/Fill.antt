@@ -1,33 +1,49 @@
 -- How the numbers after a pivot are written beside those before it, row by row.
-use Rattle.std.specs.Prelude.{◌≡◌, ◌≢◌, ℕ, ◌+◌, ◌-◌, ◌*◌, ◌<◌, ◌≤◌, ◌^◌, ℤ, pos, ◌*ℤ◌, ◌<ℤ◌, int_div, List, IfSome, unsigned_abs}
+use Rattle.std.specs.Prelude.{◌≡◌, ◌≢◌, ℕ, ◌+◌, ◌-◌, ◌*◌, ◌<◌, ◌≤◌, ◌^◌, ℤ, pos, ◌*ℤ◌, ◌<ℤ◌, ◌⊎◌, int_div, List, IfSome, unsigned_abs}
 use Rattle.md_math.specs.Sizes.{IsWithin}
 use Rattle.md_math.specs.Divisors.{Divides}
 use Rattle.md_dict.specs.declared.step.Step.{Step}
 use Rattle.md_dict.specs.declared.quick.QuickDivider.{QuickDivider}
+use Rattle.md_dict.specs.declared.lanes.Lanes.{Lanes}
+use Rattle.md_dict.specs.Lanes.{AreLanes}
 use Rattle.md_dict.specs.declared.fill.Filling.{Filling}
+use Rattle.md_dict.specs.declared.fill.Weights.{Weights}
 use Rattle.md_dict.specs.declared.fill.Unfit.{Unfit}
 use Rattle.md_dict.specs.declared.fill.Unfit.TheVariants.{Indivisible, TooWide}
-use Rattle.md_dict.specs.Step.{number_in, multiplier_of, factor_of, raw_number, DividesRows, IsStepDivisor, AreRowsNarrow}
+use Rattle.md_dict.specs.Step.{number_in, multiplier_of, factor_of, raw_number, DividesRows, IsApart, IsStepDivisor, AreRowsNarrow}
 
--- it divides by d, and its quotients are within a limit, so that d times each has 63 bits
+-- what the numbers of a row and those of the pivot row are multiplied by
+pub record AreWeights (step : Step) (kept : List ℤ) (i : ℕ) (weights : Weights) : Type 0 where
+  pub multiplier : weights.multiplier ≡ multiplier_of step i
+  pub factor : weights.factor ≡ factor_of step kept i
+  pub multiplier_size : IsWithin (2 ^ 62) weights.multiplier
+  pub factor_size : IsWithin (2 ^ 62) weights.factor
+
+-- it divides by d, and its quotients are within a limit
 pub record IsQuick (d : ℤ) (limit : ℕ) (divider : QuickDivider) : Type 0 where
   pub value : divider.value ≡ d
   pub size : IsWithin (2 ^ 63 - 1) divider.value
   pub most : divider.most ≤ limit
-  pub room : divider.most * unsigned_abs divider.value < 2 ^ 63
 
--- the two products of each raw number of a row have 63 bits together, whatever their signs
-pub record IsSmallRow (step : Step) (kept : List ℤ) (i : ℕ) : Type 0 where
-  pub at : (s : ℕ) → s < step.columns + 1 → unsigned_abs (multiplier_of step i) * unsigned_abs (number_in step kept i s) + unsigned_abs (factor_of step kept i) * unsigned_abs (number_in step kept step.row s) < 2 ^ 63
+-- they multiply by the pivot and divide by d, and the numbers of the pivot row have 31 bits, of which the limit has no fewer
+pub record AreLanesFor (step : Step) (kept : List ℤ) (d : ℤ) (lanes : Lanes) : Type 0 where
+  pub divisor : lanes.divisor ≡ d
+  pub of_pivot : AreLanes step.pivot lanes.divisor lanes
+  pub limit : 2 ^ 31 ≤ step.limit
+  pub reach : (s : ℕ) → s < step.columns + 1 → unsigned_abs (number_in step kept step.row s) < 2 ^ 31
 
--- what the new numbers are made with: a positive divisor, and the greatest size in the pivot row
+-- what the new numbers are made with: a positive divisor
 pub record IsFilling (step : Step) (kept : List ℤ) (filling : Filling) : Type 0 where
   pub positive : pos 0 <ℤ filling.divider.value
   pub size : unsigned_abs filling.divider.value < 2 ^ 126
-  pub of_den : Divides filling.divider.value (step.den *ℤ step.pivot)
   pub quick : IfSome filling.quick (IsQuick filling.divider.value step.limit)
-  pub reach : (s : ℕ) → s < step.columns + 1 → unsigned_abs (number_in step kept step.row s) ≤ filling.reach
-  pub reach_size : filling.reach ≤ 2 ^ 62
+  pub lanes : IfSome filling.lanes (AreLanesFor step kept filling.divider.value)
+
+-- a row that a pivot leaves as it is: it is multiplied and divided by the same number, and the pivot row is not taken from it. The face row is none of these, since it may have another number in the leaving column
+pub record Stays (step : Step) (d : ℤ) (kept : List ℤ) (i : ℕ) : Type 0 where
+  pub divided : step.pivot ≡ d
+  pub apart : IsApart step kept i
+  pub not_face : i ≢ step.rows
 
 -- d times the new numbers of a row, at the first n places but that of the pivot, are its raw numbers
 pub record AreFilled (step : Step) (d : ℤ) (kept new : List ℤ) (i n : ℕ) : Type 0 where
@@ -36,6 +52,14 @@ pub record AreFilled (step : Step) (d : ℤ) (kept new : List ℤ) (i n : ℕ) :
 -- the numbers of the other rows stay
 pub record Leaves (step : Step) (i : ℕ) (old new : List ℤ) : Type 0 where
   pub others : (k s : ℕ) → k ≢ i → s < step.columns + 1 → number_in step new k s ≡ number_in step old k s
+
+-- the numbers of the rows from n on stay
+pub record LeavesFrom (step : Step) (n : ℕ) (old new : List ℤ) : Type 0 where
+  pub at : (k s : ℕ) → n ≤ k → s < step.columns + 1 → number_in step new k s ≡ number_in step old k s
+
+-- each of the first n rows stays, or d times its new numbers are its raw numbers
+pub record AreRowsWritten (step : Step) (d : ℤ) (kept new : List ℤ) (n : ℕ) : Type 0 where
+  pub at : (i s : ℕ) → i < n → s < step.columns + 1 → Stays step d kept i ⊎ (d *ℤ number_in step new i s ≡ raw_number step kept i s)
 
 -- d times the new numbers of the first n rows are their raw numbers
 pub record AreRowsFilled (step : Step) (d : ℤ) (kept new : List ℤ) (n : ℕ) : Type 0 where
@@ -75,9 +99,9 @@ pub record IsCandidate (step : Step) (kept : List ℤ) (d : ℤ) : Type 0 where
 pub record IsWideFor (step : Step) (kept : List ℤ) : Type 0 where
   pub wide : (g : ℤ) → IsStepDivisor step kept (step.rows + 2) g → IsWithin step.limit (int_div (step.den *ℤ step.pivot) g) → AreRowsNarrow step kept g (step.rows + 2) → ⊥
 
--- the new numbers are written, and the new denominator is within the limit
+-- the new numbers of all rows that do not stay are written, and the new denominator is within the limit
 pub record IsFilledBy (step : Step) (kept new : List ℤ) (d : ℤ) : Type 0 where
   pub divisor : IsStepDivisor step kept (step.rows + 2) d
   pub size : unsigned_abs d < 2 ^ 126
   pub den : IsWithin step.limit (int_div (step.den *ℤ step.pivot) d)
-  pub rows : AreRowsFilled step d kept new (step.rows + 2)
+  pub rows : AreRowsWritten step d kept new (step.rows + 2)

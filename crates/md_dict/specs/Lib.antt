@@ -3,6 +3,7 @@ pub mod Dictionary
 pub mod Exchange
 pub mod Fill
 pub mod FirstTable
+pub mod Lanes
 pub mod Pivot
 pub mod Start
 pub mod Step

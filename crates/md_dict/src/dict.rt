@@ -17,7 +17,6 @@ use md_lp::{Entry, Lp};
 use md_num::{Width, exact_quotient, product};
 use std::alloc::Global;
 use std::marker::Model;
-use std::mem;
 
 /// The dictionary of a basis of a linear program with m rows and n program and slack columns: whole numbers over one denominator, in least terms.
 /// Its rows are the program rows, then the face row m and the main row m + 1. Its columns are the program and slack columns, then the start columns n to n + m - 1, and the right side n + m.
@@ -34,7 +33,7 @@ pub struct Dict {
     fresh: Vec<i64>,
 }
 
-// A dictionary is seen by its basis and the numbers that it keeps. The second table, of the same length, is the one that the next pivot writes.
+// A dictionary is seen by its basis and the numbers that it keeps. In the second table, of the same length, the next pivot writes the rows that change, until it is known that none is too wide.
 impl Model for Dict {
     ghost use Rattle.md_dict.specs.Condensed.{Condensed, IsFresh, IsShapedDictionary};
 
@@ -260,7 +259,7 @@ impl Dict {
         ensures stays { IfNone result (self.new ≡ self.old) }
     {
         let divisor = step.fill(self.kept.as_slice(), self.fresh.as_mut_slice())?;
-        mem::swap(&mut self.kept, &mut self.fresh);
+        step.take_over(divisor, &mut self.kept, &mut self.fresh);
         self.order[step.place] = step.leaving as u32;
         self.order[step.columns + step.row] = step.entering as u32;
         self.seat[step.entering] = (step.columns + step.row) as u32;

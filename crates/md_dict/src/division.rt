@@ -60,6 +60,9 @@ impl Divider {
         ensures divisor { IsGcdOfTwo self.now.value x result.value }
         ensures size { unsigned_abs result.value < 2 ^ 126 }
     {
+        if x == 0 {
+            return *self;
+        }
         match self.exact(x) {
             Some(_) => *self,
             None => Divider::new(gcd(self.value, x)),
@@ -77,7 +80,7 @@ pub fn inverse(odd: u64) -> u64 {
 }
 
 // The lowest 64 bits.
-fn lowest_bits(size: u128) -> u64 {
+pub fn lowest_bits(size: u128) -> u64 {
     (size & u128::from(u64::MAX)) as u64
 }
 

@@ -1,14 +1,18 @@
-ghost use Rattle.std.specs.Prelude.{◌≡◌, ◌+◌, ◌-◌, ◌*◌, ◌^◌, ◌<◌, ◌≤◌, ◌↔◌, ℕ, pos, ◌*ℤ◌, ◌<ℤ◌, int_div, length, IsTrue, IfErr, IfNone, IfOk, IfSome, OnOk, unsigned_abs};
+ghost use Rattle.std.specs.Prelude.{◌≡◌, ◌+◌, ◌-◌, ◌-ℤ◌, ◌*◌, ◌^◌, ◌<◌, ◌≤◌, ◌↔◌, ℕ, pos, ◌*ℤ◌, ◌<ℤ◌, int_div, length, IsTrue, IfErr, IfNone, IfOk, IfSome, OnOk, unsigned_abs};
 ghost use Rattle.md_math.specs.Divisors.{Divides};
 ghost use Rattle.md_math.specs.Lists.{number_at};
 ghost use Rattle.md_math.specs.Sizes.{AllWithin, IsWithin};
 
 use crate::division::Divider;
+use crate::lanes::{Lanes, RUN};
 use crate::quick::QuickDivider;
 use crate::sizes::greatest_size;
-use crate::step::Step;
+use crate::step::{Step, cross};
 use crate::wide::is_within;
 use md_num::{exact_quotient, product};
+
+// The least size that has more than 31 bits.
+const SHORT: u128 = 0x8000_0000;
 
 // Why new numbers are not written: the divisor does not divide a raw number, or a new number is above the limit.
 #[derive(Clone, Copy)]
@@ -17,28 +21,52 @@ pub enum Unfit {
     TooWide,
 }
 
-// What the new numbers of all rows are made with: the number by which all is divided, and the greatest size in the pivot row.
-#[derive(Clone, Copy)]
+// What the new numbers of all rows are made with: the number by which all is divided, for quotients that are found out, for those that are guessed, and for those of numbers of 32 bits.
+#[derive(Drop)]
 pub struct Filling {
     pub divider: Divider,
     pub quick: Option<QuickDivider>,
-    pub reach: u64,
+    pub lanes: Option<Lanes>,
+}
+
+// What a row is multiplied by, and how often the pivot row is taken from it.
+#[derive(Clone, Copy)]
+pub struct Weights {
+    pub multiplier: i64,
+    pub factor: i64,
+}
+
+impl Weights {
+    // The multiplier times a number of the row, less the factor times one of the pivot row.
+    fn cross(&self, own: i128, taken: i128) -> i128
+        requires multiplier { IsWithin (2 ^ 62) self.now.multiplier }
+        requires factor { IsWithin (2 ^ 62) self.now.factor }
+        requires own { IsWithin (2 ^ 62) own }
+        requires taken { IsWithin (2 ^ 62) taken }
+        ensures { result ≡ self.now.multiplier *ℤ own -ℤ self.now.factor *ℤ taken }
+    {
+        cross(
+            i128::from(self.multiplier),
+            own,
+            i128::from(self.factor),
+            taken,
+        )
+    }
 }
 
 // The greatest size of a row's numbers.
 fn row_size(kept: &[i64], stride: usize, row: usize) -> u64
     requires rows { row * stride + stride ≤ length kept.now }
     requires numbers { AllWithin (2 ^ 62) kept.now }
-    ensures size { result ≤ 2 ^ 62 }
-    ensures bound { (s : ℕ) → s < stride → unsigned_abs (number_at kept.now (row * stride + s)) ≤ result }
+    ensures { (s : ℕ) → s < stride → unsigned_abs (number_at kept.now (row * stride + s)) ≤ result }
 {
     let start = row * stride;
     greatest_size(&kept[start..start + stride], 0)
 }
 
 impl Step {
-    ghost use Rattle.md_dict.specs.Step.{IsStep, IsTable, IsApart, number_in, raw_number};
-    ghost use Rattle.md_dict.specs.Fill.{AreFilled, AreRowsFilled, IsFilledBy, IsFilling, IsSmallRow, IsUnfit, IsWideFor, Leaves};
+    ghost use Rattle.md_dict.specs.Step.{IsStep, IsTable, raw_number};
+    ghost use Rattle.md_dict.specs.Fill.{AreFilled, AreRowsWritten, AreLanesFor, AreWeights, IsFilledBy, IsFilling, IsUnfit, IsWideFor, Leaves};
 
     // The new number at a kept place.
     fn new_number(
@@ -66,52 +94,53 @@ impl Step {
         Ok(quotient as i64)
     }
 
-    // Whether 64 bits serve for the raw numbers of a row.
-    fn is_small(&self, kept: &[i64], row: usize, reach: u64) -> bool
+    // What a row is multiplied by, and how often the pivot row is taken from it.
+    fn weights(&self, kept: &[i64], row: usize) -> Weights
         requires table { IsTable self.now kept.now }
         requires row { row < self.now.rows + 2 }
-        requires reach { (s : ℕ) → s < self.now.columns + 1 → unsigned_abs (number_in self.now kept.now self.now.row s) ≤ reach }
-        requires reach_size { reach ≤ 2 ^ 62 }
-        ensures { IsTrue result → IsSmallRow self.now kept.now row }
+        ensures { AreWeights self.now kept.now row result }
     {
-        let size = row_size(kept, self.columns + 1, row);
-        let first = self.multiplier(row).unsigned_abs() * u128::from(size);
-        let second = self.factor(kept, row).unsigned_abs() * u128::from(reach);
-        first + second <= u128::from(i64::MAX as u64)
+        Weights {
+            multiplier: self.multiplier(row) as i64,
+            factor: self.factor(kept, row) as i64,
+        }
     }
 
-    // Writes new numbers of a row, by 64 bits, up to the first place where a quotient is guessed wrong. At the place of the pivot it writes 0, or the new denominator.
+    // Writes new numbers of a row up to the first place where a quotient is guessed wrong. At the place of the pivot it writes 0, or the new denominator.
+    // It stands alone, so that the weights are read at each place: then a product of 128 bits is one multiplication.
+    #[inline(never)]
     fn fill_quickly(
         &self,
         kept: &[i64],
         row: usize,
+        weights: &Weights,
         quick: &QuickDivider,
         fresh: &mut [i64],
     ) -> usize
         requires step { IsStep self.now kept.now }
         requires row { row < self.now.rows + 2 }
-        requires small { IsSmallRow self.now kept.now row }
+        requires weights { AreWeights self.now kept.now row weights.now }
         requires most { quick.now.most ≤ self.now.limit }
         requires size { IsWithin (2 ^ 63 - 1) quick.now.value }
-        requires room { quick.now.most * unsigned_abs quick.now.value < 2 ^ 63 }
         requires table { IsTable self.now fresh.old }
         ensures places { result ≤ self.now.columns + 1 }
         ensures filled { AreFilled self.now quick.now.value kept.now fresh.new row result }
         ensures leaves { Leaves self.now row fresh.old fresh.new }
         ensures table { IsTable self.now fresh.new }
     {
-        let multiplier = self.multiplier(row) as i64;
-        let factor = self.factor(kept, row) as i64;
-        let start = row * (self.columns + 1);
-        let pivot_start = self.row * (self.columns + 1);
-        for place in 0..self.columns + 1 {
-            let number = multiplier * kept[start + place] - factor * kept[pivot_start + place];
+        let width = self.columns + 1;
+        let start = row * width;
+        let pivot_start = self.row * width;
+        for place in 0..width {
+            let own = i128::from(kept[start + place]);
+            let taken = i128::from(kept[pivot_start + place]);
+            let number = weights.cross(own, taken);
             let Some(quotient) = quick.quotient(number) else {
                 return place;
             };
             fresh[start + place] = quotient;
         }
-        self.columns + 1
+        width
     }
 
     // Writes the new numbers of a row from a place on.
@@ -141,28 +170,13 @@ impl Step {
         Ok(())
     }
 
-    // Copies a row.
-    fn copy_row(&self, kept: &[i64], row: usize, fresh: &mut [i64])
-        requires step { IsStep self.now kept.now }
-        requires row { row < self.now.rows + 2 }
-        requires apart { IsApart self.now kept.now row }
-        requires table { IsTable self.now fresh.old }
-        ensures filled { AreFilled self.now self.now.pivot kept.now fresh.new row (self.now.columns + 1) }
-        ensures leaves { Leaves self.now row fresh.old fresh.new }
-        ensures table { IsTable self.now fresh.new }
-    {
-        let start = row * (self.columns + 1);
-        for place in 0..self.columns + 1 {
-            fresh[start + place] = kept[start + place];
-        }
-    }
-
-    // Writes the new numbers of a row, but that at the place of the pivot. A row that is multiplied and divided by the same number stays.
+    // Writes the new numbers of a row, but that at the place of the pivot.
     fn fill_others(
         &self,
         kept: &[i64],
         row: usize,
         filling: &Filling,
+        factors: &mut [i64; RUN],
         fresh: &mut [i64],
     ) -> Result<(), Unfit>
         requires step { IsStep self.now kept.now }
@@ -174,54 +188,73 @@ impl Step {
         ensures leaves { Leaves self.now row fresh.old fresh.new }
         ensures table { IsTable self.now fresh.new }
     {
-        if self.pivot == filling.divider.value && self.is_apart(kept, row) {
-            self.copy_row(kept, row, fresh);
-            return Ok(());
-        }
-        match filling.quick {
-            Some(quick) if self.is_small(kept, row, filling.reach) => {
-                let from = self.fill_quickly(kept, row, &quick, fresh);
-                self.fill_slowly(kept, row, from, &filling.divider, fresh)
+        if let Some(lanes) = &filling.lanes {
+            if self.fill_by_lanes(kept, row, lanes, factors, fresh) {
+                return Ok(());
             }
-            _ => self.fill_slowly(kept, row, 0, &filling.divider, fresh),
         }
+        let from = match &filling.quick {
+            Some(quick) => {
+                let weights = self.weights(kept, row);
+                self.fill_quickly(kept, row, &weights, quick, fresh)
+            }
+            None => 0,
+        };
+        self.fill_slowly(kept, row, from, &filling.divider, fresh)
     }
 
-    // Writes the new numbers of a row.
+    // Writes the new numbers of a row, where it does not stay.
     fn fill_row(
         &self,
         kept: &[i64],
         row: usize,
         filling: &Filling,
+        factors: &mut [i64; RUN],
         fresh: &mut [i64],
     ) -> Result<(), Unfit>
         requires step { IsStep self.now kept.now }
         requires row { row < self.now.rows + 2 }
         requires filling { IsFilling self.now kept.now filling.now }
         requires table { IsTable self.now fresh.old }
-        ensures filled { OnOk result (AreRowsFilled self.now filling.now.divider.value kept.now fresh.old row → AreRowsFilled self.now filling.now.divider.value kept.now fresh.new (row + 1)) }
+        ensures written { OnOk result (AreRowsWritten self.now filling.now.divider.value kept.now fresh.old row → AreRowsWritten self.now filling.now.divider.value kept.now fresh.new (row + 1)) }
         ensures unfit { IfErr result (IsUnfit self.now kept.now filling.now.divider.value) }
         ensures table { IsTable self.now fresh.new }
     {
-        self.fill_others(kept, row, filling, fresh)?;
+        if self.stays(kept, row, filling.divider.value) {
+            return Ok(());
+        }
+        self.fill_others(kept, row, filling, factors, fresh)?;
         let number = self.new_number(kept, row, self.place, &filling.divider)?;
         fresh[row * (self.columns + 1) + self.place] = number;
         Ok(())
     }
 
-    // Writes all new numbers.
+    // Writes the new numbers of all rows that do not stay.
     fn fill_rows(&self, kept: &[i64], filling: &Filling, fresh: &mut [i64]) -> Result<(), Unfit>
         requires step { IsStep self.now kept.now }
         requires filling { IsFilling self.now kept.now filling.now }
         requires table { IsTable self.now fresh.old }
-        ensures filled { OnOk result (AreRowsFilled self.now filling.now.divider.value kept.now fresh.new (self.now.rows + 2)) }
+        ensures written { OnOk result (AreRowsWritten self.now filling.now.divider.value kept.now fresh.new (self.now.rows + 2)) }
         ensures unfit { IfErr result (IsUnfit self.now kept.now filling.now.divider.value) }
         ensures table { IsTable self.now fresh.new }
     {
+        let mut factors = [0; RUN];
         for row in 0..self.rows + 2 {
-            self.fill_row(kept, row, filling, fresh)?;
+            self.fill_row(kept, row, filling, &mut factors, fresh)?;
         }
         Ok(())
+    }
+
+    // The lanes of the pivot and a divisor, where both and the numbers of the pivot row have 32 bits, and the limit is no less.
+    fn lanes_for(&self, kept: &[i64], divisor: i128) -> Option<Lanes>
+        requires table { IsTable self.now kept.now }
+        requires positive { pos 0 <ℤ divisor }
+        ensures { IfSome result (AreLanesFor self.now kept.now divisor) }
+    {
+        if self.limit < SHORT || u128::from(row_size(kept, self.columns + 1, self.row)) >= SHORT {
+            return None;
+        }
+        Lanes::new(self.pivot, divisor)
     }
 
     // What the new numbers are made with, for a divisor.
@@ -229,14 +262,13 @@ impl Step {
         requires table { IsTable self.now kept.now }
         requires positive { pos 0 <ℤ divider.value }
         requires size { unsigned_abs divider.value < 2 ^ 126 }
-        requires of_den { Divides divider.value (self.now.den *ℤ self.now.pivot) }
         ensures filling { IsFilling self.now kept.now result }
         ensures divider { result.divider ≡ divider }
     {
         Filling {
             divider,
             quick: QuickDivider::new(divider.value, self.limit as u64),
-            reach: row_size(kept, self.columns + 1, self.row),
+            lanes: self.lanes_for(kept, divider.value),
         }
     }
 
@@ -255,8 +287,8 @@ impl Step {
         )
     }
 
-    // Writes all new numbers, where none is above the limit, and answers the number by which all is divided.
-    // It begins with what divides the pivot row. Where that does not divide a number of another row, all is written anew for their greatest common divisor.
+    // Writes the new numbers of all rows that do not stay, where no number is above the limit, and answers the number by which all is divided.
+    // Where a candidate does not divide a raw number, all is written anew for their greatest common divisor.
     pub fn fill(&self, kept: &[i64], fresh: &mut [i64]) -> Option<i128>
         requires step { IsStep self.now kept.now }
         requires table { IsTable self.now fresh.old }
@@ -265,7 +297,7 @@ impl Step {
         ensures table { IsTable self.now fresh.new }
     {
         let first = Divider::new(product(self.den, self.pivot));
-        let mut divider = self.row_divisor(kept, self.row, first);
+        let mut divider = self.sampled(kept, first);
         while let Err(unfit) = self.fill_rows(kept, &self.filling(kept, divider), fresh) {
             match unfit {
                 Unfit::Indivisible(number) => divider = divider.common(number),

@@ -1,4 +1,4 @@
-ghost use Rattle.std.specs.Prelude.{◌≡◌, ◌≢◌, ℕ, ◌+◌, ◌*◌, ◌^◌, ◌<◌, ◌≤◌, ℤ, pos, ◌-ℤ◌, ◌*ℤ◌, ◌<ℤ◌, IsTrue, length, unsigned_abs};
+ghost use Rattle.std.specs.Prelude.{◌≡◌, ◌+◌, ◌^◌, ◌<◌, ◌≤◌, pos, ◌-ℤ◌, ◌*ℤ◌, ◌<ℤ◌, unsigned_abs};
 ghost use Rattle.md_math.specs.Sizes.{IsWithin};
 ghost use Rattle.md_dict.specs.Dictionary.{basic_value};
 
@@ -21,7 +21,7 @@ pub struct Step {
 }
 
 impl Step {
-    ghost use Rattle.md_dict.specs.Step.{IsStep, IsTable, IsApart, number_in, old_number, multiplier_of, factor_of, raw_number, IsRowDivisor, IsStepDivisor};
+    ghost use Rattle.md_dict.specs.Step.{IsStep, IsTable, number_in, old_number, multiplier_of, factor_of, raw_number, IsRowDivisor, IsStepDivisor};
 
     // What the leaving column holds in a row.
     fn leaving_value(&self, row: usize) -> i128
@@ -40,7 +40,7 @@ impl Step {
     }
 
     // The kept number at a row and a place.
-    fn number(&self, kept: &[i64], row: usize, place: usize) -> i128
+    pub fn number(&self, kept: &[i64], row: usize, place: usize) -> i128
         requires table { IsTable self.now kept.now }
         requires row { row < self.now.rows + 2 }
         requires place { place < self.now.columns + 1 }
@@ -109,15 +109,6 @@ impl Step {
         )
     }
 
-    // Whether a row is another than the pivot row, and that row is not taken from it, so that its numbers are multiplied by the pivot alone.
-    pub fn is_apart(&self, kept: &[i64], row: usize) -> bool
-        requires table { IsTable self.now kept.now }
-        requires row { row < self.now.rows + 2 }
-        ensures { IsTrue result → IsApart self.now kept.now row }
-    {
-        row != self.row && self.number(kept, row, self.place) == 0
-    }
-
     // The greatest number that divides `before` and the raw numbers of a row.
     pub fn row_divisor(&self, kept: &[i64], row: usize, before: Divider) -> Divider
         requires step { IsStep self.now kept.now }
@@ -162,7 +153,7 @@ impl Step {
 }
 
 // The difference of two products, `a * b - c * d`, each by one multiplication of 64 bits.
-fn cross(a: i128, b: i128, c: i128, d: i128) -> i128
+pub fn cross(a: i128, b: i128, c: i128, d: i128) -> i128
     requires a { IsWithin (2 ^ 62) a }
     requires b { IsWithin (2 ^ 62) b }
     requires c { IsWithin (2 ^ 62) c }

@@ -11,5 +11,5 @@ in_part xs start n size a h s b =
     let value : number_at (take (start + n - start) (drop start xs)) s ≡ number_at xs (start + s) = get_or-take (start + n - start) (drop start xs) s _ (omega arith) ∙ get_or-drop start xs s _ in
     subst (λ z. unsigned_abs z ≤ size) value (h s (omega (arith, part)))
 
-pub returns-clause-bound : goal.returns-clause-bound
-returns-clause-bound c = in_part c.args.kept.now (c.args.row * c.args.stride) c.args.stride c.greatest_size.result c.requires.rows c.greatest_size.ensures.bound
+pub returns : goal.returns
+returns c = in_part c.args.kept.now (c.args.row * c.args.stride) c.args.stride c.greatest_size.result c.requires.rows c.greatest_size.ensures.bound

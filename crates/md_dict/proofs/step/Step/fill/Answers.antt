@@ -1,26 +1,13 @@
-use Rattle.std.proofs.Common.{◌≡◌, ◌+◌, ◌*ℤ◌, refl, ◌∙◌, subst}
-use Rattle.md_math.proofs.Order.{positive-*ℤ}
-use Rattle.md_dict.specs.Step.{IsRowDivisor}
-use Rattle.md_dict.specs.Fill.{IsUnfit, IsIndivisible, AreRowsFilled}
+use Rattle.std.proofs.Common.{◌+◌, refl, ◌∙◌, subst}
+use Rattle.md_dict.specs.Fill.{IsUnfit, IsIndivisible, AreRowsWritten}
 use Rattle.md_dict.proofs.Reading.{read_result, read_small, read_wide}
-use Rattle.md_dict.proofs.NewNumbers.{IsCandidate-first, IsCandidate-next, smaller_candidate, IsWideFor-above, IsWideFor-den, IsStepDivisor-filled}
+use Rattle.md_dict.proofs.NewNumbers.{IsCandidate-whole, IsCandidate-next, smaller_candidate, IsWideFor-above, IsWideFor-den, IsStepDivisor-written}
 use Rattle.md_dict.proofs.step.Step.fill.Goals as goal
 
-pub row_divisor-divider-requires-clause-positive : goal.row_divisor-divider-requires-clause-positive
-row_divisor-divider-requires-clause-positive c =
-    let value : c.new-first.result.value ≡ c.args.self.now.den *ℤ c.args.self.now.pivot =
-    c.new-first.ensures ∙ read_result c.product.result c.product.type_inv ∙ (rw (read_small c.args.self.now.den c.requires.step.table.den_size, read_small c.args.self.now.pivot c.requires.step.table.pivot_size) at c.product.ensures.value) in
-    rw value (positive-*ℤ c.args.self.now.den c.args.self.now.pivot c.requires.step.table.den_positive c.requires.step.table.pivot_positive)
-
-pub loop-unfit-init : goal.loop-unfit-init
-loop-unfit-init c =
-    let value : c.new-first.result.value ≡ c.args.self.now.den *ℤ c.args.self.now.pivot =
-    c.new-first.ensures ∙ read_result c.product.result c.product.type_inv ∙ (rw (read_small c.args.self.now.den c.requires.step.table.den_size, read_small c.args.self.now.pivot c.requires.step.table.pivot_size) at c.product.ensures.value) in (
-      IsCandidate-first c.args.self.now c.args.kept.now c.row_divisor-divider.result.value c.requires.step.table.row_in
-          (subst (λ z. IsRowDivisor c.args.self.now c.args.kept.now c.args.self.now.row (c.args.self.now.columns + 1) z c.row_divisor-divider.result.value) value c.row_divisor-divider.ensures.divisor)
-          c.row_divisor-divider.ensures.size,
-      c.requires.table,
-    )
+pub sampled-divider-requires-clause-candidate : goal.sampled-divider-requires-clause-candidate
+sampled-divider-requires-clause-candidate c =
+    IsCandidate-whole c.args.self.now c.args.kept.now c.new-first.result.value c.requires.step.table
+    (c.new-first.ensures ∙ read_result c.product.result c.product.type_inv ∙ (rw (read_small c.args.self.now.den c.requires.step.table.den_size, read_small c.args.self.now.pivot c.requires.step.table.pivot_size) at c.product.ensures.value))
 
 pub loop-unfit-smaller : goal.loop-unfit-smaller
 loop-unfit-smaller c =
@@ -46,9 +33,9 @@ returns-in-TooWide-clause-wide c =
 
 pub returns-then-has_small_den-clause-filled : goal.returns-then-has_small_den-clause-filled
 returns-then-has_small_den-clause-filled c =
-    let filled : AreRowsFilled c.args.self.now c.loop-unfit.divider.value c.args.kept.now c.fill_rows.new.fresh (c.args.self.now.rows + 2) = subst (λ v. AreRowsFilled c.args.self.now v.value c.args.kept.now c.fill_rows.new.fresh (c.args.self.now.rows + 2)) c.filling.ensures.divider c.in_default.ensures.filled in
+    let filled : AreRowsWritten c.args.self.now c.loop-unfit.divider.value c.args.kept.now c.fill_rows.new.fresh (c.args.self.now.rows + 2) = subst (λ v. AreRowsWritten c.args.self.now v.value c.args.kept.now c.fill_rows.new.fresh (c.args.self.now.rows + 2)) c.filling.ensures.divider c.in_default.ensures.written in
     rw (read_wide c.loop-unfit.divider.value c.loop-unfit.invariant.0.size) (record {
-      divisor = IsStepDivisor-filled c.args.self.now c.loop-unfit.divider.value c.args.kept.now c.fill_rows.new.fresh c.loop-unfit.invariant.0 filled;
+      divisor = IsStepDivisor-written c.args.self.now c.loop-unfit.divider.value c.args.kept.now c.fill_rows.new.fresh c.loop-unfit.invariant.0 filled;
       size = c.loop-unfit.invariant.0.size;
       den = rw (read_wide c.loop-unfit.divider.value c.loop-unfit.invariant.0.size) at c.if-has_small_den.ensures.0 refl;
       rows = filled;
@@ -56,7 +43,7 @@ returns-then-has_small_den-clause-filled c =
 
 pub returns-else-has_small_den-clause-wide : goal.returns-else-has_small_den-clause-wide
 returns-else-has_small_den-clause-wide c =
-    let filled : AreRowsFilled c.args.self.now c.loop-unfit.divider.value c.args.kept.now c.fill_rows.new.fresh (c.args.self.now.rows + 2) = subst (λ v. AreRowsFilled c.args.self.now v.value c.args.kept.now c.fill_rows.new.fresh (c.args.self.now.rows + 2)) c.filling.ensures.divider c.in_default.ensures.filled in
+    let filled : AreRowsWritten c.args.self.now c.loop-unfit.divider.value c.args.kept.now c.fill_rows.new.fresh (c.args.self.now.rows + 2) = subst (λ v. AreRowsWritten c.args.self.now v.value c.args.kept.now c.fill_rows.new.fresh (c.args.self.now.rows + 2)) c.filling.ensures.divider c.in_default.ensures.written in
     IsWideFor-den c.args.self.now c.args.kept.now c.loop-unfit.divider.value
-    (IsStepDivisor-filled c.args.self.now c.loop-unfit.divider.value c.args.kept.now c.fill_rows.new.fresh c.loop-unfit.invariant.0 filled)
+    (IsStepDivisor-written c.args.self.now c.loop-unfit.divider.value c.args.kept.now c.fill_rows.new.fresh c.loop-unfit.invariant.0 filled)
     (λ w. let clash = (rw (read_wide c.loop-unfit.divider.value c.loop-unfit.invariant.0.size) at c.if-has_small_den.ensures.1) w in cc)

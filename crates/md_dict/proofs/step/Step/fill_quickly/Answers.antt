@@ -1,71 +1,40 @@
-use Rattle.std.proofs.Common.{◌≡◌, ◌+◌, ◌*◌, ◌-ℤ◌, ◌*ℤ◌, ◌<◌, ◌≤◌, ◌^◌, length, unsigned_abs, sym, ◌∙◌, subst, arith}
-use Rattle.std.proofs.lemmas.Int.{to_z-of_z}
-use mir.Syntax.{w64}
+use Rattle.std.proofs.Common.{◌≡◌, ◌+◌, ◌*◌, ◌-ℤ◌, ◌*ℤ◌, ◌<◌, ◌≤◌, ◌^◌, length, unsigned_abs, ap₂, sym, ◌∙◌, subst, arith}
 use Rattle.md_math.specs.Sizes.{IsWithin}
 use Rattle.md_math.proofs.SizeLaws.{AllWithin-number_at, IsWithin-wider}
 use Rattle.md_dict.specs.Step.{number_in, multiplier_of, factor_of}
 use Rattle.md_dict.specs.Fill.{AreFilled}
-use Rattle.md_dict.proofs.Reading.{read_result, read_short, first_fits, second_fits, both_fit}
+use Rattle.md_dict.proofs.Reading.{read_result, read_short, read_small}
 use Rattle.md_dict.proofs.Writing.{place_inside, IsTable-set}
 use Rattle.md_dict.proofs.NewNumbers.{AreFilled-more, Leaves-more, raw_beside}
 use Rattle.md_dict.proofs.step.Step.fill_quickly.Goals as goal
 
-pub overflow_mul-number : goal.overflow_mul-number
-overflow_mul-number c =
+pub cross-number-requires-clause-own : goal.cross-number-requires-clause-own
+cross-number-requires-clause-own c =
     let own : IsWithin (2 ^ 62) (number_in c.args.self.now c.args.kept.now c.args.row c.loop-place.place) = AllWithin-number_at (2 ^ 62) c.args.kept.now (c.args.row * (c.args.self.now.columns + 1) + c.loop-place.place) c.requires.step.table.kept_size in
-    let pivot : IsWithin (2 ^ 62) (number_in c.args.self.now c.args.kept.now c.args.self.now.row c.loop-place.place) = AllWithin-number_at (2 ^ 62) c.args.kept.now (c.args.self.now.row * (c.args.self.now.columns + 1) + c.loop-place.place) c.requires.step.table.kept_size in
-    let small = c.requires.small.at c.loop-place.place c.loop-place-test.true in
-    rw (read_result c.multiplier-multiplier.result c.multiplier-multiplier.type_inv, read_short c.multiplier-multiplier.result c.multiplier-multiplier.ensures.size, c.multiplier-multiplier.ensures.value, read_short (number_in c.args.self.now c.args.kept.now c.args.row c.loop-place.place) own) (first_fits (multiplier_of c.args.self.now c.args.row) (number_in c.args.self.now c.args.kept.now c.args.row c.loop-place.place) (unsigned_abs (factor_of c.args.self.now c.args.kept.now c.args.row) * unsigned_abs (number_in c.args.self.now c.args.kept.now c.args.self.now.row c.loop-place.place)) small)
+    rw (c.from-own.ensures, read_short (number_in c.args.self.now c.args.kept.now c.args.row c.loop-place.place) own, read_small (number_in c.args.self.now c.args.kept.now c.args.row c.loop-place.place) own) own
 
-pub overflow_mul-number-in-loop-place : goal.overflow_mul-number-in-loop-place
-overflow_mul-number-in-loop-place c =
-    let own : IsWithin (2 ^ 62) (number_in c.args.self.now c.args.kept.now c.args.row c.loop-place.place) = AllWithin-number_at (2 ^ 62) c.args.kept.now (c.args.row * (c.args.self.now.columns + 1) + c.loop-place.place) c.requires.step.table.kept_size in
-    let pivot : IsWithin (2 ^ 62) (number_in c.args.self.now c.args.kept.now c.args.self.now.row c.loop-place.place) = AllWithin-number_at (2 ^ 62) c.args.kept.now (c.args.self.now.row * (c.args.self.now.columns + 1) + c.loop-place.place) c.requires.step.table.kept_size in
-    let small = c.requires.small.at c.loop-place.place c.loop-place-test.true in
-    rw (read_result c.factor-factor.result c.factor-factor.type_inv, read_short c.factor-factor.result c.factor-factor.ensures.size, c.factor-factor.ensures.value, read_short (number_in c.args.self.now c.args.kept.now c.args.self.now.row c.loop-place.place) pivot) (second_fits (factor_of c.args.self.now c.args.kept.now c.args.row) (number_in c.args.self.now c.args.kept.now c.args.self.now.row c.loop-place.place) (unsigned_abs (multiplier_of c.args.self.now c.args.row) * unsigned_abs (number_in c.args.self.now c.args.kept.now c.args.row c.loop-place.place)) small)
-
-pub overflow_sub-number : goal.overflow_sub-number
-overflow_sub-number c =
-    let own : IsWithin (2 ^ 62) (number_in c.args.self.now c.args.kept.now c.args.row c.loop-place.place) = AllWithin-number_at (2 ^ 62) c.args.kept.now (c.args.row * (c.args.self.now.columns + 1) + c.loop-place.place) c.requires.step.table.kept_size in
-    let pivot : IsWithin (2 ^ 62) (number_in c.args.self.now c.args.kept.now c.args.self.now.row c.loop-place.place) = AllWithin-number_at (2 ^ 62) c.args.kept.now (c.args.self.now.row * (c.args.self.now.columns + 1) + c.loop-place.place) c.requires.step.table.kept_size in
-    let small = c.requires.small.at c.loop-place.place c.loop-place-test.true in
-    rw (
-      read_result c.multiplier-multiplier.result c.multiplier-multiplier.type_inv,
-      read_short c.multiplier-multiplier.result c.multiplier-multiplier.ensures.size,
-      c.multiplier-multiplier.ensures.value,
-      read_result c.factor-factor.result c.factor-factor.type_inv,
-      read_short c.factor-factor.result c.factor-factor.ensures.size,
-      c.factor-factor.ensures.value,
-      read_short (number_in c.args.self.now c.args.kept.now c.args.row c.loop-place.place) own,
-      read_short (number_in c.args.self.now c.args.kept.now c.args.self.now.row c.loop-place.place) pivot,
-      to_z-of_z w64 (multiplier_of c.args.self.now c.args.row *ℤ number_in c.args.self.now c.args.kept.now c.args.row c.loop-place.place) (first_fits (multiplier_of c.args.self.now c.args.row) (number_in c.args.self.now c.args.kept.now c.args.row c.loop-place.place) (unsigned_abs (factor_of c.args.self.now c.args.kept.now c.args.row) * unsigned_abs (number_in c.args.self.now c.args.kept.now c.args.self.now.row c.loop-place.place)) small),
-      to_z-of_z w64 (factor_of c.args.self.now c.args.kept.now c.args.row *ℤ number_in c.args.self.now c.args.kept.now c.args.self.now.row c.loop-place.place) (second_fits (factor_of c.args.self.now c.args.kept.now c.args.row) (number_in c.args.self.now c.args.kept.now c.args.self.now.row c.loop-place.place) (unsigned_abs (multiplier_of c.args.self.now c.args.row) * unsigned_abs (number_in c.args.self.now c.args.kept.now c.args.row c.loop-place.place)) small),
-    ) (both_fit (multiplier_of c.args.self.now c.args.row) (number_in c.args.self.now c.args.kept.now c.args.row c.loop-place.place) (factor_of c.args.self.now c.args.kept.now c.args.row) (number_in c.args.self.now c.args.kept.now c.args.self.now.row c.loop-place.place) small)
-
-pub bounds-fresh-start : goal.bounds-fresh-start
-bounds-fresh-start c =
-    omega (arith, place_inside (c.args.self.now.columns + 1) c.args.row c.loop-place.place (c.args.self.now.rows + 2) c.loop-place-test.true c.requires.row, c.loop-place.invariant.2.kept_length)
+pub cross-number-requires-clause-taken : goal.cross-number-requires-clause-taken
+cross-number-requires-clause-taken c =
+    let taken : IsWithin (2 ^ 62) (number_in c.args.self.now c.args.kept.now c.args.self.now.row c.loop-place.place) = AllWithin-number_at (2 ^ 62) c.args.kept.now (c.args.self.now.row * (c.args.self.now.columns + 1) + c.loop-place.place) c.requires.step.table.kept_size in
+    rw (c.from-taken.ensures, read_short (number_in c.args.self.now c.args.kept.now c.args.self.now.row c.loop-place.place) taken, read_small (number_in c.args.self.now c.args.kept.now c.args.self.now.row c.loop-place.place) taken) taken
 
 pub loop-place-preserved : goal.loop-place-preserved
 loop-place-preserved c =
-    let own : IsWithin (2 ^ 62) (number_in c.args.self.now c.args.kept.now c.args.row c.loop-place.place) = AllWithin-number_at (2 ^ 62) c.args.kept.now (c.args.row * (c.args.self.now.columns + 1) + c.loop-place.place) c.requires.step.table.kept_size in
-    let pivot : IsWithin (2 ^ 62) (number_in c.args.self.now c.args.kept.now c.args.self.now.row c.loop-place.place) = AllWithin-number_at (2 ^ 62) c.args.kept.now (c.args.self.now.row * (c.args.self.now.columns + 1) + c.loop-place.place) c.requires.step.table.kept_size in
-    let small = c.requires.small.at c.loop-place.place c.loop-place-test.true in
     let inside : c.args.row * (c.args.self.now.columns + 1) + c.loop-place.place < length c.loop-place.fresh =
     omega (arith, place_inside (c.args.self.now.columns + 1) c.args.row c.loop-place.place (c.args.self.now.rows + 2) c.loop-place-test.true c.requires.row, c.loop-place.invariant.2.kept_length) in
-    let told = rw (
-      read_result c.multiplier-multiplier.result c.multiplier-multiplier.type_inv,
-      read_short c.multiplier-multiplier.result c.multiplier-multiplier.ensures.size,
-      c.multiplier-multiplier.ensures.value,
-      read_result c.factor-factor.result c.factor-factor.type_inv,
-      read_short c.factor-factor.result c.factor-factor.ensures.size,
-      c.factor-factor.ensures.value,
+    let own : IsWithin (2 ^ 62) (number_in c.args.self.now c.args.kept.now c.args.row c.loop-place.place) = AllWithin-number_at (2 ^ 62) c.args.kept.now (c.args.row * (c.args.self.now.columns + 1) + c.loop-place.place) c.requires.step.table.kept_size in
+    let taken : IsWithin (2 ^ 62) (number_in c.args.self.now c.args.kept.now c.args.self.now.row c.loop-place.place) = AllWithin-number_at (2 ^ 62) c.args.kept.now (c.args.self.now.row * (c.args.self.now.columns + 1) + c.loop-place.place) c.requires.step.table.kept_size in
+    let number : c.cross-number.result ≡ multiplier_of c.args.self.now c.args.row *ℤ number_in c.args.self.now c.args.kept.now c.args.row c.loop-place.place -ℤ factor_of c.args.self.now c.args.kept.now c.args.row *ℤ number_in c.args.self.now c.args.kept.now c.args.self.now.row c.loop-place.place =
+    (rw (
+      c.from-own.ensures,
+      c.from-taken.ensures,
       read_short (number_in c.args.self.now c.args.kept.now c.args.row c.loop-place.place) own,
-      read_short (number_in c.args.self.now c.args.kept.now c.args.self.now.row c.loop-place.place) pivot,
-      to_z-of_z w64 (multiplier_of c.args.self.now c.args.row *ℤ number_in c.args.self.now c.args.kept.now c.args.row c.loop-place.place) (first_fits (multiplier_of c.args.self.now c.args.row) (number_in c.args.self.now c.args.kept.now c.args.row c.loop-place.place) (unsigned_abs (factor_of c.args.self.now c.args.kept.now c.args.row) * unsigned_abs (number_in c.args.self.now c.args.kept.now c.args.self.now.row c.loop-place.place)) small),
-      to_z-of_z w64 (factor_of c.args.self.now c.args.kept.now c.args.row *ℤ number_in c.args.self.now c.args.kept.now c.args.self.now.row c.loop-place.place) (second_fits (factor_of c.args.self.now c.args.kept.now c.args.row) (number_in c.args.self.now c.args.kept.now c.args.self.now.row c.loop-place.place) (unsigned_abs (multiplier_of c.args.self.now c.args.row) * unsigned_abs (number_in c.args.self.now c.args.kept.now c.args.row c.loop-place.place)) small),
-      to_z-of_z w64 (multiplier_of c.args.self.now c.args.row *ℤ number_in c.args.self.now c.args.kept.now c.args.row c.loop-place.place -ℤ factor_of c.args.self.now c.args.kept.now c.args.row *ℤ number_in c.args.self.now c.args.kept.now c.args.self.now.row c.loop-place.place) (both_fit (multiplier_of c.args.self.now c.args.row) (number_in c.args.self.now c.args.kept.now c.args.row c.loop-place.place) (factor_of c.args.self.now c.args.kept.now c.args.row) (number_in c.args.self.now c.args.kept.now c.args.self.now.row c.loop-place.place) small),
-    ) at c.in-Some.ensures in
+      read_small (number_in c.args.self.now c.args.kept.now c.args.row c.loop-place.place) own,
+      read_short (number_in c.args.self.now c.args.kept.now c.args.self.now.row c.loop-place.place) taken,
+      read_small (number_in c.args.self.now c.args.kept.now c.args.self.now.row c.loop-place.place) taken,
+    ) at c.cross-number.ensures)
+    ∙ ap₂ (λ m f. m *ℤ number_in c.args.self.now c.args.kept.now c.args.row c.loop-place.place -ℤ f *ℤ number_in c.args.self.now c.args.kept.now c.args.self.now.row c.loop-place.place) c.requires.weights.multiplier c.requires.weights.factor in
+    let told = rw (read_result c.cross-number.result c.cross-number.type_inv, number) at c.in-Some.ensures in
     let most : unsigned_abs c.in-Some.quotient ≤ c.args.quick.now.most = told.1 in
     let within : IsWithin c.args.self.now.limit c.in-Some.quotient = record { within = omega (arith, most, c.requires.most) } in
     rw (read_short c.in-Some.quotient (IsWithin-wider c.args.self.now.limit (2 ^ 62) c.in-Some.quotient c.requires.step.table.limit_size within)) (
