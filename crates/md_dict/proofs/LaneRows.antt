@@ -1,6 +1,6 @@
 -- New numbers that are made of numbers of 32 bits: the sizes of their products, and the runs in which they are written.
-use Rattle.std.proofs.Common.{◌≡◌, ◌≢◌, ℕ, ◌+◌, ◌-◌, ◌*◌, ◌^◌, ◌<◌, ◌≤◌, ◌&&◌, ne_eqb, Bool, IsTrue, bit_or, List, ◌++◌, length, take, drop, set, ℤ, pos, ◌-ℤ◌, ◌*ℤ◌, to_z, of_z, FitsSigned, refl, sym, ap, ◌∙◌, subst, inl, inr, lit<, arith, get_or-set_same, get_or-set_other, mul-le-mul_right}
-use Rattle.std.proofs.lemmas.Bool.{and_parts, cases_lt, cases_eq}
+use Rattle.std.proofs.Common.{◌≡◌, ◌≢◌, ℕ, ◌+◌, ◌-◌, ◌*◌, ◌^◌, ◌<◌, ◌≤◌, ne_eqb, bit_or, List, ◌++◌, length, take, drop, set, ℤ, pos, ◌-ℤ◌, ◌*ℤ◌, to_z, of_z, FitsSigned, refl, sym, ap, ◌∙◌, subst, inl, inr, lit<, arith, get_or-set_same, get_or-set_other, mul-le-mul_right}
+use Rattle.std.proofs.lemmas.Bool.{cases_lt, cases_eq}
 use Rattle.std.proofs.lemmas.Int.{ints, to_z-of_z}
 use Rattle.std.proofs.lemmas.List.{get_or-take, get_or-drop, get_or_append_left, get_or-append_right, length-take-le, length-append, length-drop}
 use Rattle.std.proofs.lemmas.Nat.{le_or_l, le_or_r}
@@ -55,26 +55,26 @@ short_product a b p q = fits_from_IsWithin w64 ((2 ^ 31 - 1) * 2 ^ 31) (a *ℤ b
 -- ---- one run
 
 -- one more place of a run: the tests of all places so far are joined
-pub AreQuotients-more : (lanes : Lanes) (factors old pivot new : List ℤ) (n seen more : ℕ) (before here : Bool) (q : ℤ) → n < length new → (IsTrue before → seen < 2 ^ 32 → AreQuotients lanes factors old pivot new n) → (IsTrue here → more < 2 ^ 32 → number_at lanes.divisors n *ℤ q ≡ number_at lanes.multipliers n *ℤ number_at old n -ℤ number_at factors n *ℤ number_at pivot n) → IsTrue (before && here) → bit_or seen more < 2 ^ 32 → AreQuotients lanes factors old pivot (set new n q) (n + 1)
-AreQuotients-more lanes factors old pivot new n seen more before here q inside h e t l = record {
+pub AreQuotients-more : (lanes : Lanes) (factors old pivot new : List ℤ) (n seen more wrong gap : ℕ) (q : ℤ) → n < length new → (wrong < 1 → seen < 2 ^ 32 → AreQuotients lanes factors old pivot new n) → (gap ≡ 0 → more < 2 ^ 32 → number_at lanes.divisors n *ℤ q ≡ number_at lanes.multipliers n *ℤ number_at old n -ℤ number_at factors n *ℤ number_at pivot n) → bit_or wrong gap < 1 → bit_or seen more < 2 ^ 32 → AreQuotients lanes factors old pivot (set new n q) (n + 1)
+AreQuotients-more lanes factors old pivot new n seen more wrong gap q inside h e t l = record {
   at = λ k b.
       elim (cases_eq k n) [
         | inl same ↦
             subst (λ i. number_at lanes.divisors i *ℤ number_at (set new n q) i ≡ number_at lanes.multipliers i *ℤ number_at old i -ℤ number_at factors i *ℤ number_at pivot i) (sym same)
-            (ap (λ z. number_at lanes.divisors n *ℤ z) (get_or-set_same new n q (pos 0) inside) ∙ e (and_parts before here t).1 (omega (arith, le_or_r seen more)))
-        | inr o ↦ ap (λ z. number_at lanes.divisors k *ℤ z) (get_or-set_other new n k q (pos 0) o) ∙ (h (and_parts before here t).0 (omega (arith, le_or_l seen more))).at k (omega arith)
+            (ap (λ z. number_at lanes.divisors n *ℤ z) (get_or-set_same new n q (pos 0) inside) ∙ e (omega (arith, le_or_r wrong gap)) (omega (arith, le_or_r seen more)))
+        | inr o ↦ ap (λ z. number_at lanes.divisors k *ℤ z) (get_or-set_other new n k q (pos 0) o) ∙ (h (omega (arith, le_or_l wrong gap)) (omega (arith, le_or_l seen more))).at k (omega arith)
       ];
 }
 
 -- one more place of a run from which the pivot row is not taken
-pub AreScaled-more : (lanes : Lanes) (old new : List ℤ) (n seen more : ℕ) (before here : Bool) (q : ℤ) → n < length new → (IsTrue before → seen < 2 ^ 32 → AreScaled lanes old new n) → (IsTrue here → more < 2 ^ 32 → number_at lanes.divisors n *ℤ q ≡ number_at lanes.multipliers n *ℤ number_at old n) → IsTrue (before && here) → bit_or seen more < 2 ^ 32 → AreScaled lanes old (set new n q) (n + 1)
-AreScaled-more lanes old new n seen more before here q inside h e t l = record {
+pub AreScaled-more : (lanes : Lanes) (old new : List ℤ) (n seen more wrong gap : ℕ) (q : ℤ) → n < length new → (wrong < 1 → seen < 2 ^ 32 → AreScaled lanes old new n) → (gap ≡ 0 → more < 2 ^ 32 → number_at lanes.divisors n *ℤ q ≡ number_at lanes.multipliers n *ℤ number_at old n) → bit_or wrong gap < 1 → bit_or seen more < 2 ^ 32 → AreScaled lanes old (set new n q) (n + 1)
+AreScaled-more lanes old new n seen more wrong gap q inside h e t l = record {
   at = λ k b.
       elim (cases_eq k n) [
         | inl same ↦
             subst (λ i. number_at lanes.divisors i *ℤ number_at (set new n q) i ≡ number_at lanes.multipliers i *ℤ number_at old i) (sym same)
-            (ap (λ z. number_at lanes.divisors n *ℤ z) (get_or-set_same new n q (pos 0) inside) ∙ e (and_parts before here t).1 (omega (arith, le_or_r seen more)))
-        | inr o ↦ ap (λ z. number_at lanes.divisors k *ℤ z) (get_or-set_other new n k q (pos 0) o) ∙ (h (and_parts before here t).0 (omega (arith, le_or_l seen more))).at k (omega arith)
+            (ap (λ z. number_at lanes.divisors n *ℤ z) (get_or-set_same new n q (pos 0) inside) ∙ e (omega (arith, le_or_r wrong gap)) (omega (arith, le_or_r seen more)))
+        | inr o ↦ ap (λ z. number_at lanes.divisors k *ℤ z) (get_or-set_other new n k q (pos 0) o) ∙ (h (omega (arith, le_or_l wrong gap)) (omega (arith, le_or_l seen more))).at k (omega arith)
       ];
 }
 

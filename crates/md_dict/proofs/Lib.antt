@@ -1,9 +1,12 @@
 mod Building
 pub mod Cancelling
 mod Change
+mod Contents
 pub mod Exchange
 pub mod Exchanged
 mod Readers
+mod FaceRow
+mod FirstRows
 mod LaneRows
 mod NewNumbers
 mod Parts

@@ -71,6 +71,10 @@ old_number-here step kept i = rw (eq-eqb step.place step.place refl) refl
 pub raw_beside : (step : Step) (kept : List ℤ) (i s : ℕ) → s ≢ step.place → raw_number step kept i s ≡ multiplier_of step i *ℤ number_in step kept i s -ℤ factor_of step kept i *ℤ number_in step kept step.row s
 raw_beside step kept i s o = ap₂ (λ x y. multiplier_of step i *ℤ x -ℤ factor_of step kept i *ℤ y) (old_number-beside step kept i s o) (old_number-beside step kept step.row s o)
 
+-- where the pivot row is not taken from the row
+pub raw_scaled : (step : Step) (kept : List ℤ) (i s : ℕ) → factor_of step kept i ≡ pos 0 → s ≢ step.place → raw_number step kept i s ≡ multiplier_of step i *ℤ number_in step kept i s
+raw_scaled step kept i s e o = raw_beside step kept i s o ∙ rw e (omega (arith, ints))
+
 -- ---- one row
 
 pub AreFilled-none : (step : Step) (d : ℤ) (kept new : List ℤ) (i : ℕ) → AreFilled step d kept new i 0

@@ -1,6 +1,6 @@
 -- Numbers that are read back from their bits, and the sizes of products of two kept numbers.
-use Rattle.std.proofs.Common.{◌≡◌, ℕ, ◌+◌, ◌-◌, ◌*◌, ◌^◌, ◌<◌, ◌≤◌, ℤ, ◌-ℤ◌, ◌*ℤ◌, to_z, of_z, SFits, FitsSigned, unsigned_abs, lit<, mul-le-mul, mul-le-mul_right, ap, ◌∙◌, arith}
-use Rattle.std.proofs.lemmas.Int.{to_z-of_z, fits_signed_from_abs, unsigned_abs-mul}
+use Rattle.std.proofs.Common.{◌≡◌, ◌+◌, ◌-◌, ◌*◌, ◌^◌, ◌<◌, ◌≤◌, ℤ, ◌-ℤ◌, ◌*ℤ◌, to_z, of_z, SFits, FitsSigned, unsigned_abs, lit<, mul-le-mul, ap, ◌∙◌, arith}
+use Rattle.std.proofs.lemmas.Int.{to_z-of_z, fits_signed_from_abs}
 use lib.Signed.{mag}
 use mir.Syntax.{w128, w64}
 use Rattle.md_math.specs.Sizes.{IsWithin}
@@ -34,28 +34,7 @@ read_whole z small = to_z-of_z w64 z (fits_from_IsWithin w64 (2 ^ 63 - 1) z smal
 pub read_cast_whole : (z : ℤ) → SFits w128 z → IsWithin (2 ^ 63 - 1) z → to_z w64 (of_z w64 (to_z w128 (of_z w128 z))) ≡ z
 read_cast_whole z fits small = ap (λ y. to_z w64 (of_z w64 y)) (read z fits) ∙ read_whole z small
 
--- the product of two numbers whose sizes have 63 bits together
-pub product_fits : (a b : ℤ) (most : ℕ) → unsigned_abs b ≤ most → most * unsigned_abs a < 2 ^ 63 → FitsSigned w64 (a *ℤ b)
-product_fits a b most le room =
-    let size : unsigned_abs (a *ℤ b) ≡ unsigned_abs a * unsigned_abs b = unsigned_abs-mul a b in
-    let more : unsigned_abs b * unsigned_abs a ≤ most * unsigned_abs a = mul-le-mul_right (unsigned_abs a) le in
-    fits_signed_from_abs w64 (a *ℤ b) (omega (arith, size, more))
-
--- two products whose sizes have 63 bits together, and their difference
-pub first_fits : (a x : ℤ) (n : ℕ) → unsigned_abs a * unsigned_abs x + n < 2 ^ 63 → FitsSigned w64 (a *ℤ x)
-first_fits a x n small = let size : unsigned_abs (a *ℤ x) ≡ unsigned_abs a * unsigned_abs x = unsigned_abs-mul a x in fits_signed_from_abs w64 (a *ℤ x) (omega (arith, size))
-
-pub second_fits : (b y : ℤ) (n : ℕ) → n + unsigned_abs b * unsigned_abs y < 2 ^ 63 → FitsSigned w64 (b *ℤ y)
-second_fits b y n small = let size : unsigned_abs (b *ℤ y) ≡ unsigned_abs b * unsigned_abs y = unsigned_abs-mul b y in fits_signed_from_abs w64 (b *ℤ y) (omega (arith, size))
-
-pub both_fit : (a x b y : ℤ) → unsigned_abs a * unsigned_abs x + unsigned_abs b * unsigned_abs y < 2 ^ 63 → FitsSigned w64 (a *ℤ x -ℤ b *ℤ y)
-both_fit a x b y small =
-    let first : unsigned_abs (a *ℤ x) ≡ unsigned_abs a * unsigned_abs x = unsigned_abs-mul a x in
-    let second : unsigned_abs (b *ℤ y) ≡ unsigned_abs b * unsigned_abs y = unsigned_abs-mul b y in
-    let whole : IsWithin (unsigned_abs (a *ℤ x) + unsigned_abs (b *ℤ y)) (a *ℤ x -ℤ b *ℤ y) = IsWithin-sub (unsigned_abs (a *ℤ x)) (unsigned_abs (b *ℤ y)) (a *ℤ x) (b *ℤ y) (record { within = omega arith }) (record { within = omega arith }) in
-    fits_signed_from_abs w64 (a *ℤ x -ℤ b *ℤ y) (omega (arith, first, second, whole.within))
-
--- the product of two such numbers
+-- the product of two numbers of 62 bits
 pub product_small : (a b : ℤ) → IsWithin (2 ^ 62) a → IsWithin (2 ^ 62) b → unsigned_abs (a *ℤ b) < 2 ^ 126
 product_small a b p q = let h : IsWithin (2 ^ 62 * 2 ^ 62) (a *ℤ b) = IsWithin-*ℤ (2 ^ 62) (2 ^ 62) a b p q in omega (arith, h.within)
 

@@ -1,5 +1,5 @@
 -- The greatest common divisor of the raw numbers, one number and one row at a time.
-use Rattle.std.proofs.Common.{◌≡◌, ℕ, ◌+◌, ◌<◌, List, ℤ, pos, ◌*ℤ◌, ◌≤ℤ◌, ◌<ℤ◌, unsigned_abs, refl, ne_eqb, subst, inl, inr, arith}
+use Rattle.std.proofs.Common.{◌≡◌, ℕ, ◌+◌, ◌<◌, ◌≤◌, List, ℤ, pos, ◌*ℤ◌, ◌≤ℤ◌, ◌<ℤ◌, unsigned_abs, refl, ne_eqb, subst, inl, inr, arith}
 use Rattle.std.proofs.lemmas.Bool.{cases_lt}
 use Rattle.md_math.specs.Divisors.{Divides, IsGcdOfTwo}
 use Rattle.md_math.proofs.Division.{Divides_trans, Divides_refl}
@@ -7,7 +7,7 @@ use Rattle.md_math.proofs.Order.{positive-*ℤ}
 use Rattle.std.proofs.lemmas.Int.{ints}
 use Rattle.std.proofs.Math.Nat as NatL
 use Rattle.md_dict.specs.declared.step.Step.{Step}
-use Rattle.md_dict.specs.Step.{raw_number, old_number, multiplier_of, factor_of, IsApart, IsRowDivisor, IsStepDivisor}
+use Rattle.md_dict.specs.Step.{raw_number, old_number, multiplier_of, factor_of, DividesFrom, IsApart, IsRowDivisor, IsStepDivisor}
 
 -- what divides a positive number and is not negative is positive
 pub positive_divisor : (b g : ℤ) → pos 0 <ℤ b → Divides g b → pos 0 ≤ℤ g → pos 0 <ℤ g
@@ -36,6 +36,33 @@ IsRowDivisor-more step kept i n before d g h q = record {
         ];
   };
   greatest = λ x a b. q.greatest x (h.greatest x a (record { at = λ s c. b.at s (omega arith) })) (b.at n (omega arith));
+}
+
+-- a divisor that divides more places of the row stays
+pub IsRowDivisor-further : (step : Step) (kept : List ℤ) (i n k : ℕ) (before d : ℤ) → n ≤ k → IsRowDivisor step kept i n before d → DividesFrom step kept i n k d → IsRowDivisor step kept i k before d
+IsRowDivisor-further step kept i n k before d l h q = record {
+  positive = h.positive;
+  of_before = h.of_before;
+  of_places = record {
+    at = λ s b.
+        elim (cases_lt s n) [
+          | inl m ↦ h.of_places.at s m
+          | inr m ↦ q.at s m b
+        ];
+  };
+  greatest = λ x a b. h.greatest x a (record { at = λ s c. b.at s (omega arith) });
+}
+
+pub DividesFrom-none : (step : Step) (kept : List ℤ) (i n : ℕ) (d : ℤ) → DividesFrom step kept i n n d
+DividesFrom-none step kept i n d = record { at = λ s a b. absurd (omega arith) }
+
+pub DividesFrom-more : (step : Step) (kept : List ℤ) (i n k : ℕ) (d : ℤ) → DividesFrom step kept i n k d → Divides d (raw_number step kept i k) → DividesFrom step kept i n (k + 1) d
+DividesFrom-more step kept i n k d h q = record {
+  at = λ s a b.
+      elim (cases_lt s k) [
+        | inl l ↦ h.at s a l
+        | inr l ↦ (let same : k ≡ s = omega arith in subst (λ m. Divides d (raw_number step kept i m)) same q)
+      ];
 }
 
 pub IsStepDivisor-none : (step : Step) (kept : List ℤ) → pos 0 <ℤ step.den → pos 0 <ℤ step.pivot → IsStepDivisor step kept 0 (step.den *ℤ step.pivot)

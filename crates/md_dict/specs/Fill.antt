@@ -6,16 +6,16 @@ use Rattle.md_dict.specs.declared.step.Step.{Step}
 use Rattle.md_dict.specs.declared.quick.QuickDivider.{QuickDivider}
 use Rattle.md_dict.specs.declared.lanes.Lanes.{Lanes}
 use Rattle.md_dict.specs.Lanes.{AreLanes}
-use Rattle.md_dict.specs.declared.fill.Filling.{Filling}
-use Rattle.md_dict.specs.declared.fill.Weights.{Weights}
+use Rattle.md_dict.specs.declared.filling.Filling.{Filling}
+use Rattle.md_dict.specs.declared.weights.Weights.{Weights}
 use Rattle.md_dict.specs.declared.fill.Unfit.{Unfit}
 use Rattle.md_dict.specs.declared.fill.Unfit.TheVariants.{Indivisible, TooWide}
 use Rattle.md_dict.specs.Step.{number_in, multiplier_of, factor_of, raw_number, DividesRows, IsApart, IsStepDivisor, AreRowsNarrow}
 
--- what the numbers of a row and those of the pivot row are multiplied by
+-- what the numbers of a row and those of the pivot row are multiplied by, both divided by the content
 pub record AreWeights (step : Step) (kept : List ℤ) (i : ℕ) (weights : Weights) : Type 0 where
-  pub multiplier : weights.multiplier ≡ multiplier_of step i
-  pub factor : weights.factor ≡ factor_of step kept i
+  pub multiplier : weights.content *ℤ weights.multiplier ≡ multiplier_of step i
+  pub factor : weights.content *ℤ weights.factor ≡ factor_of step kept i
   pub multiplier_size : IsWithin (2 ^ 62) weights.multiplier
   pub factor_size : IsWithin (2 ^ 62) weights.factor
 
@@ -23,7 +23,7 @@ pub record AreWeights (step : Step) (kept : List ℤ) (i : ℕ) (weights : Weigh
 pub record IsQuick (d : ℤ) (limit : ℕ) (divider : QuickDivider) : Type 0 where
   pub value : divider.value ≡ d
   pub size : IsWithin (2 ^ 63 - 1) divider.value
-  pub most : divider.most ≤ limit
+  pub most : divider.guess.most ≤ limit
 
 -- they multiply by the pivot and divide by d, and the numbers of the pivot row have 31 bits, of which the limit has no fewer
 pub record AreLanesFor (step : Step) (kept : List ℤ) (d : ℤ) (lanes : Lanes) : Type 0 where
@@ -32,11 +32,26 @@ pub record AreLanesFor (step : Step) (kept : List ℤ) (d : ℤ) (lanes : Lanes)
   pub limit : 2 ^ 31 ≤ step.limit
   pub reach : (s : ℕ) → s < step.columns + 1 → unsigned_abs (number_in step kept step.row s) < 2 ^ 31
 
+-- a positive number that divides d, the pivot, and how often the pivot row is taken from each of the first n rows
+pub record IsContent (step : Step) (kept : List ℤ) (d : ℤ) (n : ℕ) (content : ℤ) : Type 0 where
+  pub positive : pos 0 <ℤ content
+  pub size : unsigned_abs content < 2 ^ 126
+  pub of_divisor : Divides content d
+  pub of_pivot : Divides content step.pivot
+  pub of_factors : (i : ℕ) → i < n → Divides content (factor_of step kept i)
+
+-- it divides by a number that, times the content, is d, and its quotients are within a limit
+pub record IsQuickFor (content d : ℤ) (limit : ℕ) (divider : QuickDivider) : Type 0 where
+  pub value : content *ℤ divider.value ≡ d
+  pub size : IsWithin (2 ^ 63 - 1) divider.value
+  pub most : divider.guess.most ≤ limit
+
 -- what the new numbers are made with: a positive divisor
 pub record IsFilling (step : Step) (kept : List ℤ) (filling : Filling) : Type 0 where
   pub positive : pos 0 <ℤ filling.divider.value
   pub size : unsigned_abs filling.divider.value < 2 ^ 126
-  pub quick : IfSome filling.quick (IsQuick filling.divider.value step.limit)
+  pub content : IsContent step kept filling.divider.value (step.rows + 2) filling.content
+  pub quick : IfSome filling.quick (IsQuickFor filling.content filling.divider.value step.limit)
   pub lanes : IfSome filling.lanes (AreLanesFor step kept filling.divider.value)
 
 -- a row that a pivot leaves as it is: it is multiplied and divided by the same number, and the pivot row is not taken from it. The face row is none of these, since it may have another number in the leaving column

@@ -2,6 +2,7 @@ pub mod Condensed
 pub mod Dictionary
 pub mod Exchange
 pub mod Fill
+pub mod FirstRows
 pub mod FirstTable
 pub mod Lanes
 pub mod Pivot

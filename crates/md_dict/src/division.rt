@@ -8,8 +8,8 @@ use md_num::{exact_quotient, gcd};
 pub struct Divider {
     pub value: i128,
     low: u64,
-    shift: u32,
-    inverse: u64,
+    pub shift: u32,
+    pub inverse: u64,
 }
 
 impl Divider {
@@ -26,13 +26,24 @@ impl Divider {
         }
     }
 
+    // The product with a number, where it has 128 bits.
+    fn product(&self, x: u64) -> Option<u128>
+        ensures { IfSome result (λ y. unsigned_abs self.now.value * x ≡ y) }
+    {
+        let size = self.value.unsigned_abs();
+        if size == u128::from(self.low) {
+            Some(u128::from(self.low) * u128::from(x))
+        } else {
+            size.checked_mul(u128::from(x))
+        }
+    }
+
     // The quotient of a size, where the guess is right.
     fn guess(&self, size: u128) -> Option<u64>
         ensures { IfSome result (λ q. unsigned_abs self.now.value * q ≡ size) }
     {
         let quotient = lowest_bits(size >> (self.shift % 64)).wrapping_mul(self.inverse);
-        let product = u128::from(self.low) * u128::from(quotient);
-        if product == size && u128::from(self.low) == self.value.unsigned_abs() {
+        if self.product(quotient)? == size {
             Some(quotient)
         } else {
             None
@@ -49,6 +60,20 @@ impl Divider {
         match self.guess(x.unsigned_abs()) {
             Some(size) => Some(with_sign(x < 0, size)),
             None => quotient(x, self.value),
+        }
+    }
+
+    // The quotient of a number that it divides.
+    pub fn quotient(&self, x: i128) -> i128
+        requires positive { pos 0 <ℤ self.now.value }
+        requires value_size { unsigned_abs self.now.value < 2 ^ 126 }
+        requires size { unsigned_abs x < 2 ^ 126 }
+        requires exact { Divides self.now.value x }
+        ensures { self.now.value *ℤ result ≡ x }
+    {
+        match self.guess(x.unsigned_abs()) {
+            Some(size) => with_sign(x < 0, size),
+            None => exact_quotient(x, self.value),
         }
     }
 

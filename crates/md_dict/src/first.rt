@@ -1,13 +1,15 @@
-ghost use Rattle.std.specs.Prelude.{◌≡◌, ◌+◌, ◌*◌, ◌^◌, ◌<◌, ◌≤◌, ℕ, ℤ, neg_ℤ, ◌*ℤ◌, length, IfOk, MatchOption, OnOk};
+ghost use Rattle.std.specs.Prelude.{◌≡◌, ℕ, ◌+◌, ◌-◌, ◌*◌, ◌^◌, ◌<◌, ◌≤◌, ℤ, pos, negsuc, int_lt, neg_ℤ, ◌-ℤ◌, ◌*ℤ◌, [], ◌∷◌, ◌++◌, length, replicate, if◌then◌else◌, IfOk, MatchOption, OnOk};
 ghost use Rattle.md_math.specs.Lists.{list_to, number_at};
 ghost use Rattle.md_math.specs.Sums.{sum_to};
 ghost use Rattle.md_math.specs.Sizes.{AllWithin, IsWithin};
 ghost use Rattle.md_math.specs.FirstFailure.{HoldsBelow, IsFirstFailure};
-ghost use Rattle.md_lp.specs.Program.{kind_at, row_count};
-ghost use Rattle.md_dict.specs.FirstTable.{sign_at, column_count, first_column, first_entry, first_number, main_entry, row_entry, slacks_before};
+ghost use Rattle.md_lp.specs.Program.{right_at, row_count};
+ghost use Rattle.md_dict.specs.FirstTable.{column_count, slacks_before};
+ghost use Rattle.md_dict.specs.FirstRows.{IsBuiltBefore};
 ghost use Rattle.md_dict.specs.Start.{IsBuilt, IsFirstWidePlace};
 ghost use Rattle.md_dict.specs.Wide.{IsFirstWide, IsNarrow};
 
+use crate::sizes::are_surely_within;
 use crate::wide::is_within;
 use md_lp::{Entry, Lp, RowKind};
 use md_num::NoMemory;
@@ -27,93 +29,67 @@ pub fn first_columns(lp: &Lp) -> u32
     columns
 }
 
-// A number times the sign of a row: minus where the row's right side is negative.
-fn signed(lp: &Lp, row: u32, x: i128) -> i128
-    requires row { row < row_count lp.now }
+// A number times the sign of a row, which is minus where the row's right side is negative.
+fn signed(negative: bool, x: i128) -> i128
     requires size { IsWithin (2 ^ 44) x }
-    ensures value { result ≡ sign_at lp.now row *ℤ x }
+    ensures value { result ≡ (if negative then negsuc 0 else pos 1) *ℤ x }
     ensures size { IsWithin (2 ^ 44) result }
 {
-    if lp.right(row) < 0 { -x } else { x }
+    if negative { -x } else { x }
 }
 
-// The number of a program row at a kept place; the row's slack column, if it has one, is `slack`.
-fn row_number(lp: &Lp, columns: u32, slack: u32, row: u32, place: u32) -> i128
+// Appends zeros up to a length, and then a number.
+fn push_at(kept: &mut Vec<i64>, at: usize, number: i128) -> Result<(), NoMemory>
+    requires at { length kept.old.items ≤ at }
+    requires number { IsWithin (2 ^ 62) number }
+    ensures items { OnOk result (kept.new.items ≡ kept.old.items ++ (replicate (at - length kept.old.items) (pos 0) ++ number ∷ [])) }
+{
+    if kept.len() < at {
+        kept.resize(at, 0)?;
+    }
+    kept.push(number as i64)?;
+    Ok(())
+}
+
+// Appends the coefficients of a program row up to its last term, each times the row's sign.
+fn push_terms(kept: &mut Vec<i64>, lp: &Lp, row: u32, negative: bool) -> Result<(), NoMemory>
     requires row { row < row_count lp.now }
-    requires columns { columns ≡ column_count lp.now }
-    requires slack { slack ≡ lp.now.columns + slacks_before lp.now row }
-    requires place { place < columns + 1 }
-    ensures value { result ≡ row_entry lp.now row (first_column lp.now place) }
-    ensures size { IsWithin (2 ^ 44) result }
+    requires negative { negative ≡ int_lt (right_at lp.now row) (pos 0) }
+    requires built { IsBuilt lp.now kept.old.items }
+    requires length { length kept.old.items ≡ row * (column_count lp.now + 1) }
+    ensures { OnOk result (IsBuiltBefore lp.now row lp.now.columns kept.new.items) }
 {
-    if place < lp.columns() {
-        return signed(lp, row, lp.coefficient(row, place));
+    let start = kept.len();
+    for k in 0..lp.term_count(row) {
+        let term = lp.term(row, k);
+        let number = signed(negative, term.value);
+        push_at(kept, start + term.column as usize, number)?;
     }
-    if place >= columns {
-        return signed(lp, row, lp.right(row));
-    }
-    if place == slack && lp.kind(row) == RowKind::AtMost {
-        signed(lp, row, 1)
-    } else {
-        0
+    Ok(())
+}
+
+// Appends the number of a program row at its slack column, if it has one.
+fn push_slack(
+    kept: &mut Vec<i64>,
+    lp: &Lp,
+    at: usize,
+    row: u32,
+    negative: bool,
+) -> Result<(), NoMemory>
+    requires row { row < row_count lp.now }
+    requires negative { negative ≡ int_lt (right_at lp.now row) (pos 0) }
+    requires at { at ≡ row * (column_count lp.now + 1) + (lp.now.columns + slacks_before lp.now row) }
+    requires built { IsBuiltBefore lp.now row lp.now.columns kept.old.items }
+    ensures { OnOk result (IsBuiltBefore lp.now row (column_count lp.now) kept.new.items) }
+{
+    match lp.kind(row) {
+        RowKind::AtMost => push_at(kept, at, signed(negative, 1)),
+        RowKind::Exact => Ok(()),
     }
 }
 
-// The number of the face row at a kept place: minus the sum of the program rows, which are built.
-fn face_number(kept: &[i64], columns: u32, rows: u32, place: u32) -> i128
-    requires place { place < columns + 1 }
-    requires rows { rows ≤ 8192 }
-    requires columns { columns ≤ 73728 }
-    requires length { rows * (columns + 1) ≤ length kept.now }
-    requires size { (k : ℕ) → k < rows * (columns + 1) → IsWithin (2 ^ 44) (number_at kept.now k) }
-    ensures value { result ≡ neg_ℤ (sum_to rows (λ r. number_at kept.now (r * (columns + 1) + place))) }
-    ensures size { IsWithin (2 ^ 57) result }
-{
-    let stride = columns as usize + 1;
-    let mut sum = 0;
-    for row in 0..rows {
-        sum += i128::from(kept[row as usize * stride + place as usize]);
-    }
-    -sum
-}
-
-// The number of the main row at a kept place.
-fn main_number(lp: &Lp, place: u32) -> i128
-    ensures value { result ≡ main_entry lp.now place }
-    ensures size { IsWithin (2 ^ 44) result }
-{
-    if place < lp.columns() {
-        -lp.cost(place)
-    } else {
-        0
-    }
-}
-
-// The next number of the first dictionary, at a row and a kept place.
-fn next_number(kept: &[i64], lp: &Lp, columns: u32, slack: u32, row: u32, place: u32) -> i128
-    requires columns { columns ≡ column_count lp.now }
-    requires size { columns ≤ 73728 }
-    requires slack { row < row_count lp.now → slack ≡ lp.now.columns + slacks_before lp.now row }
-    requires row { row < row_count lp.now + 2 }
-    requires place { place < columns + 1 }
-    requires built { IsBuilt lp.now kept.now }
-    requires length { row * (columns + 1) ≤ length kept.now }
-    ensures value { result ≡ first_number lp.now row place }
-    ensures size { IsWithin (2 ^ 57) result }
-    ensures small { row < row_count lp.now → IsWithin (2 ^ 44) result }
-{
-    let rows = lp.rows();
-    if row < rows {
-        row_number(lp, columns, slack, row, place)
-    } else if row == rows {
-        face_number(kept, columns, rows, place)
-    } else {
-        main_number(lp, place)
-    }
-}
-
-// Appends a row of the first dictionary.
-fn push_row(
+// Appends a program row of the first dictionary. The row's slack column, if it has one, is `slack`.
+fn push_program_row(
     kept: &mut Vec<i64>,
     lp: &Lp,
     columns: u32,
@@ -122,18 +98,80 @@ fn push_row(
 ) -> Result<(), NoMemory>
     requires columns { columns ≡ column_count lp.now }
     requires size { columns ≤ 73728 }
-    requires slack { row < row_count lp.now → slack ≡ lp.now.columns + slacks_before lp.now row }
-    requires row { row < row_count lp.now + 2 }
+    requires row { row < row_count lp.now }
+    requires slack { slack ≡ lp.now.columns + slacks_before lp.now row }
     requires built { IsBuilt lp.now kept.old.items }
     requires length { length kept.old.items ≡ row * (columns + 1) }
     ensures built { OnOk result (IsBuilt lp.now kept.new.items) }
     ensures length { OnOk result (length kept.new.items ≡ (row + 1) * (columns + 1)) }
 {
-    for place in 0..columns + 1 {
-        let number = next_number(kept.as_slice(), lp, columns, slack, row, place);
+    let start = kept.len();
+    let right = lp.right(row);
+    let negative = right < 0;
+    push_terms(kept, lp, row, negative)?;
+    push_slack(kept, lp, start + slack as usize, row, negative)?;
+    push_at(kept, start + columns as usize, signed(negative, right))
+}
+
+// Takes from each sum the number of a row of the table at the sum's place; the row begins at `start`.
+fn subtract_row(sums: &mut [i64], kept: &[i64], start: usize)
+    requires inside { start + length sums.old ≤ length kept.now }
+    requires numbers { (s : ℕ) → s < length sums.old → IsWithin (2 ^ 44) (number_at kept.now (start + s)) }
+    requires room { AllWithin (2 ^ 60) sums.old }
+    ensures length { length sums.new ≡ length sums.old }
+    ensures value { (s : ℕ) → s < length sums.old → number_at sums.new s ≡ number_at sums.old s -ℤ number_at kept.now (start + s) }
+{
+    for place in 0..sums.len() {
+        sums[place] -= kept[start + place];
+    }
+}
+
+// The face row: minus the sum of the program rows, which are built.
+fn face_row(alloc: Global, kept: &[i64], columns: u32, rows: u32) -> Result<Vec<i64>, NoMemory>
+    requires rows { rows ≤ 8192 }
+    requires columns { columns ≤ 73728 }
+    requires length { rows * (columns + 1) ≤ length kept.now }
+    requires size { (k : ℕ) → k < rows * (columns + 1) → IsWithin (2 ^ 44) (number_at kept.now k) }
+    ensures length { IfOk result (λ face. length face.items ≡ columns + 1) }
+    ensures value { IfOk result (λ face. (s : ℕ) → s < columns + 1 → number_at face.items s ≡ neg_ℤ (sum_to rows (λ r. number_at kept.now (r * (columns + 1) + s)))) }
+{
+    let stride = columns as usize + 1;
+    let mut face = zeros(alloc, stride)?;
+    for row in 0..rows {
+        subtract_row(face.as_mut_slice(), kept, row as usize * stride);
+    }
+    Ok(face)
+}
+
+// Appends the face row of the first dictionary to the program rows.
+fn push_face_row(kept: &mut Vec<i64>, lp: &Lp, columns: u32) -> Result<(), NoMemory>
+    requires columns { columns ≡ column_count lp.now }
+    requires size { columns ≤ 73728 }
+    requires built { IsBuilt lp.now kept.old.items }
+    requires length { length kept.old.items ≡ row_count lp.now * (columns + 1) }
+    ensures built { OnOk result (IsBuilt lp.now kept.new.items) }
+    ensures length { OnOk result (length kept.new.items ≡ (row_count lp.now + 1) * (columns + 1)) }
+{
+    let face = face_row(*kept.allocator(), kept.as_slice(), columns, lp.rows())?;
+    kept.extend_from_slice(face.as_slice())?;
+    Ok(())
+}
+
+// Appends the main row of the first dictionary to the other rows.
+fn push_main_row(kept: &mut Vec<i64>, lp: &Lp, columns: u32) -> Result<(), NoMemory>
+    requires columns { columns ≡ column_count lp.now }
+    requires size { columns ≤ 73728 }
+    requires built { IsBuilt lp.now kept.old.items }
+    requires length { length kept.old.items ≡ (row_count lp.now + 1) * (columns + 1) }
+    ensures built { OnOk result (IsBuilt lp.now kept.new.items) }
+    ensures length { OnOk result (length kept.new.items ≡ (row_count lp.now + 2) * (columns + 1)) }
+{
+    let start = kept.len();
+    for place in 0..lp.columns() {
+        let number = -lp.cost(place);
         kept.push(number as i64)?;
     }
-    Ok(())
+    push_at(kept, start + columns as usize, 0)
 }
 
 // The kept numbers of the first dictionary.
@@ -144,14 +182,16 @@ pub fn first_numbers(alloc: Global, lp: &Lp, columns: u32) -> Result<Vec<i64>, N
     ensures length { IfOk result (λ kept. length kept.items ≡ (row_count lp.now + 2) * (columns + 1)) }
 {
     let rows = lp.rows();
-    let mut kept = Vec::new(alloc);
+    let mut kept = Vec::with_capacity(alloc, (rows as usize + 2) * (columns as usize + 1))?;
     let mut slack = lp.columns();
-    for row in 0..rows + 2 {
-        push_row(&mut kept, lp, columns, slack, row)?;
-        if row < rows && lp.kind(row) == RowKind::AtMost {
+    for row in 0..rows {
+        push_program_row(&mut kept, lp, columns, slack, row)?;
+        if lp.kind(row) == RowKind::AtMost {
             slack += 1;
         }
     }
+    push_face_row(&mut kept, lp, columns)?;
+    push_main_row(&mut kept, lp, columns)?;
     Ok(kept)
 }
 
@@ -190,9 +230,7 @@ pub fn zeros(alloc: Global, count: usize) -> Result<Vec<i64>, NoMemory>
     ensures zero { IfOk result (λ list. AllWithin 0 list.items) }
 {
     let mut list = Vec::with_capacity(alloc, count)?;
-    for _ in 0..count {
-        list.push(0)?;
-    }
+    list.resize(count, 0)?;
     Ok(list)
 }
 
@@ -205,6 +243,9 @@ pub fn wide_first(kept: &[i64], columns: u32, rows: u32, limit: u128) -> Option<
         ((r s : ℕ) → r < rows + 2 → s < columns + 1 → IsWithin limit (number_at kept.now (r * (columns + 1) + s)))
         (IsFirstWidePlace rows columns limit kept.now) }
 {
+    if are_surely_within(kept, limit) {
+        return None;
+    }
     for row in 0..rows + 2 {
         if let Some(place) = wide_place(kept, columns, limit, row) {
             let start = row as usize * (columns as usize + 1);

@@ -112,13 +112,13 @@ fn guess(x: i64, shift: u32, inverse: u32) -> i64
     i64::from(bits.wrapping_mul(inverse).cast_signed())
 }
 
-// Whether a number is a product.
-fn is_product(divisor: i64, quotient: i64, x: i64) -> bool
+// How far a product is above a number, which is 0 where the number is the product alone.
+fn gap(divisor: i64, quotient: i64, x: i64) -> u64
     requires divisor { IsWithin (2 ^ 31 - 1) divisor }
     requires quotient { IsShort quotient }
-    ensures { IsTrue result → divisor *ℤ quotient ≡ x }
+    ensures { result ≡ 0 → divisor *ℤ quotient ≡ x }
 {
-    low(divisor) * quotient == x
+    (low(divisor) * quotient).wrapping_sub(x).cast_unsigned()
 }
 
 // Writes the new numbers of a run, and answers whether they are right. It takes each place alike and never ends early, so that several places can be taken at a time.
@@ -144,7 +144,7 @@ fn fill_run(
 {
     let shift = lanes.shift % 64;
     let inverse = lanes.inverse;
-    let mut is_right = true;
+    let mut wrong = 0;
     let mut seen = 0;
     for place in 0..fresh.len() {
         let number = cross(
@@ -155,10 +155,10 @@ fn fill_run(
         );
         let quotient = guess(number, shift, inverse);
         seen |= from_least(old[place]);
-        is_right &= is_product(lanes.divisors[place], quotient, number);
+        wrong |= gap(lanes.divisors[place], quotient, number);
         fresh[place] = quotient;
     }
-    is_right && seen < 0x1_0000_0000
+    wrong == 0 && seen < 0x1_0000_0000
 }
 
 // Writes the new numbers of a run from which the pivot row is not taken, and answers whether they are right. It takes each place alike, as `fill_run` does.
@@ -175,16 +175,16 @@ fn scale_run(lanes: &Lanes, old: &[i64], fresh: &mut [i64]) -> bool
 {
     let shift = lanes.shift % 64;
     let inverse = lanes.inverse;
-    let mut is_right = true;
+    let mut wrong = 0;
     let mut seen = 0;
     for place in 0..fresh.len() {
         let number = scaled(lanes.multipliers[place], old[place]);
         let quotient = guess(number, shift, inverse);
         seen |= from_least(old[place]);
-        is_right &= is_product(lanes.divisors[place], quotient, number);
+        wrong |= gap(lanes.divisors[place], quotient, number);
         fresh[place] = quotient;
     }
-    seen < 0x1_0000_0000 && is_right
+    seen < 0x1_0000_0000 && wrong == 0
 }
 
 impl Step {

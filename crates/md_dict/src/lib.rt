@@ -4,7 +4,9 @@
 mod dict;
 mod division;
 mod fill;
+mod filling;
 mod first;
+mod guess;
 mod lanes;
 mod quick;
 mod refusals;
@@ -12,6 +14,7 @@ mod sample;
 mod settle;
 mod sizes;
 mod step;
+mod weights;
 mod wide;
 
 pub use dict::Dict;

@@ -1,51 +1,82 @@
-ghost use Rattle.std.specs.Prelude.{◌≡◌, ◌^◌, ◌≤◌, ◌-◌, pos, ◌*ℤ◌, ◌<ℤ◌, IfSome, unsigned_abs};
+ghost use Rattle.std.specs.Prelude.{◌≡◌, ◌*◌, ◌^◌, ◌<◌, ◌≤◌, ◌-◌, pos, ◌*ℤ◌, ◌<ℤ◌, IfSome, IsTrue, unsigned_abs};
+ghost use Rattle.md_math.specs.Divisors.{Divides};
 ghost use Rattle.md_math.specs.Sizes.{IsWithin};
 
-use crate::division::{inverse, lowest_bits};
+use crate::division::{Divider, lowest_bits};
 use crate::wide::is_within;
 
-// A positive number of 63 bits by which many are divided. The quotient is guessed by one multiplication, and counts only where it is right and its size is at most `most`.
+// How a quotient is guessed by one multiplication, and how large it may be.
+#[derive(Clone, Copy)]
+pub struct Guess {
+    shift: u32,
+    inverse: u64,
+    pub most: u64,
+}
+
+impl Guess {
+    // A guess at the quotient of a number: right where the number can be divided and the quotient has few enough bits.
+    fn quotient(&self, x: i128) -> i64 {
+        let bits = lowest_bits(x.cast_unsigned()).wrapping_mul(self.inverse);
+        bits.cast_signed() >> (self.shift % 64)
+    }
+}
+
+// A positive number of 63 bits by which many are divided. A quotient that is guessed counts only where it is right and no larger than it may be.
 #[derive(Clone, Copy)]
 pub struct QuickDivider {
     value: i64,
-    shift: u32,
-    inverse: u64,
-    most: u64,
+    pub guess: Guess,
 }
 
-// The greatest number of 63 bits.
-const GREATEST: u128 = i64::MAX as u128;
+// How far a number is above the least one of a size, which is at most twice the size for numbers of at most that size alone.
+fn from_least(x: i64, size: u64) -> u64
+    requires { size ≤ 2 ^ 62 }
+    ensures { result ≤ 2 * size → unsigned_abs x ≤ size }
+{
+    x.cast_unsigned().wrapping_add(size)
+}
+
+// The greatest number of 63 bits, by which quotients can be guessed.
+pub const GREATEST: u128 = i64::MAX as u128;
 
 impl QuickDivider {
     ghost use Rattle.md_dict.specs.Fill.{IsQuick};
 
     // The divider by a number, where it has 63 bits, for quotients within a limit.
-    pub fn new(value: i128, most: u64) -> Option<QuickDivider>
-        requires { pos 0 <ℤ value }
-        ensures { IfSome result (IsQuick value most) }
+    pub fn new(divider: &Divider, most: u64) -> Option<QuickDivider>
+        requires positive { pos 0 <ℤ divider.now.value }
+        requires size { unsigned_abs divider.now.value < 2 ^ 126 }
+        ensures { IfSome result (IsQuick divider.now.value most) }
     {
-        if !is_within(value, GREATEST) {
+        if !is_within(divider.value, GREATEST) {
             return None;
         }
-        let size = value as u64;
-        let shift = size.trailing_zeros() % 64;
         Some(QuickDivider {
-            value: value as i64,
-            shift,
-            inverse: inverse(size >> shift),
-            most,
+            value: divider.value as i64,
+            guess: Guess {
+                shift: divider.shift,
+                inverse: divider.inverse,
+                most,
+            },
         })
     }
 
-    // The quotient of a number, where the guess is right.
-    pub fn quotient(&self, x: i128) -> Option<i64>
-        requires size { IsWithin (2 ^ 63 - 1) self.now.value }
-        requires most { self.now.most ≤ 2 ^ 62 }
-        ensures { IfSome result (λ q. (self.now.value *ℤ q ≡ x) × (unsigned_abs q ≤ self.now.most)) }
+    // Whether a number is found to be divided: never where it is not, and not where its quotient has too many bits for a guess.
+    pub fn divides(&self, x: i128) -> bool
+        requires { IsWithin (2 ^ 63 - 1) self.now.value }
+        ensures { IsTrue result → Divides self.now.value x }
     {
-        let bits = lowest_bits(x.cast_unsigned() >> (self.shift % 64));
-        let quotient = bits.wrapping_mul(self.inverse).cast_signed();
-        if quotient.unsigned_abs() > self.most {
+        i128::from(self.value) * i128::from(self.guess.quotient(x)) == x
+    }
+
+    // The quotient of a number, where the guess is right. A loop that writes numbers gives a copy of the divider's own guess, so that it is not read at each of them.
+    pub fn quotient(&self, guess: &Guess, x: i128) -> Option<i64>
+        requires size { IsWithin (2 ^ 63 - 1) self.now.value }
+        requires most { guess.now.most ≤ 2 ^ 62 }
+        ensures { IfSome result (λ q. (self.now.value *ℤ q ≡ x) × (unsigned_abs q ≤ guess.now.most)) }
+    {
+        let quotient = guess.quotient(x);
+        if from_least(quotient, guess.most) > 2 * guess.most {
             return None;
         }
         if i128::from(self.value) * i128::from(quotient) != x {

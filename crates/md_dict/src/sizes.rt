@@ -1,4 +1,4 @@
-ghost use Rattle.std.specs.Prelude.{◌≡◌, ℕ, ◌<◌, ◌≤◌, ◌^◌, ◌⊎◌, length, unsigned_abs};
+ghost use Rattle.std.specs.Prelude.{◌≡◌, ℕ, ◌<◌, ◌≤◌, ◌^◌, ◌⊎◌, length, unsigned_abs, IsTrue};
 ghost use Rattle.md_math.specs.Lists.{number_at};
 ghost use Rattle.md_math.specs.Sizes.{AllWithin};
 
@@ -16,4 +16,15 @@ pub fn greatest_size(numbers: &[i64], least: u64) -> u64
         greatest = greatest.max(x.unsigned_abs());
     }
     greatest
+}
+
+// A quick test of whether each number is at most the limit in size: the sizes are joined bit by bit, and no size exceeds what comes of it.
+pub fn are_surely_within(numbers: &[i64], limit: u128) -> bool
+    ensures { IsTrue result → AllWithin limit numbers.now }
+{
+    let mut joined = 0;
+    for x in numbers {
+        joined |= x.unsigned_abs();
+    }
+    u128::from(joined) <= limit
 }

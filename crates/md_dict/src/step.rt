@@ -119,8 +119,13 @@ impl Step {
         ensures size { unsigned_abs result.value < 2 ^ 126 }
     {
         let mut divisor = before;
-        for place in 0..self.columns + 1 {
-            divisor = divisor.common(self.raw_number(kept, row, place));
+        let mut place = 0;
+        while place < self.columns + 1 {
+            place = self.first_undivided(kept, row, place, &divisor);
+            if place < self.columns + 1 {
+                divisor = divisor.common(self.raw_number(kept, row, place));
+                place += 1;
+            }
         }
         divisor
     }

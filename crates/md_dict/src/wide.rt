@@ -5,6 +5,7 @@ ghost use Rattle.md_math.specs.FirstFailure.{HoldsBelow, IsFirstFailure};
 ghost use Rattle.md_dict.specs.Step.{IsStep, IsSeated, IsStepDivisor, seat_after, raw_at, new_entry};
 ghost use Rattle.md_dict.specs.Wide.{IsFirstWide, IsNarrow};
 
+use crate::division::Divider;
 use crate::step::{Step, basic_number};
 use md_lp::Entry;
 use md_num::{exact_quotient, product};
@@ -57,8 +58,16 @@ fn raw_at(step: &Step, kept: &[i64], seat: &[u32], row: usize, column: usize) ->
 }
 
 // The entry at a column after the pivot.
-fn new_entry(step: &Step, kept: &[i64], seat: &[u32], row: usize, column: usize) -> i128
+fn new_entry(
+    step: &Step,
+    divider: &Divider,
+    kept: &[i64],
+    seat: &[u32],
+    row: usize,
+    column: usize,
+) -> i128
     requires step { IsStep step.now kept.now }
+    requires divider { divider.now.value ≡ step.now.divisor }
     requires seated { IsSeated step.now seat.now }
     requires divisor { IsStepDivisor step.now kept.now (step.now.rows + 2) step.now.divisor }
     requires divisor_size { unsigned_abs step.now.divisor < 2 ^ 126 }
@@ -66,7 +75,7 @@ fn new_entry(step: &Step, kept: &[i64], seat: &[u32], row: usize, column: usize)
     requires column { column < step.now.columns + step.now.rows + 1 }
     ensures { result ≡ new_entry step.now kept.now seat.now step.now.divisor row column }
 {
-    exact_quotient(raw_at(step, kept, seat, row, column), step.divisor)
+    divider.quotient(raw_at(step, kept, seat, row, column))
 }
 
 // The denominator after the pivot.
@@ -89,8 +98,15 @@ pub fn is_within(x: i128, limit: u128) -> bool
 }
 
 // The first column of a row whose entry after the pivot is above the limit.
-fn wide_in_row(step: &Step, kept: &[i64], seat: &[u32], row: usize) -> Option<usize>
+fn wide_in_row(
+    step: &Step,
+    divider: &Divider,
+    kept: &[i64],
+    seat: &[u32],
+    row: usize,
+) -> Option<usize>
     requires step { IsStep step.now kept.now }
+    requires divider { divider.now.value ≡ step.now.divisor }
     requires seated { IsSeated step.now seat.now }
     requires divisor { IsStepDivisor step.now kept.now (step.now.rows + 2) step.now.divisor }
     requires divisor_size { unsigned_abs step.now.divisor < 2 ^ 126 }
@@ -100,7 +116,10 @@ fn wide_in_row(step: &Step, kept: &[i64], seat: &[u32], row: usize) -> Option<us
         (IsFirstFailure (step.now.columns + step.now.rows + 1) (λ j. IsWithin step.now.limit (new_entry step.now kept.now seat.now step.now.divisor row j))) }
 {
     for column in 0..step.columns + step.rows + 1 {
-        if !is_within(new_entry(step, kept, seat, row, column), step.limit) {
+        if !is_within(
+            new_entry(step, divider, kept, seat, row, column),
+            step.limit,
+        ) {
             return Some(column);
         }
     }
@@ -116,12 +135,13 @@ pub fn first_wide(step: &Step, kept: &[i64], seat: &[u32]) -> Entry
     requires wide { ¬ IsNarrow step.now.rows step.now.columns step.now.limit (new_entry step.now kept.now seat.now step.now.divisor) }
     ensures { IsFirstWide step.now.rows step.now.columns step.now.limit (int_div (step.now.den *ℤ step.now.pivot) step.now.divisor) (new_entry step.now kept.now seat.now step.now.divisor) result }
 {
+    let divider = Divider::new(step.divisor);
     for row in 0..step.rows + 2 {
-        if let Some(column) = wide_in_row(step, kept, seat, row) {
+        if let Some(column) = wide_in_row(step, &divider, kept, seat, row) {
             return Entry {
                 row: row as u32,
                 column: column as u32,
-                num: new_entry(step, kept, seat, row, column),
+                num: new_entry(step, &divider, kept, seat, row, column),
                 den: new_den(step),
             };
         }

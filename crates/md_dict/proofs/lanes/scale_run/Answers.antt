@@ -17,7 +17,7 @@ loop-place-preserved c =
     let scaled = rw (a, m) at c.scaled-number.ensures in
     let short = rw a at c.from_least-seen.ensures in
     let number = to_z-of_z w64 c.scaled-number.result (record { sfits = c.scaled-number.type_inv }) in
-    let product = rw (d, q, number) at c.is_product-is_right.ensures in
+    let product = rw (d, q, number) at c.gap-wrong.ensures in
     rw q (
       AreScaled-more c.args.lanes.now c.args.old.now c.loop-place.fresh place _ _ _ _ c.guess-quotient.result inside c.loop-place.invariant.0 (λ t l. product t ∙ scaled (short l)),
       within_more (2 ^ 31) c.loop-place.fresh place c.guess-quotient.result inside c.loop-place.invariant.1 size,

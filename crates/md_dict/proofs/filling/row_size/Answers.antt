@@ -1,7 +1,7 @@
 use Rattle.std.proofs.Common.{◌≡◌, ℕ, ◌+◌, ◌-◌, ◌*◌, ◌<◌, ◌≤◌, List, length, take, drop, ℤ, unsigned_abs, ◌∙◌, subst, arith}
 use Rattle.std.proofs.lemmas.List.{get_or-take, get_or-drop, length-take-le, length-drop}
 use Rattle.md_math.specs.Lists.{number_at}
-use Rattle.md_dict.proofs.fill.row_size.Goals as goal
+use Rattle.md_dict.proofs.filling.row_size.Goals as goal
 
 -- what is said of the places of a part is said of the places of the whole
 in_part : (xs : List ℤ) (start n size : ℕ) → start + n ≤ length xs → ((k : ℕ) → k < length (take (start + n - start) (drop start xs)) → unsigned_abs (number_at (take (start + n - start) (drop start xs)) k) ≤ size) → (s : ℕ) → s < n → unsigned_abs (number_at xs (start + s)) ≤ size
