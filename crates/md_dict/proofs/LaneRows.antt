@@ -1,20 +1,19 @@
 -- New numbers that are made of numbers of 32 bits: the sizes of their products, and the runs in which they are written.
-use Rattle.std.proofs.Common.{◌≡◌, ◌≢◌, ℕ, ◌+◌, ◌-◌, ◌*◌, ◌^◌, ◌<◌, ◌≤◌, ne_eqb, bit_or, List, ◌++◌, length, take, drop, set, ℤ, pos, ◌-ℤ◌, ◌*ℤ◌, to_z, of_z, FitsSigned, refl, sym, ap, ◌∙◌, subst, inl, inr, lit<, arith, get_or-set_same, get_or-set_other, mul-le-mul_right}
+use Rattle.std.proofs.Common.{◌≡◌, ◌≢◌, ℕ, ◌+◌, ◌-◌, ◌*◌, ◌^◌, ◌<◌, ◌≤◌, ne_eqb, bit_or, List, length, take, drop, set, ℤ, pos, ◌-ℤ◌, ◌*ℤ◌, to_z, of_z, FitsSigned, refl, sym, ap, ◌∙◌, subst, inl, inr, lit<, arith, get_or-set_same, get_or-set_other}
 use Rattle.std.proofs.lemmas.Bool.{cases_lt, cases_eq}
 use Rattle.std.proofs.lemmas.Int.{ints, to_z-of_z}
-use Rattle.std.proofs.lemmas.List.{get_or-take, get_or-drop, get_or_append_left, get_or-append_right, length-take-le, length-append, length-drop}
 use Rattle.std.proofs.lemmas.Nat.{le_or_l, le_or_r}
 use borrow.Rule.Slice.PartMut.{put_mid}
 use mir.Syntax.{w64}
 use Rattle.md_math.specs.Lists.{number_at}
-use Rattle.md_math.specs.Sizes.{AllWithin, IsWithin}
-use Rattle.md_math.proofs.SizeLaws.{AllWithin-number_at, AllWithin-wider, IsWithin-*ℤ, IsWithin-sub, fits_from_IsWithin}
+use Rattle.md_math.specs.Sizes.{IsWithin}
+use Rattle.md_math.proofs.SizeLaws.{IsWithin-*ℤ, IsWithin-sub, fits_from_IsWithin}
 use Rattle.md_dict.specs.declared.lanes.Lanes.{Lanes}
 use Rattle.md_dict.specs.declared.step.Step.{Step}
 use Rattle.md_dict.specs.Lanes.{IsShort, AreLanes, AreQuotients, AreScaled}
-use Rattle.md_dict.specs.Step.{IsTable, IsApart, number_in, multiplier_of, factor_of}
-use Rattle.md_dict.specs.Fill.{AreFilled, Leaves}
-use Rattle.md_dict.proofs.Writing.{row_before}
+use Rattle.md_dict.specs.Step.{IsApart, number_in, multiplier_of, factor_of}
+use Rattle.md_dict.specs.Fill.{AreFilled}
+use Rattle.md_dict.proofs.Parts.{in_part, within_part}
 use Rattle.md_dict.proofs.NewNumbers.{apart_kept, raw_beside}
 
 -- ---- sizes
@@ -86,77 +85,7 @@ within_more limit new n q inside h w k b =
       | inr o ↦ subst (IsWithin limit) (sym (get_or-set_other new n k q (pos 0) o)) (h k (omega arith))
     ]
 
--- ---- a part of a table
-
--- the number at a place of a part
-pub in_part : (xs : List ℤ) (from to k : ℕ) → k < to - from → number_at (take (to - from) (drop from xs)) k ≡ number_at xs (from + k)
-in_part xs from to k b = get_or-take (to - from) (drop from xs) k (pos 0) b ∙ get_or-drop from xs k (pos 0)
-
-pub length_part : (xs : List ℤ) (from to : ℕ) → from ≤ to → to ≤ length xs → length (take (to - from) (drop from xs)) ≡ to - from
-length_part xs from to a b = length-take-le (to - from) (drop from xs) (omega (arith, length-drop from xs))
-
--- the part is written anew: places before it, in it and behind it
-pub before_part : (a k i : ℕ) (xs ys : List ℤ) → a ≤ length xs → i < a → number_at (put_mid a k xs ys) i ≡ number_at xs i
-before_part a k i xs ys l b = get_or_append_left (take a xs) _ (pos 0) i (omega (arith, length-take-le a xs l)) ∙ get_or-take a xs i (pos 0) b
-
-pub within_part : (a k i : ℕ) (xs ys : List ℤ) → a ≤ length xs → i < length ys → number_at (put_mid a k xs ys) (a + i) ≡ number_at ys i
-within_part a k i xs ys l b =
-    get_or-append_right (take a xs) _ a (a + i) (pos 0) (length-take-le a xs l) (omega arith)
-    ∙ ap (λ j. number_at (ys ++ drop k (drop a xs)) j) (let e : a + i - a ≡ i = omega arith in e)
-    ∙ get_or_append_left ys (drop k (drop a xs)) (pos 0) i b
-
-pub behind_part : (a k i : ℕ) (xs ys : List ℤ) → a ≤ length xs → length ys ≡ k → a + k ≤ i → number_at (put_mid a k xs ys) i ≡ number_at xs i
-behind_part a k i xs ys l e b =
-    get_or-append_right (take a xs) _ a i (pos 0) (length-take-le a xs l) (omega arith)
-    ∙ get_or-append_right ys (drop k (drop a xs)) k (i - a) (pos 0) e (omega arith)
-    ∙ get_or-drop k (drop a xs) (i - a - k) (pos 0)
-    ∙ get_or-drop a xs (k + (i - a - k)) (pos 0)
-    ∙ ap (number_at xs) (let same : a + (k + (i - a - k)) ≡ i = omega arith in same)
-
-pub length_put : (a k : ℕ) (xs ys : List ℤ) → a + k ≤ length xs → length ys ≡ k → length (put_mid a k xs ys) ≡ length xs
-length_put a k xs ys l e =
-    let front : length (take a xs) ≡ a = length-take-le a xs (omega arith) in
-    let whole : length (put_mid a k xs ys) ≡ length (take a xs) + length (ys ++ drop k (drop a xs)) = length-append (take a xs) (ys ++ drop k (drop a xs)) in
-    let rest : length (ys ++ drop k (drop a xs)) ≡ length ys + length (drop k (drop a xs)) = length-append ys (drop k (drop a xs)) in
-    let behind : length (drop k (drop a xs)) ≡ length (drop a xs) - k = length-drop k (drop a xs) in
-    let from : length (drop a xs) ≡ length xs - a = length-drop a xs in
-    omega (arith, front, whole, rest, behind, from)
-
-pub AllWithin-put : (limit a k : ℕ) (xs ys : List ℤ) → a + k ≤ length xs → length ys ≡ k → AllWithin limit xs → AllWithin limit ys → AllWithin limit (put_mid a k xs ys)
-AllWithin-put limit a k xs ys l e h w = record {
-  at = λ i _.
-      elim (cases_lt i a) [
-        | inl b ↦ subst (IsWithin limit) (sym (before_part a k i xs ys (omega arith) b)) (AllWithin-number_at limit xs i h)
-        | inr b ↦
-            elim (cases_lt i (a + k)) [
-              | inl c ↦
-                  let same : a + (i - a) ≡ i = omega arith in
-                  subst (λ j. IsWithin limit (number_at (put_mid a k xs ys) j)) same (subst (IsWithin limit) (sym (within_part a k (i - a) xs ys (omega arith) (omega arith))) (AllWithin-number_at limit ys (i - a) w))
-              | inr c ↦ subst (IsWithin limit) (sym (behind_part a k i xs ys (omega arith) e c)) (AllWithin-number_at limit xs i h)
-            ]
-      ];
-}
-
-pub AllWithin-part : (limit : ℕ) (xs : List ℤ) (from to : ℕ) → from ≤ to → to ≤ length xs → ((k : ℕ) → k < to - from → IsWithin limit (number_at xs (from + k))) → AllWithin limit (take (to - from) (drop from xs))
-AllWithin-part limit xs from to a b h = record {
-  at = λ k l. let inside : k < to - from = omega (arith, length_part xs from to a b) in subst (IsWithin limit) (sym (in_part xs from to k inside)) (h k inside);
-}
-
 -- ---- a part of a row
-
--- the end of a part of a row is within the table
-pub end_inside : (w i to rows : ℕ) → i < rows → to ≤ w → i * w + to ≤ rows * w
-end_inside w i to rows a b = let le : (i + 1) * w ≤ rows * w = mul-le-mul_right w (omega arith) in omega (arith, le)
-
--- what is written for a part of a row is as long as the part, which is within the table
-pub record IsPart (w i from to rows : ℕ) (fresh new : List ℤ) : Type 0 where
-  pub inside : i * w + to ≤ length fresh
-  pub long : length new ≡ i * w + to - (i * w + from)
-
-pub is_part : (w i from to rows : ℕ) (fresh new : List ℤ) → i < rows → from ≤ to → to ≤ w → length fresh ≡ rows * w → length new ≡ length (take (i * w + to - (i * w + from)) (drop (i * w + from) fresh)) → IsPart w i from to rows fresh new
-is_part w i from to rows fresh new a b l e same =
-    let inside : i * w + to ≤ length fresh = omega (arith, end_inside w i to rows a l, e) in
-    record { inside = inside; long = same ∙ length_part fresh (i * w + from) (i * w + to) (omega arith) inside }
 
 -- what is said of the places of a run, of the places of the table
 pub part_quotient : (lanes : Lanes) (factors kept fresh ys : List ℤ) (start pivot from to s : ℕ) → from ≤ s → s < to → start + to ≤ length fresh → length ys ≡ start + to - (start + from) → AreQuotients lanes factors (take (start + to - (start + from)) (drop (start + from) kept)) (take (pivot + to - (pivot + from)) (drop (pivot + from) kept)) ys (length ys) → number_at lanes.divisors (s - from) *ℤ number_at (put_mid (start + from) (start + to - (start + from)) fresh ys) (start + s) ≡ number_at lanes.multipliers (s - from) *ℤ number_at kept (start + s) -ℤ number_at factors (s - from) *ℤ number_at kept (pivot + s)
@@ -180,35 +109,6 @@ part_scaled lanes kept fresh ys start from to s a b inside e h =
     ap (number_at (put_mid (start + from) (start + to - (start + from)) fresh ys)) (sym own) ∙ within_part (start + from) (start + to - (start + from)) (s - from) fresh ys (omega arith) (omega arith) in
     let old : number_at (take (start + to - (start + from)) (drop (start + from) kept)) (s - from) ≡ number_at kept (start + s) = in_part kept (start + from) (start + to) (s - from) (omega arith) ∙ ap (number_at kept) own in
     ap (λ z. number_at lanes.divisors (s - from) *ℤ z) new ∙ h.at (s - from) (omega arith) ∙ ap (λ z. number_at lanes.multipliers (s - from) *ℤ z) old
-
--- the other rows stay
-pub Leaves-part : (step : Step) (i from to : ℕ) (fresh ys : List ℤ) → from ≤ to → to ≤ step.columns + 1 → i * (step.columns + 1) + to ≤ length fresh → length ys ≡ i * (step.columns + 1) + to - (i * (step.columns + 1) + from) → Leaves step i fresh (put_mid (i * (step.columns + 1) + from) (i * (step.columns + 1) + to - (i * (step.columns + 1) + from)) fresh ys)
-Leaves-part step i from to fresh ys a b inside e = record {
-  others = λ k s o l.
-      elim (cases_lt k i) [
-        | inl less ↦ before_part (i * (step.columns + 1) + from) _ (k * (step.columns + 1) + s) fresh ys (omega arith) (row_before (step.columns + 1) k s i from l less)
-        | inr le ↦
-            let more : i < k = omega arith in
-            let above : i * (step.columns + 1) + step.columns < k * (step.columns + 1) + s = row_before (step.columns + 1) i step.columns k s (omega arith) more in
-            behind_part (i * (step.columns + 1) + from) _ (k * (step.columns + 1) + s) fresh ys (omega arith) e (omega (arith, above))
-      ];
-}
-
-pub IsTable-part : (step : Step) (fresh ys : List ℤ) (a k : ℕ) → a + k ≤ length fresh → length ys ≡ k → 2 ^ 31 ≤ step.limit → AllWithin (2 ^ 31) ys → IsTable step fresh → IsTable step (put_mid a k fresh ys)
-IsTable-part step fresh ys a k l e wide w h = record {
-  row_limit = h.row_limit;
-  column_limit = h.column_limit;
-  row_in = h.row_in;
-  place_in = h.place_in;
-  limit_size = h.limit_size;
-  kept_length = length_put a k fresh ys l e ∙ h.kept_length;
-  kept_size = AllWithin-put (2 ^ 62) a k fresh ys l e h.kept_size (AllWithin-wider (2 ^ 31) (2 ^ 62) ys (lit< tt) w);
-  kept_limit = AllWithin-put step.limit a k fresh ys l e h.kept_limit (AllWithin-wider (2 ^ 31) step.limit ys wide w);
-  den_size = h.den_size;
-  pivot_size = h.pivot_size;
-  den_positive = h.den_positive;
-  pivot_positive = h.pivot_positive;
-}
 
 -- where a run is right, its places are filled as well as those before it
 pub AreFilled-part : (step : Step) (lanes : Lanes) (factors kept old new : List ℤ) (i from to count : ℕ) → i ≢ step.row → to ≤ from + count → count ≤ 256 → AreLanes step.pivot lanes.divisor lanes → ((k : ℕ) → k < count → number_at factors k ≡ factor_of step kept i) → AreFilled step lanes.divisor kept old i from → ((s : ℕ) → s < from → number_in step new i s ≡ number_in step old i s) → ((s : ℕ) → from ≤ s → s < to → number_at lanes.divisors (s - from) *ℤ number_in step new i s ≡ number_at lanes.multipliers (s - from) *ℤ number_in step kept i s -ℤ number_at factors (s - from) *ℤ number_in step kept step.row s) → AreFilled step lanes.divisor kept new i to

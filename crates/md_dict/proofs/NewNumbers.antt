@@ -14,7 +14,7 @@ use Rattle.md_dict.specs.Wide.{IsNarrow}
 use Rattle.md_dict.specs.Step.{raw_number, seat_after, new_entry, old_number, number_in, multiplier_of, factor_of, DividesRows, IsApart, AreRowsNarrow, IsStepDivisor, IsTable}
 use Rattle.md_dict.specs.Fill.{AreFilled, AreRowsFilled, AreRowsWritten, IsAbove, IsCandidate, IsIndivisible, IsWideFor, Leaves, Stays}
 use Rattle.md_dict.proofs.Reading.{product_small}
-use Rattle.md_dict.proofs.RawPivot.{basic_other}
+use Rattle.md_dict.proofs.RawPivot.{basic_other, basic_own}
 use Rattle.md_dict.proofs.StepDivisor.{raw_apart, positive_divisor}
 use Rattle.md_dict.proofs.Change.{raw_at-basic, raw_at-kept, raw_at-right, Divides-basic_value, quotient_is}
 use Rattle.md_dict.proofs.Writing.{written_here, written_beside, written_elsewhere}
@@ -181,14 +181,21 @@ IsStepDivisor-written step d kept new c h = record {
 }
 
 -- it begins with the denominator times the pivot
-pub IsCandidate-whole : (step : Step) (kept : List ℤ) (d : ℤ) → IsTable step kept → d ≡ step.den *ℤ step.pivot → IsCandidate step kept d
-IsCandidate-whole step kept d t e =
-    subst (IsCandidate step kept) (sym e) (record {
-      positive = positive-*ℤ step.den step.pivot t.den_positive t.pivot_positive;
-      size = product_small step.den step.pivot t.den_size t.pivot_size;
-      of_den = Divides_refl (step.den *ℤ step.pivot);
-      greatest = λ x a _. a;
-    })
+IsCandidate-whole : (step : Step) (kept : List ℤ) → IsTable step kept → IsCandidate step kept (step.den *ℤ step.pivot)
+IsCandidate-whole step kept t = record {
+  positive = positive-*ℤ step.den step.pivot t.den_positive t.pivot_positive;
+  size = product_small step.den step.pivot t.den_size t.pivot_size;
+  of_den = Divides_refl (step.den *ℤ step.pivot);
+  greatest = λ x a _. a;
+}
+
+-- the raw number at the place of the pivot
+pivot_raw : (step : Step) (kept : List ℤ) → raw_number step kept step.row step.place ≡ step.den *ℤ step.den
+pivot_raw step kept =
+    let own : multiplier_of step step.row ≡ step.den = rw (eq-eqb step.row step.row refl) refl in
+    let none : factor_of step kept step.row ≡ pos 0 = rw (eq-eqb step.row step.row refl) refl in
+    let here : old_number step kept step.row step.place ≡ step.den = old_number-here step kept step.row ∙ basic_own step.rows step.columns step.row step.leaving step.den in
+    rw (own, none, here) (omega (arith, ints))
 
 -- the next one divides one more raw number
 pub IsCandidate-common : (step : Step) (kept : List ℤ) (d g : ℤ) (i s : ℕ) → IsCandidate step kept d → i < step.rows + 2 → s < step.columns + 1 → IsGcdOfTwo d (raw_number step kept i s) g → unsigned_abs g < 2 ^ 126 → IsCandidate step kept g
@@ -198,6 +205,11 @@ IsCandidate-common step kept d g i s c a b q l = record {
   of_den = Divides_trans g d (step.den *ℤ step.pivot) q.left c.of_den;
   greatest = λ y p r. q.greatest y (c.greatest y p r) (r.at i s a b);
 }
+
+-- the first one divides the raw number at the place of the pivot
+pub IsCandidate-first : (step : Step) (kept : List ℤ) (d : ℤ) → IsTable step kept → IsGcdOfTwo (step.den *ℤ step.pivot) (step.den *ℤ step.den) d → unsigned_abs d < 2 ^ 126 → IsCandidate step kept d
+IsCandidate-first step kept d t q l =
+    IsCandidate-common step kept (step.den *ℤ step.pivot) d step.row step.place (IsCandidate-whole step kept t) (let row = t.row_in in omega (arith, row)) (let place = t.place_in in omega (arith, place)) (rw (pivot_raw step kept) q) l
 
 pub IsCandidate-next : (step : Step) (kept : List ℤ) (d x g : ℤ) → IsCandidate step kept d → IsIndivisible step kept d x → IsGcdOfTwo d x g → unsigned_abs g < 2 ^ 126 → IsCandidate step kept g
 IsCandidate-next step kept d x g c h q l = IsCandidate-common step kept d g h.row h.place c h.row_in h.place_in (subst (λ z. IsGcdOfTwo d z g) h.is q) l

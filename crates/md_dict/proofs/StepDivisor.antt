@@ -2,8 +2,9 @@
 use Rattle.std.proofs.Common.{◌≡◌, ℕ, ◌+◌, ◌<◌, ◌≤◌, List, ℤ, pos, ◌*ℤ◌, ◌≤ℤ◌, ◌<ℤ◌, unsigned_abs, refl, ne_eqb, subst, inl, inr, arith}
 use Rattle.std.proofs.lemmas.Bool.{cases_lt}
 use Rattle.md_math.specs.Divisors.{Divides, IsGcdOfTwo}
-use Rattle.md_math.proofs.Division.{Divides_trans, Divides_refl}
-use Rattle.md_math.proofs.Order.{positive-*ℤ}
+use Rattle.md_math.proofs.Division.{Divides_trans, Divides_refl, *ℤ-Divides}
+use Rattle.md_math.proofs.Gcds.{gcd_of_two, same_from_IsGcdOfTwo}
+use Rattle.md_math.proofs.Order.{nonneg-*ℤ, positive-*ℤ}
 use Rattle.std.proofs.lemmas.Int.{ints}
 use Rattle.std.proofs.Math.Nat as NatL
 use Rattle.md_dict.specs.declared.step.Step.{Step}
@@ -94,6 +95,18 @@ Divides-sizes d x h = record { divides = h.divides }
 -- a positive number is its greatest common divisor with one that it divides
 pub IsGcdOfTwo-divides : (d x : ℤ) → pos 0 <ℤ d → Divides d x → IsGcdOfTwo d x d
 IsGcdOfTwo-divides d x p h = record { nonneg = omega (arith, ints); left = Divides_refl d; right = h; greatest = λ _ a _. a }
+
+-- it grows with a common factor
+pub IsGcdOfTwo-grown : (e a b g : ℤ) → pos 0 <ℤ e → IsGcdOfTwo a b g → IsGcdOfTwo (e *ℤ a) (e *ℤ b) (e *ℤ g)
+IsGcdOfTwo-grown e a b g p h =
+    let (k, q) = gcd_of_two a b in
+    let same : k ≡ g = same_from_IsGcdOfTwo a b k g q.is_gcd h in
+    record {
+      nonneg = nonneg-*ℤ e g (omega (arith, ints, p)) h.nonneg;
+      left = *ℤ-Divides e g a h.left;
+      right = *ℤ-Divides e g b h.right;
+      greatest = λ d x y. subst (λ z. Divides d (e *ℤ z)) same (q.factor d e x y);
+    }
 
 -- a row from which the pivot row is not taken is multiplied by the pivot
 pub raw_apart : (step : Step) (kept : List ℤ) (i s : ℕ) → IsApart step kept i → raw_number step kept i s ≡ step.pivot *ℤ old_number step kept i s

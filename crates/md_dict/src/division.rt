@@ -7,7 +7,7 @@ use md_num::{exact_quotient, gcd};
 #[derive(Clone, Copy)]
 pub struct Divider {
     pub value: i128,
-    low: u64,
+    pub low: u64,
     pub shift: u32,
     pub inverse: u64,
 }

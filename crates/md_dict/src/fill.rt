@@ -1,5 +1,5 @@
 ghost use Rattle.std.specs.Prelude.{◌≡◌, ◌+◌, ◌^◌, ◌<◌, ◌≤◌, ◌↔◌, pos, ◌*ℤ◌, ◌<ℤ◌, int_div, IsTrue, IfErr, IfNone, IfOk, IfSome, OnOk, unsigned_abs};
-ghost use Rattle.md_math.specs.Divisors.{Divides};
+ghost use Rattle.md_math.specs.Divisors.{Divides, IsGcdOfTwo};
 ghost use Rattle.md_math.specs.Sizes.{IsWithin};
 
 use crate::division::Divider;
@@ -7,7 +7,7 @@ use crate::filling::Filling;
 use crate::lanes::RUN;
 use crate::step::Step;
 use crate::wide::is_within;
-use md_num::{exact_quotient, product};
+use md_num::{exact_quotient, gcd, product};
 
 // Why new numbers are not written: the divisor does not divide a raw number, or a new number is above the limit.
 #[derive(Clone, Copy)]
@@ -96,7 +96,7 @@ impl Step {
                 return Ok(());
             }
         }
-        let from = self.fill_first(kept, row, filling, fresh);
+        let from = self.fill_guessed(kept, row, filling, fresh);
         self.fill_slowly(kept, row, from, &filling.divider, fresh)
     }
 
@@ -171,6 +171,18 @@ impl Step {
         )
     }
 
+    // The greatest number that divides the denominator times the pivot, and the denominator times itself, which is the raw number at the place of the pivot.
+    fn first_candidate(&self) -> i128
+        requires den { IsWithin (2 ^ 62) self.now.den }
+        requires positive { pos 0 <ℤ self.now.den }
+        requires pivot { IsWithin (2 ^ 62) self.now.pivot }
+        requires pivot_positive { pos 0 <ℤ self.now.pivot }
+        ensures divisor { IsGcdOfTwo (self.now.den *ℤ self.now.pivot) (self.now.den *ℤ self.now.den) result }
+        ensures size { unsigned_abs result < 2 ^ 126 }
+    {
+        product(self.den, gcd(self.pivot, self.den))
+    }
+
     // Writes the new numbers of all rows that do not stay, where no number is above the limit, and answers the number by which all is divided.
     // Where a candidate does not divide a raw number, all is written anew for their greatest common divisor.
     pub fn fill(&self, kept: &[i64], fresh: &mut [i64]) -> Option<i128>
@@ -180,7 +192,7 @@ impl Step {
         ensures wide { IfNone result (IsWideFor self.now kept.now) }
         ensures table { IsTable self.now fresh.new }
     {
-        let first = Divider::new(product(self.den, self.pivot));
+        let first = Divider::new(self.first_candidate());
         let mut divider = self.sampled(kept, first);
         while let Err(unfit) = self.fill_rows(kept, &self.filling(kept, divider), fresh) {
             match unfit {

@@ -84,7 +84,7 @@ impl Step {
     }
 
     // Writes new numbers of a row up to the first place where a quotient is guessed wrong. At the place of the pivot it writes some number.
-    fn fill_guessed(
+    fn fill_weighed(
         &self,
         kept: &[i64],
         row: usize,
@@ -110,8 +110,8 @@ impl Step {
         }
     }
 
-    // The same with what a pivot's new numbers are made with, where quotients can be guessed.
-    pub fn fill_first(
+    // The same with what a pivot's new numbers are made with: none, where quotients cannot be guessed.
+    pub fn fill_guessed(
         &self,
         kept: &[i64],
         row: usize,
@@ -133,7 +133,7 @@ impl Step {
         let Some(weights) = self.weights(kept, row, filling.content) else {
             return 0;
         };
-        self.fill_guessed(kept, row, &weights, quick, fresh)
+        self.fill_weighed(kept, row, &weights, quick, fresh)
     }
 
     // The new number at a kept place, where it is guessed right.

@@ -11,7 +11,7 @@ use crate::wide::is_within;
 pub const RUN: usize = 256;
 
 // The greatest size of a number that a run multiplies or divides by.
-const GREATEST: u128 = i32::MAX as u128;
+const GREATEST_SHORT: u128 = i32::MAX as u128;
 
 // What the rows of a pivot are multiplied and divided by, where both have 32 bits: each once for each place of a run, so that a run can take several places at a time. The quotient is guessed by one multiplication.
 #[derive(Drop)]
@@ -29,10 +29,10 @@ impl Lanes {
         requires { pos 0 <ℤ divisor }
         ensures { IfSome result (AreLanes multiplier divisor) }
     {
-        if !is_within(multiplier, GREATEST) {
+        if !is_within(multiplier, GREATEST_SHORT) {
             return None;
         }
-        if !is_within(divisor, GREATEST) {
+        if !is_within(divisor, GREATEST_SHORT) {
             return None;
         }
         let size = divisor as u64;
@@ -42,7 +42,7 @@ impl Lanes {
             multipliers: lane(multiplier as i64),
             divisors: lane(divisor as i64),
             shift,
-            inverse: lowest_bits(inverse(size >> shift)),
+            inverse: lowest_half(inverse(size >> shift)),
         })
     }
 }
@@ -65,7 +65,7 @@ fn spread(x: i64, count: usize, lane: &mut [i64; RUN])
 }
 
 // The lowest 32 bits.
-fn lowest_bits(x: u64) -> u32
+fn lowest_half(x: u64) -> u32
     ensures { result ≡ x % 2 ^ 32 }
 {
     (x & 0xffff_ffff) as u32
@@ -76,11 +76,11 @@ fn low(x: i64) -> i64
     ensures short { IsShort result }
     ensures same { IsShort x → result ≡ x }
 {
-    i64::from(lowest_bits(x.cast_unsigned()).cast_signed())
+    i64::from(lowest_half(x.cast_unsigned()).cast_signed())
 }
 
 // How far a number is above the least one of 32 bits, which is below 2 to the power of 32 for numbers of 32 bits alone.
-fn from_least(x: i64) -> u64
+fn from_least_short(x: i64) -> u64
     ensures { result < 2 ^ 32 → IsShort x }
 {
     x.cast_unsigned().wrapping_add(0x8000_0000)
@@ -108,7 +108,7 @@ fn scaled(a: i64, b: i64) -> i64
 fn guess(x: i64, shift: u32, inverse: u32) -> i64
     ensures { IsShort result }
 {
-    let bits = lowest_bits(x.cast_unsigned() >> (shift % 64));
+    let bits = lowest_half(x.cast_unsigned() >> (shift % 64));
     i64::from(bits.wrapping_mul(inverse).cast_signed())
 }
 
@@ -154,7 +154,7 @@ fn fill_run(
             pivot[place],
         );
         let quotient = guess(number, shift, inverse);
-        seen |= from_least(old[place]);
+        seen |= from_least_short(old[place]);
         wrong |= gap(lanes.divisors[place], quotient, number);
         fresh[place] = quotient;
     }
@@ -180,7 +180,7 @@ fn scale_run(lanes: &Lanes, old: &[i64], fresh: &mut [i64]) -> bool
     for place in 0..fresh.len() {
         let number = scaled(lanes.multipliers[place], old[place]);
         let quotient = guess(number, shift, inverse);
-        seen |= from_least(old[place]);
+        seen |= from_least_short(old[place]);
         wrong |= gap(lanes.divisors[place], quotient, number);
         fresh[place] = quotient;
     }
@@ -337,7 +337,7 @@ impl Step {
         ensures table { IsTable self.now fresh.new }
     {
         let factor = self.factor(kept, row);
-        if row == self.row || !is_within(factor, GREATEST) {
+        if row == self.row || !is_within(factor, GREATEST_SHORT) {
             return false;
         }
         if factor == 0 {

@@ -21,10 +21,11 @@ impl Guess {
     }
 }
 
-// A positive number of 63 bits by which many are divided. A quotient that is guessed counts only where it is right and no larger than it may be.
+// A positive number of 63 bits by which many are divided, with what its odd part is to be multiplied by to give 1 in 128 bits. A quotient that is guessed counts only where it is right and no larger than it may be.
 #[derive(Clone, Copy)]
 pub struct QuickDivider {
     value: i64,
+    long_inverse: u128,
     pub guess: Guess,
 }
 
@@ -36,8 +37,15 @@ fn from_least(x: i64, size: u64) -> u64
     x.cast_unsigned().wrapping_add(size)
 }
 
+// What an odd number is multiplied by to give 1 in 128 bits: one step more from what gives 1 in 64 bits.
+fn long_inverse(odd: u64, inverse: u64) -> u128 {
+    let half = u128::from(inverse);
+    let product = u128::from(odd).wrapping_mul(half);
+    half.wrapping_mul(2u128.wrapping_sub(product))
+}
+
 // The greatest number of 63 bits, by which quotients can be guessed.
-pub const GREATEST: u128 = i64::MAX as u128;
+pub const GREATEST_DIVISOR: u128 = i64::MAX as u128;
 
 impl QuickDivider {
     ghost use Rattle.md_dict.specs.Fill.{IsQuick};
@@ -48,11 +56,12 @@ impl QuickDivider {
         requires size { unsigned_abs divider.now.value < 2 ^ 126 }
         ensures { IfSome result (IsQuick divider.now.value most) }
     {
-        if !is_within(divider.value, GREATEST) {
+        if !is_within(divider.value, GREATEST_DIVISOR) {
             return None;
         }
         Some(QuickDivider {
             value: divider.value as i64,
+            long_inverse: long_inverse(divider.low >> (divider.shift % 64), divider.inverse),
             guess: Guess {
                 shift: divider.shift,
                 inverse: divider.inverse,
@@ -61,12 +70,26 @@ impl QuickDivider {
         })
     }
 
-    // Whether a number is found to be divided: never where it is not, and not where its quotient has too many bits for a guess.
+    // Whether a number is found to be divided: never where it is not.
     pub fn divides(&self, x: i128) -> bool
-        requires { IsWithin (2 ^ 63 - 1) self.now.value }
+        requires value { IsWithin (2 ^ 63 - 1) self.now.value }
+        requires size { unsigned_abs x < 2 ^ 126 }
         ensures { IsTrue result → Divides self.now.value x }
     {
         i128::from(self.value) * i128::from(self.guess.quotient(x)) == x
+            || self.divides_size(x.unsigned_abs())
+    }
+
+    // The same for a size, where its quotient may have too many bits for a guess of 64.
+    #[inline(never)]
+    fn divides_size(&self, size: u128) -> bool
+        ensures { IsTrue result → Divides self.now.value (pos size) }
+    {
+        let quotient = (size >> (self.guess.shift % 64)).wrapping_mul(self.long_inverse);
+        match u128::from(self.value.unsigned_abs()).checked_mul(quotient) {
+            Some(product) => product == size,
+            None => false,
+        }
     }
 
     // The quotient of a number, where the guess is right. A loop that writes numbers gives a copy of the divider's own guess, so that it is not read at each of them.

@@ -3,7 +3,7 @@ ghost use Rattle.md_math.specs.Divisors.{Divides};
 ghost use Rattle.md_math.specs.Sizes.{IsWithin};
 
 use crate::division::Divider;
-use crate::quick::{GREATEST, Guess, QuickDivider};
+use crate::quick::{GREATEST_DIVISOR, Guess, QuickDivider};
 use crate::step::{Step, cross};
 use crate::wide::is_within;
 use md_num::exact_quotient;
@@ -116,7 +116,7 @@ impl Step {
         Some(self.divided_weights(kept, row, content))
     }
 
-    // The greatest number that divides a divisor, the pivot, and how often the pivot row is taken from each row.
+    // A number that divides a divisor, the pivot, and how often the pivot row is taken from each row.
     fn content(&self, kept: &[i64], divider: &Divider) -> i128
         requires table { IsTable self.now kept.now }
         requires positive { pos 0 <ℤ divider.now.value }
@@ -137,7 +137,7 @@ impl Step {
         requires size { unsigned_abs divider.now.value < 2 ^ 126 }
         ensures { IsContent self.now kept.now divider.now.value (self.now.rows + 2) result }
     {
-        if is_within(divider.value, GREATEST) {
+        if is_within(divider.value, GREATEST_DIVISOR) {
             1
         } else {
             self.content(kept, divider)

@@ -17,7 +17,7 @@ loop-place-preserved c =
     let size = IsWithin-short c.guess-quotient.result c.guess-quotient.ensures in
     let q = read_within (2 ^ 31) _ (lit< tt) size in
     let cross = rw (a, b, m, f) at c.cross-number.ensures in
-    let short = rw a at c.from_least-seen.ensures in
+    let short = rw a at c.from_least_short-seen.ensures in
     let number = to_z-of_z w64 c.cross-number.result (record { sfits = c.cross-number.type_inv }) in
     let product = rw (d, q, number) at c.gap-wrong.ensures in
     rw q (

@@ -15,7 +15,7 @@ loop-place-preserved c =
     let size = IsWithin-short c.guess-quotient.result c.guess-quotient.ensures in
     let q = read_within (2 ^ 31) _ (lit< tt) size in
     let scaled = rw (a, m) at c.scaled-number.ensures in
-    let short = rw a at c.from_least-seen.ensures in
+    let short = rw a at c.from_least_short-seen.ensures in
     let number = to_z-of_z w64 c.scaled-number.result (record { sfits = c.scaled-number.type_inv }) in
     let product = rw (d, q, number) at c.gap-wrong.ensures in
     rw q (

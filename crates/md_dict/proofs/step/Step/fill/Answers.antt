@@ -1,13 +1,13 @@
-use Rattle.std.proofs.Common.{◌+◌, refl, ◌∙◌, subst}
+use Rattle.std.proofs.Common.{◌≡◌, ◌+◌, refl, ◌∙◌, subst}
 use Rattle.md_dict.specs.Fill.{IsUnfit, IsIndivisible, AreRowsWritten}
-use Rattle.md_dict.proofs.Reading.{read_result, read_small, read_wide}
-use Rattle.md_dict.proofs.NewNumbers.{IsCandidate-whole, IsCandidate-next, smaller_candidate, IsWideFor-above, IsWideFor-den, IsStepDivisor-written}
+use Rattle.md_dict.proofs.Reading.{read_wide}
+use Rattle.md_dict.proofs.NewNumbers.{IsCandidate-first, IsCandidate-next, smaller_candidate, IsWideFor-above, IsWideFor-den, IsStepDivisor-written}
 use Rattle.md_dict.proofs.step.Step.fill.Goals as goal
 
 pub sampled-divider-requires-clause-candidate : goal.sampled-divider-requires-clause-candidate
 sampled-divider-requires-clause-candidate c =
-    IsCandidate-whole c.args.self.now c.args.kept.now c.new-first.result.value c.requires.step.table
-    (c.new-first.ensures ∙ read_result c.product.result c.product.type_inv ∙ (rw (read_small c.args.self.now.den c.requires.step.table.den_size, read_small c.args.self.now.pivot c.requires.step.table.pivot_size) at c.product.ensures.value))
+    let first : c.new-first.result.value ≡ c.first_candidate.result = c.new-first.ensures ∙ read_wide c.first_candidate.result c.first_candidate.ensures.size in
+    rw first (IsCandidate-first c.args.self.now c.args.kept.now c.first_candidate.result c.requires.step.table c.first_candidate.ensures.divisor c.first_candidate.ensures.size)
 
 pub loop-unfit-smaller : goal.loop-unfit-smaller
 loop-unfit-smaller c =

@@ -1,5 +1,5 @@
 use Rattle.md_dict.proofs.Reading.{read_wide}
-use Rattle.md_dict.proofs.step.Step.fill_first.Goals as goal
+use Rattle.md_dict.proofs.step.Step.fill_guessed.Goals as goal
 
 pub weights-requires-clause-of_factor : goal.weights-requires-clause-of_factor
 weights-requires-clause-of_factor c =
