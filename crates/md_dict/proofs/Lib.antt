@@ -1,20 +1,32 @@
 mod Building
-pub mod Cancelling
 mod Change
-mod Contents
-pub mod Exchange
-pub mod Exchanged
-mod Readers
 mod FaceRow
 mod FirstRows
-mod LaneRows
 mod NewNumbers
 mod Parts
+mod Readers
 mod Reading
-pub mod FirstLaws
-pub mod RawPivot
-mod Settling
 mod StepDivisor
-pub mod Uniqueness
 mod Values
 mod Writing
+pub mod Cancelling
+pub mod Exchange
+pub mod Exchanged
+pub mod FirstLaws
+pub mod RawPivot
+pub mod RowLaws
+pub mod RowSteps
+pub mod Uniqueness
+mod NewRows
+mod LeastMultiples
+mod Settling
+mod Filling
+mod RowNumbers
+mod Divided
+mod NewTable
+mod Tables
+mod HalfSizes
+mod Reducing
+mod OddParts
+mod Lowering
+mod Guessing

@@ -1,8 +1,7 @@
 -- What the readers of a dictionary say: each column that is not basic is kept once, the greatest size, and that a basis has one dictionary.
-use Rattle.std.proofs.Common.{◌≡◌, ℕ, ◌+◌, ◌-◌, ◌*◌, ◌/◌, ◌%◌, ◌^◌, ◌<◌, ◌≤◌, ◌⊎◌, ◌==◌, ◌&&◌, nat_le, Bool, true, false, if◌then◌else◌, length, slice_index, ℤ, pos, neg_ℤ, unsigned_abs, refl, sym, ap, ◌∙◌, subst, inl, inr, arith, mod-lt, mul-le-mul_right, eq-eqb, ne_eqb}
+use Rattle.std.proofs.Common.{◌≡◌, ℕ, ◌+◌, ◌-◌, ◌*◌, ◌/◌, ◌%◌, ◌<◌, ◌≤◌, ◌⊎◌, ◌==◌, ◌&&◌, nat_le, Bool, true, false, if◌then◌else◌, length, slice_index, ℤ, pos, neg_ℤ, unsigned_abs, refl, sym, ap, ◌∙◌, subst, inl, inr, arith, mod-lt, mul-le-mul_right, eq-eqb, ne_eqb}
 use Rattle.std.proofs.lemmas.Bool.{cases_lt}
 use Rattle.std.proofs.Math.Nat as NatL
-use Rattle.md_num.specs.Limits.{limit_of}
 use Rattle.md_math.specs.Lists.{number_at}
 use Rattle.md_math.specs.Sizes.{IsWithin}
 use Rattle.md_math.proofs.SizeLaws.{IsWithin-neg_ℤ, IsWithin-zero}
@@ -12,7 +11,7 @@ use Rattle.md_dict.specs.FirstTable.{first_entry}
 use Rattle.md_dict.specs.Condensed.{Condensed, basic_at, kept_column_at, kept_number, entry_at, IsShapedDictionary, Holds, KeepsEachOnce, IsGreatestSize}
 use Rattle.md_dict.proofs.RawPivot.{basic_own}
 use Rattle.md_dict.proofs.Writing.{place_inside}
-use Rattle.md_dict.proofs.Exchange.{entry-kept, entry-basic, entry-right, leaving_seat, leaving_in, limit_le}
+use Rattle.md_dict.proofs.Exchange.{entry-kept, entry-basic, entry-right, leaving_seat, leaving_in}
 use Rattle.md_dict.proofs.Uniqueness.{same_dens, same_entries}
 
 pub KeepsEachOnce-shaped : (d : Condensed) → IsShapedDictionary d → KeepsEachOnce d
@@ -139,10 +138,3 @@ only_den p d h den e q = same_dens d.rows d.columns (first_entry p) (basic_at d)
 
 pub only_entry : (p : Program) (d : Condensed) → Holds p d → (den : ℤ) (e : ℕ → ℕ → ℤ) → IsDictionary d.rows d.columns (first_entry p) (basic_at d) den e → (r j : ℕ) → r < d.rows + 2 → j < d.columns + d.rows + 1 → e r j ≡ entry_at d r j
 only_entry p d h den e q r j a b = same_entries d.rows d.columns (first_entry p) (basic_at d) den d.den e (entry_at d) q h.dictionary r j a b
-
-pub least_small : (d : Condensed) (least : ℕ) → IsShapedDictionary d → least ≡ (if d.rows == 0 then 0 else unsigned_abs d.den) → least ≤ 2 ^ 62
-least_small d least h e = by_test (d.rows == 0) e
-  where
-    by_test : (none : Bool) → least ≡ (if none then 0 else unsigned_abs d.den) → least ≤ 2 ^ 62
-    by_test true f = omega arith
-    by_test false f = let l : limit_of d.bits ≤ 2 ^ 62 = limit_le d.bits h.most_bits in let m : unsigned_abs d.den ≤ limit_of d.bits = h.den_size.within in omega arith

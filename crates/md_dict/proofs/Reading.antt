@@ -1,5 +1,5 @@
 -- Numbers that are read back from their bits, and the sizes of products of two kept numbers.
-use Rattle.std.proofs.Common.{◌≡◌, ◌+◌, ◌-◌, ◌*◌, ◌^◌, ◌<◌, ◌≤◌, ℤ, ◌-ℤ◌, ◌*ℤ◌, to_z, of_z, SFits, FitsSigned, unsigned_abs, lit<, mul-le-mul, ap, ◌∙◌, arith}
+use Rattle.std.proofs.Common.{◌≡◌, ◌+◌, ◌-◌, ◌*◌, ◌^◌, ◌<◌, ◌≤◌, ℤ, ◌-ℤ◌, ◌*ℤ◌, to_z, of_z, SFits, FitsSigned, unsigned_abs, lit<, mul-le-mul, ap, ap₂, ◌∙◌, arith}
 use Rattle.std.proofs.lemmas.Int.{to_z-of_z, fits_signed_from_abs}
 use lib.Signed.{mag}
 use mir.Syntax.{w128, w64}
@@ -40,6 +40,10 @@ product_small a b p q = let h : IsWithin (2 ^ 62 * 2 ^ 62) (a *ℤ b) = IsWithin
 
 pub sizes_small : (a b : ℤ) → IsWithin (2 ^ 62) a → IsWithin (2 ^ 62) b → unsigned_abs a * unsigned_abs b < 2 ^ 126
 sizes_small a b p q = let h : unsigned_abs a * unsigned_abs b ≤ 2 ^ 62 * 2 ^ 62 = mul-le-mul p.within q.within in omega arith
+
+-- the product of two such numbers, each read back from its bits
+pub read_product : (a b : ℤ) → IsWithin (2 ^ 62) a → IsWithin (2 ^ 62) b → to_z w128 (of_z w128 (to_z w128 (of_z w128 a) *ℤ to_z w128 (of_z w128 b))) ≡ a *ℤ b
+read_product a b p q = ap₂ (λ x y. to_z w128 (of_z w128 (x *ℤ y))) (read_small a p) (read_small b q) ∙ read_wide (a *ℤ b) (product_small a b p q)
 
 -- a number of 62 bits that was cast to 64 bits and back
 pub read_cast : (z : ℤ) → SFits w128 z → IsWithin (2 ^ 62) z → to_z w64 (of_z w64 (to_z w128 (of_z w128 z))) ≡ z

@@ -1,41 +1,23 @@
 -- What the code reads of a condensed dictionary.
-use Rattle.std.proofs.Common.{◌≡◌, ℕ, ◌+◌, ◌-◌, ◌*◌, ◌^◌, ◌<◌, ◌≤◌, ◌==◌, ◌&&◌, nat_le, Bool, true, false, if◌then◌else◌, List, length, get_or, slice_index, slice_set, ℤ, pos, ◌*ℤ◌, neg_ℤ, ◌<ℤ◌, int_div, to_z, of_z, unsigned_abs, refl, sym, ap, ◌∙◌, subst, inl, inr, arith, eq-eqb, ne_eqb}
+use Rattle.std.proofs.Common.{◌≡◌, ℕ, ◌+◌, ◌-◌, ◌*◌, ◌^◌, ◌<◌, ◌≤◌, ◌==◌, ◌&&◌, nat_le, Bool, true, false, if◌then◌else◌, List, slice_index, slice_set, ℤ, pos, ◌*ℤ◌, neg_ℤ, ◌<ℤ◌, int_div, to_z, of_z, unsigned_abs, refl, sym, ap, ◌∙◌, subst, inl, inr, arith, eq-eqb, ne_eqb}
 use Rattle.std.proofs.lemmas.Bool.{cases_lt, cases_eq}
-use Rattle.std.proofs.lemmas.List.{get_or_read}
-use mir.Syntax.{w64, w128}
+use mir.Syntax.{w128}
 use Rattle.md_num.specs.Limits.{limit_of}
 use Rattle.md_math.specs.Sizes.{IsWithin}
-use Rattle.md_math.proofs.SizeLaws.{AllWithin-number_at, AllWithin-wider, IsWithin-wider, IsWithin-neg_ℤ, IsWithin-zero}
+use Rattle.md_math.proofs.SizeLaws.{AllWithin-number_at, IsWithin-wider, IsWithin-neg_ℤ, IsWithin-zero}
 use Rattle.md_math.proofs.Ring.{linear}
 use Rattle.md_dict.specs.declared.step.Step.{Step}
-use Rattle.md_dict.specs.Condensed.{Condensed, basic_at, kept_number, entry_at, IsFresh, IsShapedDictionary, TakesColumn}
+use Rattle.md_dict.specs.Condensed.{Condensed, basic_at, kept_number, entry_at, IsShapedDictionary, TakesColumn}
 use Rattle.md_dict.specs.Dictionary.{basic_value}
 use Rattle.md_dict.specs.Pivot.{with_column}
 use Rattle.md_dict.specs.Wide.{IsNarrow}
 use Rattle.md_dict.specs.Step.{new_entry, IsStepDivisor, IsTable}
-use Rattle.md_dict.specs.Fill.{AreRowsFilled, IsWideFor, IsFilledBy}
-use Rattle.md_dict.specs.Exchange.{step_of, exchanged, IsExchange, AreWritten}
-use Rattle.md_dict.proofs.Reading.{read_short, read_small, read_wide}
-use Rattle.md_dict.proofs.Writing.{place_inside}
-use Rattle.md_dict.proofs.NewNumbers.{AreRowsNarrow-filled, IsNarrow-from}
-use Rattle.md_dict.proofs.Exchange.{limit_le, entry-right, entry-kept, entry-basic, IsStep-step_of}
+use Rattle.md_dict.specs.Fill.{IsWideFor}
+use Rattle.md_dict.specs.Exchange.{step_of, exchanged, IsExchange}
+use Rattle.md_dict.proofs.Reading.{read_small, read_wide}
+use Rattle.md_dict.proofs.Exchange.{limit_le, entry-right, entry-kept, entry-basic}
 use Rattle.md_dict.proofs.Exchanged.{IsReady-of, den_within}
 use Rattle.md_dict.proofs.RawPivot.{basic_other}
-
--- a number that was read from the list is the kept number, within the limit
-pub record IsRead (d : Condensed) (i s : ℕ) (x : ℤ) : Type 0 where
-  pub value : x ≡ kept_number d i s
-  pub size : IsWithin (limit_of d.bits) x
-  pub bits : to_z w128 (of_z w128 x) ≡ x
-  pub short : to_z w64 (of_z w64 x) ≡ x
-
-pub read_kept : (d : Condensed) (i s : ℕ) (x : ℤ) → IsShapedDictionary d → i < d.rows + 2 → s < d.columns + 1 → x ≡ get_or d.kept (i * (d.columns + 1) + s) x → IsRead d i s x
-read_kept d i s x h a b e =
-    let inside : i * (d.columns + 1) + s < length d.kept = omega (arith, place_inside (d.columns + 1) i s (d.rows + 2) b a, h.kept_length) in
-    let value : x ≡ kept_number d i s = get_or_read d.kept (i * (d.columns + 1) + s) x inside e (pos 0) in
-    let size : IsWithin (limit_of d.bits) x = subst (IsWithin (limit_of d.bits)) (sym value) (AllWithin-number_at (limit_of d.bits) d.kept (i * (d.columns + 1) + s) h.kept_size) in
-    let small : IsWithin (2 ^ 62) x = IsWithin-wider (limit_of d.bits) (2 ^ 62) x (limit_le d.bits h.most_bits) size in
-    record { value = value; size = size; bits = read_small x small; short = read_short x small }
 
 -- the denominator
 pub read_den : (d : Condensed) → IsShapedDictionary d → to_z w128 (of_z w128 d.den) ≡ d.den
@@ -88,32 +70,8 @@ exchanged_is v d s g den kept p e q =
       kept = kept;
     }
 
--- a second table serves a step as the first one does
-pub IsTable-fresh : (d : Condensed) (s : Step) (fresh : List ℤ) → s ≡ step_of d s.row s.entering (pos 1) → IsExchange d s.row s.entering → IsFresh d.rows d.columns d.bits fresh → IsTable s fresh
-IsTable-fresh d s fresh e h f =
-    let t = (IsStep-step_of d s.row s.entering (pos 1) h).table in
-    subst (λ u. IsTable u fresh) (sym e) (record {
-      row_limit = t.row_limit;
-      column_limit = t.column_limit;
-      row_in = t.row_in;
-      place_in = t.place_in;
-      limit_size = t.limit_size;
-      kept_length = f.length_is;
-      kept_size = AllWithin-wider (limit_of d.bits) (2 ^ 62) fresh (limit_le d.bits h.shape.most_bits) f.size;
-      kept_limit = f.size;
-      den_size = t.den_size;
-      pivot_size = t.pivot_size;
-      den_positive = t.den_positive;
-      pivot_positive = t.pivot_positive;
-    })
-
-pub IsFresh-table : (d : Condensed) (s : Step) (fresh : List ℤ) → s ≡ step_of d s.row s.entering (pos 1) → IsTable s fresh → IsFresh d.rows d.columns d.bits fresh
-IsFresh-table d s fresh e t =
-    let u : IsTable (step_of d s.row s.entering (pos 1)) fresh = subst (λ r. IsTable r fresh) e t in
-    record { length_is = u.kept_length; size = u.kept_limit }
-
 -- the divisor is no part of a table
-IsTable-with : (d : Condensed) (row column : ℕ) (g h : ℤ) (kept : List ℤ) → IsTable (step_of d row column g) kept → IsTable (step_of d row column h) kept
+pub IsTable-with : (d : Condensed) (row column : ℕ) (g h : ℤ) (kept : List ℤ) → IsTable (step_of d row column g) kept → IsTable (step_of d row column h) kept
 IsTable-with d row column g h kept t = record {
   row_limit = t.row_limit;
   column_limit = t.column_limit;
@@ -128,28 +86,6 @@ IsTable-with d row column g h kept t = record {
   den_positive = t.den_positive;
   pivot_positive = t.pivot_positive;
 }
-
--- what is written is the table after the pivot
-pub AreWritten-settled : (d : Condensed) (s : Step) (g : ℤ) (fresh new : List ℤ) → s ≡ step_of d s.row s.entering (pos 1) → IsExchange d s.row s.entering → IsFilledBy s d.kept fresh g → AreRowsFilled s g d.kept new (s.rows + 2) → IsTable s new → AreWritten d s.row s.entering g new
-AreWritten-settled d s g fresh new e h f r t = record {
-  exchange = h;
-  divisor = divisor;
-  narrow = IsNarrow-from (step_of d s.row s.entering g) d.kept d.seat h.place_in divisor filled.den (record { at = (AreRowsNarrow-filled (step_of d s.row s.entering (pos 1)) g d.kept new filled.divisor.positive table rows filled.divisor.of_rows).at });
-  written = record { length_is = table.kept_length ∙ sym h.shape.kept_length; numbers = rows.at };
-  table = IsTable-with d s.row s.entering (pos 1) g new table;
-}
-  where
-    filled : IsFilledBy (step_of d s.row s.entering (pos 1)) d.kept fresh g
-    filled = subst (λ u. IsFilledBy u d.kept fresh g) e f
-
-    rows : AreRowsFilled (step_of d s.row s.entering (pos 1)) g d.kept new (d.rows + 2)
-    rows = subst (λ u. AreRowsFilled u g d.kept new (u.rows + 2)) e r
-
-    table : IsTable (step_of d s.row s.entering (pos 1)) new
-    table = subst (λ u. IsTable u new) e t
-
-    divisor : IsStepDivisor (step_of d s.row s.entering g) d.kept (d.rows + 2) g
-    divisor = IsStepDivisor-same d s.row s.entering (pos 1) g g (d.rows + 2) filled.divisor
 
 -- where the denominator or a number is above the limit, not all entries are within it
 pub not_narrow : (d : Condensed) (row column : ℕ) (s : Step) (g : ℤ) → s ≡ step_of d row column (pos 1) → IsExchange d row column → IsWideFor s d.kept → IsStepDivisor (step_of d row column (pos 1)) d.kept (d.rows + 2) g → IsNarrow d.rows d.columns (limit_of d.bits) (new_entry (step_of d row column g) d.kept d.seat g) → ⊥

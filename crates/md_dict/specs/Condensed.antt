@@ -59,11 +59,6 @@ pub record IsShapedDictionary (d : Condensed) : Type 0 where
   pub kept_length : length d.kept ≡ (d.rows + 2) * (d.columns + 1)
   pub kept_size : AllWithin (limit_of d.bits) d.kept
 
--- a second table has the length of the first, and its numbers are within the limit too
-pub record IsFresh (rows columns bits : ℕ) (fresh : List ℤ) : Type 0 where
-  pub length_is : length fresh ≡ (rows + 2) * (columns + 1)
-  pub size : AllWithin (limit_of bits) fresh
-
 -- the value is the dictionary of its basis for a program
 pub record Holds (p : Program) (d : Condensed) : Type 0 where
   pub rows : d.rows ≡ row_count p

@@ -1,5 +1,5 @@
 -- What a pivot changes in a condensed dictionary.
-use Rattle.std.specs.Prelude.{ℕ, ◌+◌, ◌<◌, ℤ, pos, ◌*ℤ◌, ◌<ℤ◌, int_div, List, slice_index, slice_set}
+use Rattle.std.specs.Prelude.{◌≡◌, ℕ, ◌+◌, ◌^◌, ◌<◌, ℤ, pos, ◌*ℤ◌, ◌<ℤ◌, int_div, List, slice_index, slice_set, unsigned_abs}
 use Rattle.md_num.specs.Limits.{limit_of}
 use Rattle.md_dict.specs.declared.step.Step.{Step}
 use Rattle.md_dict.specs.Condensed.{Condensed, basic_at, kept_number, IsShapedDictionary}
@@ -48,3 +48,10 @@ pub record AreWritten (d : Condensed) (row column : ℕ) (g : ℤ) (kept : List 
   pub narrow : IsNarrow d.rows d.columns (limit_of d.bits) (new_entry (step_of d row column g) d.kept d.seat g)
   pub written : IsWritten (step_of d row column g) g d.kept kept
   pub table : IsTable (step_of d row column g) kept
+
+-- the step with its divisor, by which an entry or the denominator is above the limit
+pub record IsWideStep (d : Condensed) (row column : ℕ) (divided : Step) : Type 0 where
+  pub step : divided ≡ step_of d row column divided.divisor
+  pub size : unsigned_abs divided.divisor < 2 ^ 126
+  pub divisor : IsStepDivisor divided d.kept (d.rows + 2) divided.divisor
+  pub wide : ¬ IsNarrow d.rows d.columns (limit_of d.bits) (new_entry divided d.kept d.seat divided.divisor)

@@ -1,11 +1,16 @@
+pub mod Combination
 pub mod Condensed
 pub mod Dictionary
 pub mod Exchange
 pub mod Fill
 pub mod FirstRows
 pub mod FirstTable
-pub mod Lanes
+pub mod Halves
+pub mod Reduce
+pub mod Multiples
 pub mod Pivot
+pub mod RowStep
+pub mod Rows
 pub mod Start
 pub mod Step
 pub mod Wide

@@ -77,20 +77,9 @@ pub record IsSeated (step : Step) (seat : List ℕ) : Type 0 where
 pub record DividesPlaces (step : Step) (kept : List ℤ) (i n : ℕ) (d : ℤ) : Type 0 where
   pub at : (s : ℕ) → s < n → Divides d (raw_number step kept i s)
 
--- d divides the raw numbers of a row at the places from a first to before an end
-pub record DividesFrom (step : Step) (kept : List ℤ) (i first end : ℕ) (d : ℤ) : Type 0 where
-  pub at : (s : ℕ) → first ≤ s → s < end → Divides d (raw_number step kept i s)
-
 -- d divides the raw numbers of the first rows
 pub record DividesRows (step : Step) (kept : List ℤ) (n : ℕ) (d : ℤ) : Type 0 where
   pub at : (i s : ℕ) → i < n → s < step.columns + 1 → Divides d (raw_number step kept i s)
-
--- the greatest number that divides `before` and a row's first raw numbers
-pub record IsRowDivisor (step : Step) (kept : List ℤ) (i n : ℕ) (before d : ℤ) : Type 0 where
-  pub positive : pos 0 <ℤ d
-  pub of_before : Divides d before
-  pub of_places : DividesPlaces step kept i n d
-  pub greatest : (x : ℤ) → Divides x before → DividesPlaces step kept i n x → Divides x d
 
 -- the greatest number that divides the denominator times the pivot, and the raw numbers of the first rows
 pub record IsStepDivisor (step : Step) (kept : List ℤ) (n : ℕ) (d : ℤ) : Type 0 where

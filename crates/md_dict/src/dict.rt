@@ -1,4 +1,4 @@
-ghost use Rattle.std.specs.Prelude.{◌≡◌, ℕ, ◌+◌, ◌*◌, ◌^◌, ◌<◌, ◌≤◌, ℤ, pos, ◌<ℤ◌, ◌≤ℤ◌, ◌*ℤ◌, ◌⊎◌, length, ◌↔◌, int_div, IfErr, IfNone, IfOk, IfSome, IsTrue, OnOk, OnErr, slice_index, ◌==◌, if◌then◌else◌, unsigned_abs};
+ghost use Rattle.std.specs.Prelude.{◌≡◌, ℕ, ◌+◌, ◌*◌, ◌^◌, ◌<◌, ◌≤◌, ℤ, pos, ◌<ℤ◌, ◌≤ℤ◌, ◌*ℤ◌, ◌⊎◌, length, replicate, ◌↔◌, int_div, IfErr, IfNone, IfOk, IfSome, IsTrue, OnOk, OnErr, slice_index, ◌==◌, if◌then◌else◌, unsigned_abs};
 ghost use Rattle.md_num.specs.Limits.{limit_of};
 ghost use Rattle.md_math.specs.Lists.{number_at};
 ghost use Rattle.md_math.specs.Sizes.{AllWithin, IsWithin};
@@ -7,14 +7,17 @@ ghost use Rattle.md_dict.specs.Dictionary.{IsDictionary};
 ghost use Rattle.md_dict.specs.Pivot.{with_column};
 ghost use Rattle.md_dict.specs.Wide.{IsFirstWide, IsNarrow, IsWideBasis};
 ghost use Rattle.md_dict.specs.FirstTable.{first_entry};
+ghost use Rattle.md_dict.specs.RowStep.{IsRoom};
 
-use crate::first::{first_columns, first_numbers, numbers_to, wide_first, zeros};
+use crate::first::{first_columns, first_numbers, numbers_to, wide_first};
 use crate::refusals::{StartRefusal, TooWide};
-use crate::sizes::greatest_size;
+use crate::rows::{Rows, filled};
+use crate::sizes::greatest_product;
 use crate::step::{Step, basic_number};
 use crate::wide::first_wide;
+use crate::witnesses::Witnesses;
 use md_lp::{Entry, Lp};
-use md_num::{Width, exact_quotient, product};
+use md_num::{NoMemory, Width};
 use std::alloc::Global;
 use std::marker::Model;
 
@@ -29,27 +32,32 @@ pub struct Dict {
     den: i128,
     order: Vec<u32>,
     seat: Vec<u32>,
-    kept: Vec<i64>,
-    fresh: Vec<i64>,
+    table: Rows,
+    fresh: Rows,
+    zeros: Vec<i64>,
+    witnesses: Witnesses,
 }
 
-// A dictionary is seen by its basis and the numbers that it keeps. In the second table, of the same length, the next pivot writes the rows that change, until it is known that none is too wide.
+// A dictionary is seen by its basis and the numbers that it keeps over its denominator, which is the least common multiple of its rows' denominators. In the second table, of the same length, the next pivot writes the rows that change, until it is known that none is too wide. The zeros are as many as a row has numbers. The witnesses are where the next pivot looks for divisors first.
 impl Model for Dict {
-    ghost use Rattle.md_dict.specs.Condensed.{Condensed, IsFresh, IsShapedDictionary};
+    ghost use Rattle.std.specs.Prelude.{◌≡◌, ◌+◌, pos, replicate};
+    ghost use Rattle.md_num.specs.Limits.{limit_of};
+    ghost use Rattle.md_dict.specs.Condensed.{Condensed, IsShapedDictionary};
+    ghost use Rattle.md_dict.specs.Rows.{HasRows, kept_of};
+    ghost use Rattle.md_dict.specs.RowStep.{IsRoom};
 
     ghost Value = { Condensed };
 
-    ghost view = { λ d. record { rows = d.rows; columns = d.columns; bits = d.width; den = d.den; order = d.order.items; seat = d.seat.items; kept = d.kept.items } };
+    ghost view = { λ d. record { rows = d.rows; columns = d.columns; bits = d.width; den = d.den; order = d.order.items; seat = d.seat.items; kept = kept_of (d.rows + 2) d.table } };
 
-    ghost invariant = { λ d. IsShapedDictionary (record { rows = d.rows; columns = d.columns; bits = d.width; den = d.den; order = d.order.items; seat = d.seat.items; kept = d.kept.items }) × IsFresh d.rows d.columns d.width d.fresh.items };
+    ghost invariant = { λ d. IsShapedDictionary (record { rows = d.rows; columns = d.columns; bits = d.width; den = d.den; order = d.order.items; seat = d.seat.items; kept = kept_of (d.rows + 2) d.table }) × HasRows d.rows d.columns d.den d.table × IsRoom (d.rows + 2) (d.columns + 1) (limit_of d.width) d.fresh × d.zeros.items ≡ replicate (d.columns + 1) (pos 0) };
 }
 
 impl Dict {
     ghost use Rattle.md_dict.specs.Condensed.{Holds, IsGreatestSize, IsShapedDictionary, KeepsEachOnce, TakesColumn, basic_at, entry_at, kept_column_at, kept_number};
     ghost use Rattle.md_dict.specs.Start.{IsRefused, IsStart};
-    ghost use Rattle.md_dict.specs.Step.{IsStepDivisor, new_entry};
-    ghost use Rattle.md_dict.specs.Exchange.{IsExchange, AreWritten, exchanged, step_of};
-    ghost use Rattle.md_dict.specs.Fill.{IsWideFor};
+    ghost use Rattle.md_dict.specs.Step.{new_entry};
+    ghost use Rattle.md_dict.specs.Exchange.{IsExchange, IsWideStep, AreWritten, exchanged, step_of};
 
     /// The dictionary of the first basis, which has the start columns in row order.
     /// It is refused where it has an entry above the width's limit in size, and where memory ran out.
@@ -59,20 +67,24 @@ impl Dict {
     {
         let rows = lp.rows();
         let columns = first_columns(lp);
-        let Ok(kept) = first_numbers(alloc, lp, columns) else {
-            return Err(StartRefusal::Memory);
-        };
-        let Ok(fresh) = zeros(alloc, kept.len()) else {
+        let Ok(numbers) = first_numbers(alloc, lp, columns) else {
             return Err(StartRefusal::Memory);
         };
         let limit = width.limit().unsigned_abs();
-        if let Some(entry) = wide_first(kept.as_slice(), columns, rows, limit) {
+        if let Some(entry) = wide_first(numbers.as_slice(), columns, rows, limit) {
             return Err(StartRefusal::TooWide(entry));
         }
         let Ok(order) = numbers_to(alloc, columns + rows) else {
             return Err(StartRefusal::Memory);
         };
         let Ok(seat) = numbers_to(alloc, columns + rows) else {
+            return Err(StartRefusal::Memory);
+        };
+        let stride = columns as usize + 1;
+        let Ok((fresh, zeros)) = empty_room(alloc, rows as usize + 2, stride) else {
+            return Err(StartRefusal::Memory);
+        };
+        let Ok(table) = Rows::whole(alloc, rows as usize + 2, stride, numbers) else {
             return Err(StartRefusal::Memory);
         };
         Ok(Dict {
@@ -82,8 +94,10 @@ impl Dict {
             den: 1,
             order,
             seat,
-            kept,
+            table,
             fresh,
+            zeros,
+            witnesses: Witnesses::new(),
         })
     }
 
@@ -166,8 +180,11 @@ impl Dict {
         ensures nonneg { pos 0 ≤ℤ result }
         ensures greatest { IsGreatestSize self.now (unsigned_abs result) }
     {
-        let least = least_size(self.rows, self.den);
-        i128::from(greatest_size(self.kept.as_slice(), least))
+        greatest_product(
+            self.table.sizes.as_slice(),
+            self.table.shares.as_slice(),
+            least_size(self.rows, self.den),
+        )
     }
 
     /// Makes a program or slack column basic at a row where its entry is positive.
@@ -190,12 +207,12 @@ impl Dict {
             return Ok(());
         }
         let step = self.plain_step(row, column);
-        match self.exchange(&step) {
-            Some(_) => Ok(()),
-            None => Err(TooWide {
-                entry: self.first_wide(&step),
-            }),
+        if let Err(divided) = self.exchange(&step) {
+            return Err(TooWide {
+                entry: self.first_wide(&divided),
+            });
         }
+        Ok(())
     }
 
     // The kept number of a row at a place.
@@ -205,7 +222,7 @@ impl Dict {
         ensures value { result ≡ kept_number self.now row place }
         ensures size { IsWithin (limit_of self.now.bits) result }
     {
-        i128::from(self.kept[row * (self.columns as usize + 1) + place])
+        self.table.number(row, place)
     }
 
     // Whether a column is basic.
@@ -238,45 +255,60 @@ impl Dict {
         }
     }
 
-    // The first entry after a pivot that is above the limit.
-    fn first_wide(&self, step: &Step) -> Entry
-        requires exchange { IsExchange self.now step.now.row step.now.entering }
-        requires step { step.now ≡ step_of self.now step.now.row step.now.entering (pos 1) }
-        requires wide { IsWideFor step.now self.now.kept }
-        ensures { (g : ℤ) × IsStepDivisor (step_of self.now step.now.row step.now.entering (pos 1)) self.now.kept (self.now.rows + 2) g × IsFirstWide self.now.rows self.now.columns (limit_of self.now.bits) (int_div (step.now.den *ℤ step.now.pivot) g) (new_entry step.now self.now.kept self.now.seat g) result }
+    // The first entry after a pivot that is above the limit, where there is one.
+    fn first_wide(&self, divided: &Step) -> Entry
+        requires exchange { IsExchange self.now divided.now.row divided.now.entering }
+        requires wide { IsWideStep self.now divided.now.row divided.now.entering divided.now }
+        ensures { IsFirstWide self.now.rows self.now.columns (limit_of self.now.bits) (int_div (divided.now.den *ℤ divided.now.pivot) divided.now.divisor) (new_entry divided.now self.now.kept self.now.seat divided.now.divisor) result }
     {
-        let divided = step.divided(self.kept.as_slice());
-        first_wide(&divided, self.kept.as_slice(), self.seat.as_slice())
+        first_wide(divided, &self.table, self.seat.as_slice())
     }
 
-    // Makes of the dictionary what a pivot makes of it, where no entry is then above the limit, and answers the number by which all was divided.
-    fn exchange(&mut self, step: &Step) -> Option<i128>
+    // Makes of the dictionary what a pivot makes of it, where no entry is then above the limit, and answers the number by which all was divided; else the step with that number.
+    fn exchange(&mut self, step: &Step) -> Result<i128, Step>
         requires exchange { IsExchange self.old step.now.row step.now.entering }
         requires step { step.now ≡ step_of self.old step.now.row step.now.entering (pos 1) }
-        ensures new { IfSome result (λ divisor. self.new ≡ exchanged self.old step.now.row step.now.entering divisor self.new.kept) }
-        ensures written { IfSome result (λ divisor. AreWritten self.old step.now.row step.now.entering divisor self.new.kept) }
-        ensures wide { IfNone result (IsWideFor step.now self.old.kept) }
-        ensures stays { IfNone result (self.new ≡ self.old) }
+        ensures new { IfOk result (λ divisor. self.new ≡ exchanged self.old step.now.row step.now.entering divisor self.new.kept) }
+        ensures written { IfOk result (λ divisor. AreWritten self.old step.now.row step.now.entering divisor self.new.kept) }
+        ensures wide { IfErr result (λ divided. IsWideStep self.old step.now.row step.now.entering divided) }
+        ensures stays { IfErr result (λ _. self.new ≡ self.old) }
     {
-        let divisor = step.fill(self.kept.as_slice(), self.fresh.as_mut_slice())?;
-        step.take_over(divisor, &mut self.kept, &mut self.fresh);
+        let filled = step.fill(
+            &self.table,
+            self.zeros.as_slice(),
+            &mut self.fresh,
+            &mut self.witnesses,
+        );
+        let divided = step.over(filled.den);
+        if !filled.is_narrow {
+            return Err(divided);
+        }
+        if !self.fresh.share_out(filled.den, step.limit) {
+            return Err(divided);
+        }
+        step.take_over(&mut self.table, &mut self.fresh);
         self.order[step.place] = step.leaving as u32;
         self.order[step.columns + step.row] = step.entering as u32;
         self.seat[step.entering] = (step.columns + step.row) as u32;
         self.seat[step.leaving] = step.place as u32;
-        self.den = exact_quotient(product(step.den, step.pivot), divisor);
-        Some(divisor)
+        self.den = filled.den;
+        Ok(divided.divisor)
     }
 }
 
-// The size that the basic columns have, if there are any.
-fn least_size(rows: u32, den: i128) -> u64
-    requires { IsWithin (2 ^ 62) den }
-    ensures { result ≡ (if rows == 0 then 0 else unsigned_abs den) }
+// Room for the rows after a pivot, and a row of zeros.
+fn empty_room(alloc: Global, count: usize, width: usize) -> Result<(Rows, Vec<i64>), NoMemory>
+    requires count { count ≤ 8194 }
+    requires width { width ≤ 73729 }
+    ensures room { IfOk result (λ made. (limit : ℕ) → IsRoom count width limit made.0) }
+    ensures zeros { IfOk result (λ made. made.1.items ≡ replicate width (pos 0)) }
 {
-    if rows == 0 {
-        0
-    } else {
-        den.unsigned_abs() as u64
-    }
+    Ok((Rows::zero(alloc, count, width)?, filled(alloc, width, 0)?))
+}
+
+// The size that the basic columns have, if there are any.
+fn least_size(rows: u32, den: i128) -> i128
+    ensures { result ≡ (if rows == 0 then pos 0 else den) }
+{
+    if rows == 0 { 0 } else { den }
 }

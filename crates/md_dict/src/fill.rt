@@ -1,209 +1,247 @@
-ghost use Rattle.std.specs.Prelude.{◌≡◌, ◌+◌, ◌^◌, ◌<◌, ◌≤◌, ◌↔◌, pos, ◌*ℤ◌, ◌<ℤ◌, int_div, IsTrue, IfErr, IfNone, IfOk, IfSome, OnOk, unsigned_abs};
-ghost use Rattle.md_math.specs.Divisors.{Divides, IsGcdOfTwo};
-ghost use Rattle.md_math.specs.Sizes.{IsWithin};
+ghost use Rattle.std.specs.Prelude.{◌≡◌, ◌≢◌, ◌+◌, ◌^◌, ◌<◌, ℤ, pos, ◌<ℤ◌, replicate, IfErr, IfNone, IfOk, IfSome, IsFalse, IsTrue, unsigned_abs};
+ghost use Rattle.md_math.specs.Lists.{number_at};
+ghost use Rattle.md_math.specs.Divisors.{Divides};
+ghost use Rattle.md_dict.specs.Multiples.{IsMultipleOfTwo};
+ghost use Rattle.md_dict.specs.Rows.{IsRowSize};
 
-use crate::division::Divider;
-use crate::filling::Filling;
-use crate::lanes::RUN;
-use crate::step::Step;
-use crate::wide::is_within;
-use md_num::{exact_quotient, gcd, product};
+use crate::combination::{Combination, LeastRow};
+use crate::multiples::with_multiple;
+use crate::rows::Rows;
+use crate::sizes::row_size;
+use crate::step::{Step, basic_number};
+use crate::witnesses::Witnesses;
 
-// Why new numbers are not written: the divisor does not divide a raw number, or a new number is above the limit.
+// What came of writing the rows after a pivot: the least common multiple of their denominators, the last one of these, and whether no row is too wide by itself.
 #[derive(Clone, Copy)]
-pub enum Unfit {
-    Indivisible(i128),
-    TooWide,
+pub struct Filled {
+    pub den: i128,
+    last: i128,
+    pub is_narrow: bool,
+}
+
+impl Filled {
+    // The same with one more denominator, which is often the last one again.
+    fn with(&self, den: i128) -> Filled
+        requires multiple { pos 0 <ℤ self.now.den }
+        requires last { Divides self.now.last self.now.den }
+        requires den { pos 0 <ℤ den }
+        requires room { (x : ℤ) × (unsigned_abs x < 2 ^ 126) × (pos 0 <ℤ x) × Divides self.now.den x × Divides den x }
+        ensures multiple { IsMultipleOfTwo self.now.den den result.den }
+        ensures size { unsigned_abs result.den < 2 ^ 126 }
+        ensures last { Divides result.last result.den }
+        ensures narrow { result.is_narrow ≡ self.now.is_narrow }
+    {
+        if den == self.last {
+            return *self;
+        }
+        Filled {
+            den: with_multiple(self.den, den),
+            last: den,
+            is_narrow: self.is_narrow,
+        }
+    }
 }
 
 impl Step {
-    ghost use Rattle.md_dict.specs.Step.{IsStep, IsTable, raw_number};
-    ghost use Rattle.md_dict.specs.Fill.{AreFilled, AreRowsWritten, IsFilledBy, IsFilling, IsUnfit, IsWideFor, Leaves};
+    ghost use Rattle.md_dict.specs.Step.{IsTable, number_in};
+    ghost use Rattle.md_dict.specs.RowStep.{AreParts, IsCombinationOf, IsMadeRow, IsRoom, IsRowStep, kept_in, made_number};
+    ghost use Rattle.md_dict.specs.Fill.{IsDenOf, IsFilledBy, IsRowsMultiple, IsWideFor, Leaves};
 
-    // The new number at a kept place.
-    fn new_number(
+    // What a row other than the pivot row becomes, before it is in least terms.
+    fn combination(&self, rows: &Rows, row: usize) -> Combination
+        requires step { IsRowStep self.now rows.now }
+        requires row { row < self.now.rows + 2 }
+        requires other { row ≢ self.now.row }
+        ensures { IsCombinationOf self.now rows.now row result }
+    {
+        let den = rows.dens[row];
+        let leaving = basic_number(
+            self.rows,
+            self.columns,
+            i128::from(den),
+            self.row,
+            self.leaving,
+            row,
+        );
+        Combination {
+            place: self.place,
+            multiplier: rows.own(self.row, self.place),
+            factor: rows.own(row, self.place),
+            den,
+            pivot_den: rows.dens[self.row],
+            leaving: leaving as i64,
+        }
+    }
+
+    // The same by small numbers.
+    fn lowest_combination(&self, rows: &Rows, row: usize) -> Combination
+        requires step { IsRowStep self.now rows.now }
+        requires row { row < self.now.rows + 2 }
+        requires other { row ≢ self.now.row }
+        ensures { IsCombinationOf self.now rows.now row result }
+    {
+        self.combination(rows, row)
+            .lowered(rows.size(row), rows.size(self.row))
+    }
+
+    // Writes the new numbers of a row that changes, where none is above the limit.
+    fn fill_changed(
         &self,
-        kept: &[i64],
+        rows: &Rows,
         row: usize,
-        place: usize,
-        divider: &Divider,
-    ) -> Result<i64, Unfit>
-        requires step { IsStep self.now kept.now }
+        zeros: &[i64],
+        numbers: &mut [i64],
+        witnesses: &mut Witnesses,
+    ) -> Option<LeastRow>
+        requires step { IsRowStep self.now rows.now }
         requires row { row < self.now.rows + 2 }
-        requires place { place < self.now.columns + 1 }
-        requires positive { pos 0 <ℤ divider.now.value }
-        requires size { unsigned_abs divider.now.value < 2 ^ 126 }
-        ensures number { IfOk result (λ q. (divider.now.value *ℤ q ≡ raw_number self.now kept.now row place) × IsWithin self.now.limit q) }
-        ensures unfit { IfErr result (IsUnfit self.now kept.now divider.now.value) }
+        requires other { row ≢ self.now.row }
+        requires zeros { zeros.now ≡ replicate (self.now.columns + 1) (pos 0) }
+        requires table { IsTable self.now numbers.old }
+        ensures made { IfSome result (λ least. IsMadeRow self.now rows.now row least (number_in self.now numbers.new row)) }
+        ensures wide { IfNone result (IsWideFor self.now (kept_in self.now rows.now)) }
+        ensures leaves { Leaves self.now row numbers.old numbers.new }
+        ensures table { IsTable self.now numbers.new }
     {
-        let number = self.raw_number(kept, row, place);
-        let Some(quotient) = divider.exact(number) else {
-            return Err(Unfit::Indivisible(number));
-        };
-        if !is_within(quotient, self.limit) {
-            return Err(Unfit::TooWide);
-        }
-        Ok(quotient as i64)
-    }
-
-    // Writes the new numbers of a row from a place on.
-    fn fill_slowly(
-        &self,
-        kept: &[i64],
-        row: usize,
-        from: usize,
-        divider: &Divider,
-        fresh: &mut [i64],
-    ) -> Result<(), Unfit>
-        requires step { IsStep self.now kept.now }
-        requires row { row < self.now.rows + 2 }
-        requires from { from ≤ self.now.columns + 1 }
-        requires positive { pos 0 <ℤ divider.now.value }
-        requires size { unsigned_abs divider.now.value < 2 ^ 126 }
-        requires filled { AreFilled self.now divider.now.value kept.now fresh.old row from }
-        requires table { IsTable self.now fresh.old }
-        ensures filled { OnOk result (AreFilled self.now divider.now.value kept.now fresh.new row (self.now.columns + 1)) }
-        ensures unfit { IfErr result (IsUnfit self.now kept.now divider.now.value) }
-        ensures leaves { Leaves self.now row fresh.old fresh.new }
-        ensures table { IsTable self.now fresh.new }
-    {
-        for place in from..self.columns + 1 {
-            fresh[row * (self.columns + 1) + place] = self.new_number(kept, row, place, divider)?;
-        }
-        Ok(())
-    }
-
-    // Writes the new numbers of a row, but that at the place of the pivot.
-    fn fill_others(
-        &self,
-        kept: &[i64],
-        row: usize,
-        filling: &Filling,
-        factors: &mut [i64; RUN],
-        fresh: &mut [i64],
-    ) -> Result<(), Unfit>
-        requires step { IsStep self.now kept.now }
-        requires row { row < self.now.rows + 2 }
-        requires filling { IsFilling self.now kept.now filling.now }
-        requires table { IsTable self.now fresh.old }
-        ensures filled { OnOk result (AreFilled self.now filling.now.divider.value kept.now fresh.new row (self.now.columns + 1)) }
-        ensures unfit { IfErr result (IsUnfit self.now kept.now filling.now.divider.value) }
-        ensures leaves { Leaves self.now row fresh.old fresh.new }
-        ensures table { IsTable self.now fresh.new }
-    {
-        if let Some(lanes) = &filling.lanes {
-            if self.fill_by_lanes(kept, row, lanes, factors, fresh) {
-                return Ok(());
-            }
-        }
-        let from = self.fill_guessed(kept, row, filling, fresh);
-        self.fill_slowly(kept, row, from, &filling.divider, fresh)
-    }
-
-    // The new number of a row at the place of the pivot.
-    fn place_number(&self, kept: &[i64], row: usize, filling: &Filling) -> Result<i64, Unfit>
-        requires step { IsStep self.now kept.now }
-        requires row { row < self.now.rows + 2 }
-        requires filling { IsFilling self.now kept.now filling.now }
-        ensures number { IfOk result (λ q. (filling.now.divider.value *ℤ q ≡ raw_number self.now kept.now row self.now.place) × IsWithin self.now.limit q) }
-        ensures unfit { IfErr result (IsUnfit self.now kept.now filling.now.divider.value) }
-    {
-        match self.guessed_number(kept, row, self.place, filling) {
-            Some(number) => Ok(number),
-            None => self.new_number(kept, row, self.place, &filling.divider),
-        }
-    }
-
-    // Writes the new numbers of a row, where it does not stay.
-    fn fill_row(
-        &self,
-        kept: &[i64],
-        row: usize,
-        filling: &Filling,
-        factors: &mut [i64; RUN],
-        fresh: &mut [i64],
-    ) -> Result<(), Unfit>
-        requires step { IsStep self.now kept.now }
-        requires row { row < self.now.rows + 2 }
-        requires filling { IsFilling self.now kept.now filling.now }
-        requires table { IsTable self.now fresh.old }
-        ensures written { OnOk result (AreRowsWritten self.now filling.now.divider.value kept.now fresh.old row → AreRowsWritten self.now filling.now.divider.value kept.now fresh.new (row + 1)) }
-        ensures unfit { IfErr result (IsUnfit self.now kept.now filling.now.divider.value) }
-        ensures table { IsTable self.now fresh.new }
-    {
-        if self.stays(kept, row, filling.divider.value) {
-            return Ok(());
-        }
-        self.fill_others(kept, row, filling, factors, fresh)?;
-        let number = self.place_number(kept, row, filling)?;
-        fresh[row * (self.columns + 1) + self.place] = number;
-        Ok(())
-    }
-
-    // Writes the new numbers of all rows that do not stay.
-    fn fill_rows(&self, kept: &[i64], filling: &Filling, fresh: &mut [i64]) -> Result<(), Unfit>
-        requires step { IsStep self.now kept.now }
-        requires filling { IsFilling self.now kept.now filling.now }
-        requires table { IsTable self.now fresh.old }
-        ensures written { OnOk result (AreRowsWritten self.now filling.now.divider.value kept.now fresh.new (self.now.rows + 2)) }
-        ensures unfit { IfErr result (IsUnfit self.now kept.now filling.now.divider.value) }
-        ensures table { IsTable self.now fresh.new }
-    {
-        let mut factors = [0; RUN];
-        for row in 0..self.rows + 2 {
-            self.fill_row(kept, row, filling, &mut factors, fresh)?;
-        }
-        Ok(())
-    }
-
-    // Whether the new denominator is within the limit.
-    fn has_small_den(&self, divisor: i128) -> bool
-        requires den { IsWithin (2 ^ 62) self.now.den }
-        requires pivot { IsWithin (2 ^ 62) self.now.pivot }
-        requires positive { pos 0 <ℤ divisor }
-        requires size { unsigned_abs divisor < 2 ^ 126 }
-        requires of_den { Divides divisor (self.now.den *ℤ self.now.pivot) }
-        ensures { IsTrue result ↔ IsWithin self.now.limit (int_div (self.now.den *ℤ self.now.pivot) divisor) }
-    {
-        is_within(
-            exact_quotient(product(self.den, self.pivot), divisor),
-            self.limit,
+        let start = row * (self.columns + 1);
+        let end = start + self.columns + 1;
+        let fresh = &mut numbers[start..end];
+        let combination = self.lowest_combination(rows, row);
+        combination.reduce(
+            rows.row(row),
+            rows.row(self.row),
+            rows.size(row),
+            rows.size(self.row),
+            self.limit as u64,
+            zeros,
+            fresh,
+            witnesses,
         )
     }
 
-    // The greatest number that divides the denominator times the pivot, and the denominator times itself, which is the raw number at the place of the pivot.
-    fn first_candidate(&self) -> i128
-        requires den { IsWithin (2 ^ 62) self.now.den }
-        requires positive { pos 0 <ℤ self.now.den }
-        requires pivot { IsWithin (2 ^ 62) self.now.pivot }
-        requires pivot_positive { pos 0 <ℤ self.now.pivot }
-        ensures divisor { IsGcdOfTwo (self.now.den *ℤ self.now.pivot) (self.now.den *ℤ self.now.den) result }
-        ensures size { unsigned_abs result < 2 ^ 126 }
+    // The denominator of a row that changes, however wide the row is.
+    fn changed_den(&self, rows: &Rows, row: usize, witnesses: &Witnesses) -> i128
+        requires step { IsRowStep self.now rows.now }
+        requires row { row < self.now.rows + 2 }
+        requires other { row ≢ self.now.row }
+        ensures { IsDenOf self.now rows.now row result }
     {
-        product(self.den, gcd(self.pivot, self.den))
+        self.lowest_combination(rows, row)
+            .exact_den(rows.row(row), rows.row(self.row), witnesses)
     }
 
-    // Writes the new numbers of all rows that do not stay, where no number is above the limit, and answers the number by which all is divided.
-    // Where a candidate does not divide a raw number, all is written anew for their greatest common divisor.
-    pub fn fill(&self, kept: &[i64], fresh: &mut [i64]) -> Option<i128>
-        requires step { IsStep self.now kept.now }
-        requires table { IsTable self.now fresh.old }
-        ensures filled { IfSome result (IsFilledBy self.now kept.now fresh.new) }
-        ensures wide { IfNone result (IsWideFor self.now kept.now) }
-        ensures table { IsTable self.now fresh.new }
+    // Writes the new numbers of the pivot row: its own ones, over the pivot, and its old denominator at the place of the pivot.
+    fn fill_pivot_row(&self, rows: &Rows, numbers: &mut [i64]) -> LeastRow
+        requires step { IsRowStep self.now rows.now }
+        requires table { IsTable self.now numbers.old }
+        ensures made { IsMadeRow self.now rows.now self.now.row result (number_in self.now numbers.new self.now.row) }
+        ensures leaves { Leaves self.now self.now.row numbers.old numbers.new }
+        ensures table { IsTable self.now numbers.new }
     {
-        let first = Divider::new(self.first_candidate());
-        let mut divider = self.sampled(kept, first);
-        while let Err(unfit) = self.fill_rows(kept, &self.filling(kept, divider), fresh) {
-            match unfit {
-                Unfit::Indivisible(number) => divider = divider.common(number),
-                Unfit::TooWide => return None,
+        self.take_row(self.row, rows.numbers.as_slice(), numbers);
+        numbers[self.row * (self.columns + 1) + self.place] = rows.dens[self.row];
+        LeastRow {
+            den: rows.own(self.row, self.place),
+            size: row_size(numbers, self.columns + 1, self.row),
+        }
+    }
+
+    // Writes the new numbers of a row, where it does not stay, and answers its denominator and size: its denominator alone, where it is too wide.
+    fn fill_row(
+        &self,
+        rows: &Rows,
+        row: usize,
+        zeros: &[i64],
+        numbers: &mut [i64],
+        witnesses: &mut Witnesses,
+    ) -> Result<LeastRow, i128>
+        requires step { IsRowStep self.now rows.now }
+        requires row { row < self.now.rows + 2 }
+        requires zeros { zeros.now ≡ replicate (self.now.columns + 1) (pos 0) }
+        requires table { IsTable self.now numbers.old }
+        ensures made { IfOk result (λ least. IsMadeRow self.now rows.now row least (made_number self.now rows.now.numbers.items numbers.new row)) }
+        ensures wide { IfErr result (λ _. IsWideFor self.now (kept_in self.now rows.now)) }
+        ensures den { IfErr result (IsDenOf self.now rows.now row) }
+        ensures leaves { Leaves self.now row numbers.old numbers.new }
+        ensures table { IsTable self.now numbers.new }
+    {
+        if self.stays(rows.numbers.as_slice(), row) {
+            return Ok(LeastRow {
+                den: rows.dens[row],
+                size: rows.sizes[row],
+            });
+        }
+        if row == self.row {
+            return Ok(self.fill_pivot_row(rows, numbers));
+        }
+        match self.fill_changed(rows, row, zeros, numbers, witnesses) {
+            Some(least) => Ok(least),
+            None => Err(self.changed_den(rows, row, witnesses)),
+        }
+    }
+
+    // Writes all rows after the pivot, with their denominators and sizes, where no number of theirs is above the limit, and answers the least common multiple of the denominators.
+    fn fill_rows(
+        &self,
+        rows: &Rows,
+        zeros: &[i64],
+        numbers: &mut [i64],
+        dens: &mut [i64],
+        sizes: &mut [i64],
+        witnesses: &mut Witnesses,
+    ) -> Filled
+        requires step { IsRowStep self.now rows.now }
+        requires zeros { zeros.now ≡ replicate (self.now.columns + 1) (pos 0) }
+        requires room { AreParts self.now numbers.old dens.old sizes.old }
+        ensures den { IsRowsMultiple self.now rows.now (self.now.rows + 2) result.den }
+        ensures filled { IsTrue result.is_narrow → IsFilledBy self.now rows.now numbers.new dens.new sizes.new result.den }
+        ensures wide { IsFalse result.is_narrow → IsWideFor self.now (kept_in self.now rows.now) }
+        ensures room { AreParts self.now numbers.new dens.new sizes.new }
+    {
+        let mut filled = Filled {
+            den: 1,
+            last: 1,
+            is_narrow: true,
+        };
+        for row in 0..self.rows + 2 {
+            match self.fill_row(rows, row, zeros, numbers, witnesses) {
+                Ok(least) => {
+                    filled = filled.with(i128::from(least.den));
+                    dens[row] = least.den;
+                    sizes[row] = least.size;
+                }
+                Err(den) => {
+                    filled = filled.with(den);
+                    filled.is_narrow = false;
+                }
             }
         }
-        if self.has_small_den(divider.value) {
-            Some(divider.value)
-        } else {
-            None
-        }
+        filled
+    }
+
+    // The same in a second table.
+    pub fn fill(
+        &self,
+        rows: &Rows,
+        zeros: &[i64],
+        fresh: &mut Rows,
+        witnesses: &mut Witnesses,
+    ) -> Filled
+        requires step { IsRowStep self.now rows.now }
+        requires zeros { zeros.now ≡ replicate (self.now.columns + 1) (pos 0) }
+        requires room { IsRoom (self.now.rows + 2) (self.now.columns + 1) self.now.limit fresh.old }
+        ensures den { IsRowsMultiple self.now rows.now (self.now.rows + 2) result.den }
+        ensures filled { IsTrue result.is_narrow → IsFilledBy self.now rows.now fresh.new.numbers.items fresh.new.dens.items fresh.new.sizes.items result.den }
+        ensures wide { IsFalse result.is_narrow → IsWideFor self.now (kept_in self.now rows.now) }
+        ensures room { IsRoom (self.now.rows + 2) (self.now.columns + 1) self.now.limit fresh.new }
+    {
+        self.fill_rows(
+            rows,
+            zeros,
+            fresh.numbers.as_mut_slice(),
+            fresh.dens.as_mut_slice(),
+            fresh.sizes.as_mut_slice(),
+            witnesses,
+        )
     }
 }

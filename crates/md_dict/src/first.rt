@@ -9,6 +9,7 @@ ghost use Rattle.md_dict.specs.FirstRows.{IsBuiltBefore};
 ghost use Rattle.md_dict.specs.Start.{IsBuilt, IsFirstWidePlace};
 ghost use Rattle.md_dict.specs.Wide.{IsFirstWide, IsNarrow};
 
+use crate::rows::filled;
 use crate::sizes::are_surely_within;
 use crate::wide::is_within;
 use md_lp::{Entry, Lp, RowKind};
@@ -136,7 +137,7 @@ fn face_row(alloc: Global, kept: &[i64], columns: u32, rows: u32) -> Result<Vec<
     ensures value { IfOk result (λ face. (s : ℕ) → s < columns + 1 → number_at face.items s ≡ neg_ℤ (sum_to rows (λ r. number_at kept.now (r * (columns + 1) + s)))) }
 {
     let stride = columns as usize + 1;
-    let mut face = zeros(alloc, stride)?;
+    let mut face = filled(alloc, stride, 0)?;
     for row in 0..rows {
         subtract_row(face.as_mut_slice(), kept, row as usize * stride);
     }
@@ -222,16 +223,6 @@ pub fn numbers_to(alloc: Global, count: u32) -> Result<Vec<u32>, NoMemory>
         numbers.push(k)?;
     }
     Ok(numbers)
-}
-
-// A list of zeros.
-pub fn zeros(alloc: Global, count: usize) -> Result<Vec<i64>, NoMemory>
-    ensures length { IfOk result (λ list. length list.items ≡ count) }
-    ensures zero { IfOk result (λ list. AllWithin 0 list.items) }
-{
-    let mut list = Vec::with_capacity(alloc, count)?;
-    list.resize(count, 0)?;
-    Ok(list)
 }
 
 // The first entry of the first dictionary that is above the limit, by row, then by column.

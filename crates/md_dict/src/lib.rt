@@ -1,21 +1,26 @@
 //! The exact dictionary of a basis of a linear program: whole numbers over one denominator, in least terms.
 #![tactic(auto)]
 
+mod binary;
+mod candidate;
+mod combination;
 mod dict;
 mod division;
 mod fill;
-mod filling;
 mod first;
-mod guess;
-mod lanes;
+mod halves;
+mod long;
+mod multiples;
 mod quick;
+mod reduce;
 mod refusals;
-mod sample;
+mod rows;
 mod settle;
+mod short;
 mod sizes;
 mod step;
-mod weights;
 mod wide;
+mod witnesses;
 
 pub use dict::Dict;
 pub use refusals::{StartRefusal, TooWide};

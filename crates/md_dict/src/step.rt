@@ -1,9 +1,10 @@
 ghost use Rattle.std.specs.Prelude.{◌≡◌, ◌+◌, ◌^◌, ◌<◌, ◌≤◌, pos, ◌-ℤ◌, ◌*ℤ◌, ◌<ℤ◌, unsigned_abs};
+ghost use Rattle.md_math.specs.Divisors.{Divides};
 ghost use Rattle.md_math.specs.Sizes.{IsWithin};
 ghost use Rattle.md_dict.specs.Dictionary.{basic_value};
 
-use crate::division::Divider;
-use md_num::product;
+use crate::rows::Rows;
+use md_num::{exact_quotient, product};
 
 // What a pivot needs to know: how many program rows and how many program and slack columns there are, the row and the kept place of the pivot, the entering and the leaving column, the pivot, the denominator, how large a number may be, and the number by which all is divided.
 #[derive(Clone, Copy)]
@@ -21,7 +22,8 @@ pub struct Step {
 }
 
 impl Step {
-    ghost use Rattle.md_dict.specs.Step.{IsStep, IsTable, number_in, old_number, multiplier_of, factor_of, raw_number, IsRowDivisor, IsStepDivisor};
+    ghost use Rattle.md_dict.specs.Step.{number_in, old_number, multiplier_of, factor_of, raw_number};
+    ghost use Rattle.md_dict.specs.RowStep.{IsRowStep, kept_in};
 
     // What the leaving column holds in a row.
     fn leaving_value(&self, row: usize) -> i128
@@ -40,28 +42,28 @@ impl Step {
     }
 
     // The kept number at a row and a place.
-    pub fn number(&self, kept: &[i64], row: usize, place: usize) -> i128
-        requires table { IsTable self.now kept.now }
+    pub fn number(&self, rows: &Rows, row: usize, place: usize) -> i128
+        requires table { IsRowStep self.now rows.now }
         requires row { row < self.now.rows + 2 }
         requires place { place < self.now.columns + 1 }
-        ensures value { result ≡ number_in self.now kept.now row place }
+        ensures value { result ≡ number_in self.now (kept_in self.now rows.now) row place }
         ensures size { IsWithin (2 ^ 62) result }
     {
-        i128::from(kept[row * (self.columns + 1) + place])
+        rows.number(row, place)
     }
 
     // The number before the pivot.
-    fn old_number(&self, kept: &[i64], row: usize, place: usize) -> i128
-        requires table { IsTable self.now kept.now }
+    fn old_number(&self, rows: &Rows, row: usize, place: usize) -> i128
+        requires table { IsRowStep self.now rows.now }
         requires row { row < self.now.rows + 2 }
         requires place { place < self.now.columns + 1 }
-        ensures value { result ≡ old_number self.now kept.now row place }
+        ensures value { result ≡ old_number self.now (kept_in self.now rows.now) row place }
         ensures size { IsWithin (2 ^ 62) result }
     {
         if place == self.place {
             self.leaving_value(row)
         } else {
-            self.number(kept, row, place)
+            self.number(rows, row, place)
         }
     }
 
@@ -80,78 +82,48 @@ impl Step {
     }
 
     // How often the pivot row is taken from a row.
-    pub fn factor(&self, kept: &[i64], row: usize) -> i128
-        requires table { IsTable self.now kept.now }
+    pub fn factor(&self, rows: &Rows, row: usize) -> i128
+        requires table { IsRowStep self.now rows.now }
         requires row { row < self.now.rows + 2 }
-        ensures value { result ≡ factor_of self.now kept.now row }
+        ensures value { result ≡ factor_of self.now (kept_in self.now rows.now) row }
         ensures size { IsWithin (2 ^ 62) result }
     {
         if row == self.row {
             0
         } else {
-            self.number(kept, row, self.place)
+            self.number(rows, row, self.place)
         }
     }
 
     // The number at a kept place after the pivot, over the denominator times the pivot.
-    pub fn raw_number(&self, kept: &[i64], row: usize, place: usize) -> i128
-        requires step { IsStep self.now kept.now }
+    pub fn raw_number(&self, rows: &Rows, row: usize, place: usize) -> i128
+        requires step { IsRowStep self.now rows.now }
         requires row { row < self.now.rows + 2 }
         requires place { place < self.now.columns + 1 }
-        ensures value { result ≡ raw_number self.now kept.now row place }
+        ensures value { result ≡ raw_number self.now (kept_in self.now rows.now) row place }
         ensures size { unsigned_abs result < 2 ^ 126 }
     {
         cross(
             self.multiplier(row),
-            self.old_number(kept, row, place),
-            self.factor(kept, row),
-            self.old_number(kept, self.row, place),
+            self.old_number(rows, row, place),
+            self.factor(rows, row),
+            self.old_number(rows, self.row, place),
         )
     }
 
-    // The greatest number that divides `before` and the raw numbers of a row.
-    pub fn row_divisor(&self, kept: &[i64], row: usize, before: Divider) -> Divider
-        requires step { IsStep self.now kept.now }
-        requires row { row < self.now.rows + 2 }
-        requires positive { pos 0 <ℤ before.value }
-        requires size { unsigned_abs before.value < 2 ^ 126 }
-        ensures divisor { IsRowDivisor self.now kept.now row (self.now.columns + 1) before.value result.value }
-        ensures size { unsigned_abs result.value < 2 ^ 126 }
-    {
-        let mut divisor = before;
-        let mut place = 0;
-        while place < self.columns + 1 {
-            place = self.first_undivided(kept, row, place, &divisor);
-            if place < self.columns + 1 {
-                divisor = divisor.common(self.raw_number(kept, row, place));
-                place += 1;
-            }
-        }
-        divisor
-    }
-
-    // The greatest number that divides the denominator times the pivot, and each raw number.
-    fn divisor(&self, kept: &[i64]) -> i128
-        requires { IsStep self.now kept.now }
-        ensures divisor { IsStepDivisor self.now kept.now (self.now.rows + 2) result }
-        ensures size { unsigned_abs result < 2 ^ 126 }
-    {
-        let mut divisor = Divider::new(product(self.den, self.pivot));
-        for row in 0..self.rows + 2 {
-            divisor = self.row_divisor(kept, row, divisor);
-        }
-        divisor.value
-    }
-
-    // The step with its divisor.
-    pub fn divided(&self, kept: &[i64]) -> Step
-        requires { IsStep self.now kept.now }
+    // The step with its divisor, where the denominator after it is known.
+    pub fn over(&self, den: i128) -> Step
+        requires pivot { unsigned_abs (self.now.den *ℤ self.now.pivot) < 2 ^ 126 }
+        requires den_size { IsWithin (2 ^ 62) self.now.den }
+        requires pivot_size { IsWithin (2 ^ 62) self.now.pivot }
+        requires positive { pos 0 <ℤ den }
+        requires size { unsigned_abs den < 2 ^ 126 }
+        requires divides { Divides den (self.now.den *ℤ self.now.pivot) }
         ensures step { result ≡ record self.now { divisor = result.divisor } }
-        ensures divisor { IsStepDivisor self.now kept.now (self.now.rows + 2) result.divisor }
-        ensures size { unsigned_abs result.divisor < 2 ^ 126 }
+        ensures divisor { result.divisor *ℤ den ≡ self.now.den *ℤ self.now.pivot }
     {
         Step {
-            divisor: self.divisor(kept),
+            divisor: exact_quotient(product(self.den, self.pivot), den),
             ..*self
         }
     }

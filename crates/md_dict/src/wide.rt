@@ -2,10 +2,12 @@ ghost use Rattle.std.specs.Prelude.{◌≡◌, ℕ, List, ◌+◌, ◌^◌, ◌<
 ghost use Rattle.md_math.specs.Sizes.{IsWithin};
 ghost use Rattle.md_math.specs.Divisors.{Divides};
 ghost use Rattle.md_math.specs.FirstFailure.{HoldsBelow, IsFirstFailure};
-ghost use Rattle.md_dict.specs.Step.{IsStep, IsSeated, IsStepDivisor, seat_after, raw_at, new_entry};
+ghost use Rattle.md_dict.specs.RowStep.{IsRowStep, kept_in};
+ghost use Rattle.md_dict.specs.Step.{IsSeated, IsStepDivisor, seat_after, raw_at, new_entry};
 ghost use Rattle.md_dict.specs.Wide.{IsFirstWide, IsNarrow};
 
 use crate::division::Divider;
+use crate::rows::Rows;
 use crate::step::{Step, basic_number};
 use md_lp::Entry;
 use md_num::{exact_quotient, product};
@@ -30,20 +32,20 @@ fn seat_after(step: &Step, seat: &[u32], column: usize) -> usize
 }
 
 // The number at a column after the pivot, over the denominator times the pivot.
-fn raw_at(step: &Step, kept: &[i64], seat: &[u32], row: usize, column: usize) -> i128
-    requires step { IsStep step.now kept.now }
+fn raw_at(step: &Step, rows: &Rows, seat: &[u32], row: usize, column: usize) -> i128
+    requires step { IsRowStep step.now rows.now }
     requires seated { IsSeated step.now seat.now }
     requires row { row < step.now.rows + 2 }
     requires column { column < step.now.columns + step.now.rows + 1 }
-    ensures value { result ≡ raw_at step.now kept.now seat.now row column }
+    ensures value { result ≡ raw_at step.now (kept_in step.now rows.now) seat.now row column }
     ensures size { unsigned_abs result < 2 ^ 126 }
 {
     if column >= step.columns + step.rows {
-        return step.raw_number(kept, row, step.columns);
+        return step.raw_number(rows, row, step.columns);
     }
     let place = seat_after(step, seat, column);
     if place < step.columns {
-        step.raw_number(kept, row, place)
+        step.raw_number(rows, row, place)
     } else {
         let den = product(step.den, step.pivot);
         basic_number(
@@ -61,21 +63,21 @@ fn raw_at(step: &Step, kept: &[i64], seat: &[u32], row: usize, column: usize) ->
 fn new_entry(
     step: &Step,
     divider: &Divider,
-    kept: &[i64],
+    rows: &Rows,
     seat: &[u32],
     row: usize,
     column: usize,
 ) -> i128
-    requires step { IsStep step.now kept.now }
+    requires step { IsRowStep step.now rows.now }
     requires divider { divider.now.value ≡ step.now.divisor }
     requires seated { IsSeated step.now seat.now }
-    requires divisor { IsStepDivisor step.now kept.now (step.now.rows + 2) step.now.divisor }
+    requires divisor { IsStepDivisor step.now (kept_in step.now rows.now) (step.now.rows + 2) step.now.divisor }
     requires divisor_size { unsigned_abs step.now.divisor < 2 ^ 126 }
     requires row { row < step.now.rows + 2 }
     requires column { column < step.now.columns + step.now.rows + 1 }
-    ensures { result ≡ new_entry step.now kept.now seat.now step.now.divisor row column }
+    ensures { result ≡ new_entry step.now (kept_in step.now rows.now) seat.now step.now.divisor row column }
 {
-    divider.quotient(raw_at(step, kept, seat, row, column))
+    divider.quotient(raw_at(step, rows, seat, row, column))
 }
 
 // The denominator after the pivot.
@@ -101,23 +103,23 @@ pub fn is_within(x: i128, limit: u128) -> bool
 fn wide_in_row(
     step: &Step,
     divider: &Divider,
-    kept: &[i64],
+    rows: &Rows,
     seat: &[u32],
     row: usize,
 ) -> Option<usize>
-    requires step { IsStep step.now kept.now }
+    requires step { IsRowStep step.now rows.now }
     requires divider { divider.now.value ≡ step.now.divisor }
     requires seated { IsSeated step.now seat.now }
-    requires divisor { IsStepDivisor step.now kept.now (step.now.rows + 2) step.now.divisor }
+    requires divisor { IsStepDivisor step.now (kept_in step.now rows.now) (step.now.rows + 2) step.now.divisor }
     requires divisor_size { unsigned_abs step.now.divisor < 2 ^ 126 }
     requires row { row < step.now.rows + 2 }
     ensures { MatchOption result
-        (HoldsBelow (step.now.columns + step.now.rows + 1) (λ j. IsWithin step.now.limit (new_entry step.now kept.now seat.now step.now.divisor row j)))
-        (IsFirstFailure (step.now.columns + step.now.rows + 1) (λ j. IsWithin step.now.limit (new_entry step.now kept.now seat.now step.now.divisor row j))) }
+        (HoldsBelow (step.now.columns + step.now.rows + 1) (λ j. IsWithin step.now.limit (new_entry step.now (kept_in step.now rows.now) seat.now step.now.divisor row j)))
+        (IsFirstFailure (step.now.columns + step.now.rows + 1) (λ j. IsWithin step.now.limit (new_entry step.now (kept_in step.now rows.now) seat.now step.now.divisor row j))) }
 {
     for column in 0..step.columns + step.rows + 1 {
         if !is_within(
-            new_entry(step, divider, kept, seat, row, column),
+            new_entry(step, divider, rows, seat, row, column),
             step.limit,
         ) {
             return Some(column);
@@ -127,21 +129,21 @@ fn wide_in_row(
 }
 
 // The first entry after the pivot that is above the limit, by row, then by column, where there is one.
-pub fn first_wide(step: &Step, kept: &[i64], seat: &[u32]) -> Entry
-    requires step { IsStep step.now kept.now }
+pub fn first_wide(step: &Step, rows: &Rows, seat: &[u32]) -> Entry
+    requires step { IsRowStep step.now rows.now }
     requires seated { IsSeated step.now seat.now }
-    requires divisor { IsStepDivisor step.now kept.now (step.now.rows + 2) step.now.divisor }
+    requires divisor { IsStepDivisor step.now (kept_in step.now rows.now) (step.now.rows + 2) step.now.divisor }
     requires divisor_size { unsigned_abs step.now.divisor < 2 ^ 126 }
-    requires wide { ¬ IsNarrow step.now.rows step.now.columns step.now.limit (new_entry step.now kept.now seat.now step.now.divisor) }
-    ensures { IsFirstWide step.now.rows step.now.columns step.now.limit (int_div (step.now.den *ℤ step.now.pivot) step.now.divisor) (new_entry step.now kept.now seat.now step.now.divisor) result }
+    requires wide { ¬ IsNarrow step.now.rows step.now.columns step.now.limit (new_entry step.now (kept_in step.now rows.now) seat.now step.now.divisor) }
+    ensures { IsFirstWide step.now.rows step.now.columns step.now.limit (int_div (step.now.den *ℤ step.now.pivot) step.now.divisor) (new_entry step.now (kept_in step.now rows.now) seat.now step.now.divisor) result }
 {
     let divider = Divider::new(step.divisor);
     for row in 0..step.rows + 2 {
-        if let Some(column) = wide_in_row(step, &divider, kept, seat, row) {
+        if let Some(column) = wide_in_row(step, &divider, rows, seat, row) {
             return Entry {
                 row: row as u32,
                 column: column as u32,
-                num: new_entry(step, &divider, kept, seat, row, column),
+                num: new_entry(step, &divider, rows, seat, row, column),
                 den: new_den(step),
             };
         }

@@ -2,6 +2,7 @@ use Rattle.std.proofs.Common.{◌≡◌, ◌∙◌, inl, inr, subst, arith}
 use Rattle.std.proofs.lemmas.Bool.{cases_lt}
 use Rattle.md_math.specs.Sizes.{IsWithin}
 use Rattle.md_dict.specs.Step.{new_entry}
+use Rattle.md_dict.specs.RowStep.{kept_in}
 use Rattle.md_dict.proofs.Reading.{read_result}
 use Rattle.md_dict.proofs.Change.{above_from_not}
 use Rattle.md_dict.proofs.wide.first_wide.Goals as goal
@@ -23,5 +24,5 @@ loop-row-preserved c = λ r j a b.
       | inl l ↦ c.loop-row.invariant r j l b
       | inr l ↦
           let same : c.loop-row.row ≡ r = omega arith in
-          subst (λ k. IsWithin c.args.step.now.limit (new_entry c.args.step.now c.args.kept.now c.args.seat.now c.args.step.now.divisor k j)) same (c.in_default.ensures.holds j b)
+          subst (λ k. IsWithin c.args.step.now.limit (new_entry c.args.step.now (kept_in c.args.step.now c.args.rows.now) c.args.seat.now c.args.step.now.divisor k j)) same (c.in_default.ensures.holds j b)
     ]

@@ -1,62 +1,23 @@
-use Rattle.std.proofs.Common.{◌≡◌, ℤ, pos, ◌*ℤ◌, int_div, ◌+◌, ◌∙◌, sym, ap, subst}
-use Rattle.md_num.specs.Limits.{limit_of}
-use Rattle.md_dict.specs.Wide.{IsFirstWide, IsNarrow}
-use Rattle.md_dict.specs.Step.{IsStep, IsStepDivisor, new_entry}
-use Rattle.md_dict.specs.Exchange.{step_of}
-use Rattle.md_dict.specs.declared.step.Step.{Step}
-use Rattle.md_dict.proofs.Exchange.{IsStep-step_of}
-use Rattle.md_dict.proofs.Values.{IsStepDivisor-same, not_narrow}
+use Rattle.std.proofs.Common.{refl, ap, ◌∙◌}
+use Rattle.md_dict.specs.contracts.dict.Dict.{the_view}
+use Rattle.md_dict.proofs.NewTable.{first_for, kept_for, rows_for, seated_for, step_for_wide, wide_divisor, wide_entries}
 use Rattle.md_dict.proofs.dict.Dict.first_wide.Goals as goal
-
-pub divided-divided-requires : goal.divided-divided-requires
-divided-divided-requires c =
-    let kept = c.as_slice.ensures.value ∙ ap (λ d. d.kept) c.self.view_is in
-    rw kept (subst (λ s. IsStep s c.args.self.now.kept) (sym c.requires.step) (IsStep-step_of c.args.self.now c.args.step.now.row c.args.step.now.entering (pos 1) c.requires.exchange))
 
 pub first_wide-requires-clause-step : goal.first_wide-requires-clause-step
 first_wide-requires-clause-step c =
-    let g : ℤ = c.divided-divided.result.divisor in
-    let is_of : c.divided-divided.result ≡ step_of c.args.self.now c.args.step.now.row c.args.step.now.entering g = c.divided-divided.ensures.step ∙ ap {A = Step} (λ s. record s { divisor = g }) c.requires.step in
-    let kept = c.as_slice-2.ensures.value ∙ ap (λ d. d.kept) c.self.view_is in
-    rw kept (subst (λ s. IsStep s c.args.self.now.kept) (sym is_of) (IsStep-step_of c.args.self.now c.args.step.now.row c.args.step.now.entering g c.requires.exchange))
+    step_for_wide c.args.self.now c.args.divided.now c.self.inside.table c.requires.exchange c.requires.wide (kept_for (the_view c.self.inside) c.args.self.now c.self.inside.table c.self.view_is refl) (rows_for (the_view c.self.inside) c.args.self.now c.self.inside.table c.self.view_is c.self.invariant.1)
+
+pub first_wide-requires-clause-seated : goal.first_wide-requires-clause-seated
+first_wide-requires-clause-seated c = rw (c.as_slice.ensures.value ∙ ap (λ d. d.seat) c.self.view_is) (seated_for c.args.self.now c.args.divided.now c.requires.exchange c.requires.wide)
 
 pub first_wide-requires-clause-divisor : goal.first_wide-requires-clause-divisor
-first_wide-requires-clause-divisor c =
-    let g : ℤ = c.divided-divided.result.divisor in
-    let is_of : c.divided-divided.result ≡ step_of c.args.self.now c.args.step.now.row c.args.step.now.entering g = c.divided-divided.ensures.step ∙ ap {A = Step} (λ s. record s { divisor = g }) c.requires.step in
-    let kept = c.as_slice.ensures.value ∙ ap (λ d. d.kept) c.self.view_is in
-    let again = c.as_slice-2.ensures.value ∙ ap (λ d. d.kept) c.self.view_is in
-    let plain : IsStepDivisor (step_of c.args.self.now c.args.step.now.row c.args.step.now.entering (pos 1)) c.args.self.now.kept (c.args.self.now.rows + 2) g =
-    subst (λ s. IsStepDivisor s c.args.self.now.kept (s.rows + 2) g) c.requires.step (rw kept at c.divided-divided.ensures.divisor) in
-    rw again
-    (subst (λ s. IsStepDivisor s c.args.self.now.kept (s.rows + 2) g) (sym is_of)
-    (IsStepDivisor-same c.args.self.now c.args.step.now.row c.args.step.now.entering (pos 1) g g (c.args.self.now.rows + 2) plain))
+first_wide-requires-clause-divisor c = wide_divisor c.args.self.now c.args.divided.now c.self.inside.table c.requires.wide (kept_for (the_view c.self.inside) c.args.self.now c.self.inside.table c.self.view_is refl)
 
 pub first_wide-requires-clause-wide : goal.first_wide-requires-clause-wide
 first_wide-requires-clause-wide c =
-    let g : ℤ = c.divided-divided.result.divisor in
-    let is_of : c.divided-divided.result ≡ step_of c.args.self.now c.args.step.now.row c.args.step.now.entering g = c.divided-divided.ensures.step ∙ ap {A = Step} (λ s. record s { divisor = g }) c.requires.step in
-    let kept = c.as_slice.ensures.value ∙ ap (λ d. d.kept) c.self.view_is in
-    let again = c.as_slice-2.ensures.value ∙ ap (λ d. d.kept) c.self.view_is in
-    let seat = c.as_slice-3.ensures.value ∙ ap (λ d. d.seat) c.self.view_is in
-    let plain : IsStepDivisor (step_of c.args.self.now c.args.step.now.row c.args.step.now.entering (pos 1)) c.args.self.now.kept (c.args.self.now.rows + 2) g =
-    subst (λ s. IsStepDivisor s c.args.self.now.kept (s.rows + 2) g) c.requires.step (rw kept at c.divided-divided.ensures.divisor) in
-    rw (again, seat)
-    (λ n.
-    not_narrow c.args.self.now c.args.step.now.row c.args.step.now.entering c.args.step.now g c.requires.step c.requires.exchange c.requires.wide plain
-    (subst (λ s. IsNarrow s.rows s.columns s.limit (new_entry s c.args.self.now.kept c.args.self.now.seat g)) is_of n))
+    rw (c.as_slice.ensures.value ∙ ap (λ d. d.seat) c.self.view_is) (wide_entries c.args.self.now c.args.divided.now c.self.inside.table c.requires.wide (kept_for (the_view c.self.inside) c.args.self.now c.self.inside.table c.self.view_is refl))
 
 pub returns : goal.returns
 returns c =
-    let g : ℤ = c.divided-divided.result.divisor in
-    let is_of : c.divided-divided.result ≡ step_of c.args.self.now c.args.step.now.row c.args.step.now.entering g = c.divided-divided.ensures.step ∙ ap {A = Step} (λ s. record s { divisor = g }) c.requires.step in
-    let kept = c.as_slice.ensures.value ∙ ap (λ d. d.kept) c.self.view_is in
-    let again = c.as_slice-2.ensures.value ∙ ap (λ d. d.kept) c.self.view_is in
-    let seat = c.as_slice-3.ensures.value ∙ ap (λ d. d.seat) c.self.view_is in
-    let plain : IsStepDivisor (step_of c.args.self.now c.args.step.now.row c.args.step.now.entering (pos 1)) c.args.self.now.kept (c.args.self.now.rows + 2) g =
-    subst (λ s. IsStepDivisor s c.args.self.now.kept (s.rows + 2) g) c.requires.step (rw kept at c.divided-divided.ensures.divisor) in
-    let first : IsFirstWide c.args.self.now.rows c.args.self.now.columns (limit_of c.args.self.now.bits) (int_div (c.divided-divided.result.den *ℤ c.divided-divided.result.pivot) g) (new_entry c.divided-divided.result c.args.self.now.kept c.args.self.now.seat g) c.first_wide.result =
-    subst (λ s. IsFirstWide s.rows s.columns s.limit (int_div (c.divided-divided.result.den *ℤ c.divided-divided.result.pivot) g) (new_entry c.divided-divided.result c.args.self.now.kept c.args.self.now.seat g) c.first_wide.result) is_of
-    (rw (again, seat) at c.first_wide.ensures) in
-    let of_step = subst (λ s. IsFirstWide c.args.self.now.rows c.args.self.now.columns (limit_of c.args.self.now.bits) (int_div (s.den *ℤ s.pivot) g) (new_entry s c.args.self.now.kept c.args.self.now.seat g) c.first_wide.result) is_of first in
-    (g, plain, subst (λ s. IsFirstWide c.args.self.now.rows c.args.self.now.columns (limit_of c.args.self.now.bits) (int_div (s.den *ℤ s.pivot) g) (new_entry s c.args.self.now.kept c.args.self.now.seat g) c.first_wide.result) (sym c.requires.step) of_step)
+    first_for c.args.self.now c.args.divided.now c.self.inside.table _ c.requires.wide (kept_for (the_view c.self.inside) c.args.self.now c.self.inside.table c.self.view_is refl)
+    (rw (c.as_slice.ensures.value ∙ ap (λ d. d.seat) c.self.view_is) at c.first_wide.ensures)

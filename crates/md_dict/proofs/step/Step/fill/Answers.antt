@@ -1,49 +1,47 @@
-use Rattle.std.proofs.Common.{◌≡◌, ◌+◌, refl, ◌∙◌, subst}
-use Rattle.md_dict.specs.Fill.{IsUnfit, IsIndivisible, AreRowsWritten}
-use Rattle.md_dict.proofs.Reading.{read_wide}
-use Rattle.md_dict.proofs.NewNumbers.{IsCandidate-first, IsCandidate-next, smaller_candidate, IsWideFor-above, IsWideFor-den, IsStepDivisor-written}
+use Rattle.std.proofs.Common.{◌≡◌, ℕ, ◌^◌, ◌++◌, List, length, take, drop, ℤ, sym, ap, ◌∙◌, subst, arith}
+use Rattle.std.proofs.Math.Seq.{take-append_seam}
+use Rattle.md_math.specs.Sizes.{AllWithin}
+use Rattle.md_dict.proofs.Filling.{IsTable-room}
 use Rattle.md_dict.proofs.step.Step.fill.Goals as goal
 
-pub sampled-divider-requires-clause-candidate : goal.sampled-divider-requires-clause-candidate
-sampled-divider-requires-clause-candidate c =
-    let first : c.new-first.result.value ≡ c.first_candidate.result = c.new-first.ensures ∙ read_wide c.first_candidate.result c.first_candidate.ensures.size in
-    rw first (IsCandidate-first c.args.self.now c.args.kept.now c.first_candidate.result c.requires.step.table c.first_candidate.ensures.divisor c.first_candidate.ensures.size)
+-- the first part of two, by its length
+taken : (xs ys : List ℤ) (n : ℕ) → n ≡ length xs → take n (xs ++ ys) ≡ xs
+taken xs ys n e = rw e (take-append_seam xs ys)
 
-pub loop-unfit-smaller : goal.loop-unfit-smaller
-loop-unfit-smaller c =
-    let unfit : IsUnfit c.args.self.now c.args.kept.now c.loop-unfit.divider.value c.in-Err.unfit = subst (λ v. IsUnfit c.args.self.now c.args.kept.now v.value c.in-Err.unfit) c.filling.ensures.divider c.in-Err.ensures.unfit in
-    let whole : IsIndivisible c.args.self.now c.args.kept.now c.loop-unfit.divider.value c.in-Indivisible.number = subst (λ u. IsUnfit c.args.self.now c.args.kept.now c.loop-unfit.divider.value u) c.in-Indivisible.is unfit in
-    smaller_candidate c.args.self.now c.args.kept.now c.loop-unfit.divider.value c.in-Indivisible.number c.common-divider.result.value c.loop-unfit.invariant.0.positive whole
-    (rw (read_wide c.in-Indivisible.number whole.size) at c.common-divider.ensures.divisor)
-
-pub loop-unfit-preserved : goal.loop-unfit-preserved
-loop-unfit-preserved c =
-    let unfit : IsUnfit c.args.self.now c.args.kept.now c.loop-unfit.divider.value c.in-Err.unfit = subst (λ v. IsUnfit c.args.self.now c.args.kept.now v.value c.in-Err.unfit) c.filling.ensures.divider c.in-Err.ensures.unfit in
-    let whole : IsIndivisible c.args.self.now c.args.kept.now c.loop-unfit.divider.value c.in-Indivisible.number = subst (λ u. IsUnfit c.args.self.now c.args.kept.now c.loop-unfit.divider.value u) c.in-Indivisible.is unfit in (
-      IsCandidate-next c.args.self.now c.args.kept.now c.loop-unfit.divider.value c.in-Indivisible.number c.common-divider.result.value c.loop-unfit.invariant.0 whole
-          (rw (read_wide c.in-Indivisible.number whole.size) at c.common-divider.ensures.divisor)
-          c.common-divider.ensures.size,
-      c.fill_rows.ensures.table,
-    )
-
-pub returns-in-TooWide-clause-wide : goal.returns-in-TooWide-clause-wide
-returns-in-TooWide-clause-wide c =
-    let unfit : IsUnfit c.args.self.now c.args.kept.now c.loop-unfit.divider.value c.in-Err.unfit = subst (λ v. IsUnfit c.args.self.now c.args.kept.now v.value c.in-Err.unfit) c.filling.ensures.divider c.in-Err.ensures.unfit in
-    IsWideFor-above c.args.self.now c.args.kept.now c.loop-unfit.divider.value c.loop-unfit.invariant.0 (subst (λ u. IsUnfit c.args.self.now c.args.kept.now c.loop-unfit.divider.value u) c.in-TooWide.is unfit)
-
-pub returns-then-has_small_den-clause-filled : goal.returns-then-has_small_den-clause-filled
-returns-then-has_small_den-clause-filled c =
-    let filled : AreRowsWritten c.args.self.now c.loop-unfit.divider.value c.args.kept.now c.fill_rows.new.fresh (c.args.self.now.rows + 2) = subst (λ v. AreRowsWritten c.args.self.now v.value c.args.kept.now c.fill_rows.new.fresh (c.args.self.now.rows + 2)) c.filling.ensures.divider c.in_default.ensures.written in
-    rw (read_wide c.loop-unfit.divider.value c.loop-unfit.invariant.0.size) (record {
-      divisor = IsStepDivisor-written c.args.self.now c.loop-unfit.divider.value c.args.kept.now c.fill_rows.new.fresh c.loop-unfit.invariant.0 filled;
-      size = c.loop-unfit.invariant.0.size;
-      den = rw (read_wide c.loop-unfit.divider.value c.loop-unfit.invariant.0.size) at c.if-has_small_den.ensures.0 refl;
-      rows = filled;
+pub fill_rows-requires-clause-room : goal.fill_rows-requires-clause-room
+fill_rows-requires-clause-room c =
+    rw (c.as_mut_slice.ensures.value, c.as_mut_slice-2.ensures.value, c.as_mut_slice-3.ensures.value) (record {
+      table = IsTable-room c.args.self.now c.args.rows.now c.args.fresh.now c.requires.step c.requires.room;
+      dens_length = c.requires.room.dens_length;
+      sizes_length = c.requires.room.sizes_length;
+      dens_size = c.requires.room.dens_size;
+      sizes_size = c.requires.room.sizes_size;
     })
 
-pub returns-else-has_small_den-clause-wide : goal.returns-else-has_small_den-clause-wide
-returns-else-has_small_den-clause-wide c =
-    let filled : AreRowsWritten c.args.self.now c.loop-unfit.divider.value c.args.kept.now c.fill_rows.new.fresh (c.args.self.now.rows + 2) = subst (λ v. AreRowsWritten c.args.self.now v.value c.args.kept.now c.fill_rows.new.fresh (c.args.self.now.rows + 2)) c.filling.ensures.divider c.in_default.ensures.written in
-    IsWideFor-den c.args.self.now c.args.kept.now c.loop-unfit.divider.value
-    (IsStepDivisor-written c.args.self.now c.loop-unfit.divider.value c.args.kept.now c.fill_rows.new.fresh c.loop-unfit.invariant.0 filled)
-    (λ w. let clash = (rw (read_wide c.loop-unfit.divider.value c.loop-unfit.invariant.0.size) at c.if-has_small_den.ensures.1) w in cc)
+pub returns-clause-filled : goal.returns-clause-filled
+returns-clause-filled c =
+    let numbers : c.args.fresh.now.numbers.len ≡ length c.fill_rows.new.numbers = omega (arith, c.fill_rows.auto.numbers, c.as_mut_slice.ensures.len, c.args.fresh.now.numbers.ok) in
+    let dens : c.args.fresh.now.dens.len ≡ length c.fill_rows.new.dens = omega (arith, c.fill_rows.auto.dens, c.as_mut_slice-2.ensures.len, c.args.fresh.now.dens.ok) in
+    let sizes : c.args.fresh.now.sizes.len ≡ length c.fill_rows.new.sizes = omega (arith, c.fill_rows.auto.sizes, c.as_mut_slice-3.ensures.len, c.args.fresh.now.sizes.ok) in
+    rw (taken c.fill_rows.new.numbers _ c.args.fresh.now.numbers.len numbers, taken c.fill_rows.new.dens _ c.args.fresh.now.dens.len dens, taken c.fill_rows.new.sizes _ c.args.fresh.now.sizes.len sizes) c.fill_rows.ensures.filled
+
+pub returns-clause-room : goal.returns-clause-room
+returns-clause-room c =
+    let numbers : c.args.fresh.now.numbers.len ≡ length c.fill_rows.new.numbers = omega (arith, c.fill_rows.auto.numbers, c.as_mut_slice.ensures.len, c.args.fresh.now.numbers.ok) in
+    let dens : c.args.fresh.now.dens.len ≡ length c.fill_rows.new.dens = omega (arith, c.fill_rows.auto.dens, c.as_mut_slice-2.ensures.len, c.args.fresh.now.dens.ok) in
+    let sizes : c.args.fresh.now.sizes.len ≡ length c.fill_rows.new.sizes = omega (arith, c.fill_rows.auto.sizes, c.as_mut_slice-3.ensures.len, c.args.fresh.now.sizes.ok) in
+    let room = c.fill_rows.ensures.room in
+    let numbers_are = taken c.fill_rows.new.numbers (drop (length c.fill_rows.new.numbers) c.args.fresh.now.numbers.items) c.args.fresh.now.numbers.len numbers in
+    let dens_are = taken c.fill_rows.new.dens (drop (length c.fill_rows.new.dens) c.args.fresh.now.dens.items) c.args.fresh.now.dens.len dens in
+    let sizes_are = taken c.fill_rows.new.sizes (drop (length c.fill_rows.new.sizes) c.args.fresh.now.sizes.items) c.args.fresh.now.sizes.len sizes in
+    record {
+      width_is = c.requires.room.width_is;
+      numbers_length = ap length numbers_are ∙ room.table.kept_length;
+      dens_length = ap length dens_are ∙ room.dens_length;
+      shares_length = c.requires.room.shares_length;
+      sizes_length = ap length sizes_are ∙ room.sizes_length;
+      numbers_size = subst (AllWithin c.args.self.now.limit) (sym numbers_are) room.table.kept_limit;
+      dens_size = subst (AllWithin (2 ^ 62)) (sym dens_are) room.dens_size;
+      shares_size = c.requires.room.shares_size;
+      sizes_size = subst (AllWithin (2 ^ 62)) (sym sizes_are) room.sizes_size;
+    }

@@ -1,0 +1,402 @@
+-- The table after a pivot: its rows are made, and over their least common multiple they are the numbers after the pivot.
+use Rattle.std.proofs.Common.{◌≡◌, ℕ, ◌+◌, ◌*◌, ◌^◌, ◌<◌, ◌≤◌, List, length, ℤ, pos, ◌*ℤ◌, ◌<ℤ◌, int_div, unsigned_abs, Result, Ok, Err, IfOk, refl, sym, ap, ◌∙◌, subst, arith}
+use Rattle.md_num.specs.Limits.{limit_of}
+use Rattle.md_math.specs.Lists.{number_at}
+use Rattle.md_math.specs.Sizes.{AllWithin, IsWithin}
+use Rattle.md_math.specs.Divisors.{Divides}
+use lib.IntN.{*ℤ_comm}
+use Rattle.md_math.proofs.Division.{Divides-from_product}
+use Rattle.md_math.proofs.SizeLaws.{AllWithin-wider}
+use Rattle.md_dict.specs.declared.step.Step.{Step}
+use Rattle.md_dict.specs.declared.rows.Rows.{Rows}
+use Rattle.md_lp.specs.Program.{Program}
+use Rattle.md_dict.specs.FirstTable.{first_entry}
+use Rattle.md_dict.specs.Pivot.{with_column}
+use Rattle.md_dict.specs.Condensed.{Condensed, basic_at, entry_at, Holds, TakesColumn}
+use Rattle.md_lp.specs.declared.entry.Entry.{Entry}
+use Rattle.md_dict.specs.Wide.{IsFirstWide, IsNarrow, IsWideBasis}
+use Rattle.md_dict.specs.Step.{new_entry, number_in, raw_number, IsSeated, IsStep, IsStepDivisor, IsTable}
+use Rattle.md_dict.specs.Exchange.{exchanged, step_of, AreWritten, IsExchange, IsWideStep}
+use Rattle.md_dict.specs.Fill.{IsFilledBy, IsRowsMultiple, IsWideFor}
+use Rattle.md_dict.specs.Multiples.{HaveDivisor}
+use Rattle.md_dict.specs.Rows.{kept_of, own_den, own_number, share_of, size_of, HasRows, IsLeastRow, IsRowSize}
+use Rattle.md_dict.specs.RowStep.{kept_in, made_number, IsRoom, IsRowStep}
+use Rattle.md_dict.proofs.Exchange.{leaving_in, IsSeated-step_of, IsStep-step_of}
+use Rattle.md_dict.proofs.Exchanged.{den_within, Holds-exchanged, IsNarrow-exchanged, IsReady-of, IsWideBasis-of, TakesColumn-exchanged}
+use Rattle.md_dict.proofs.Divided.{den_over, divided_numbers, IsStepDivisor-over}
+use Rattle.md_dict.proofs.Change.{quotient_is}
+use Rattle.md_dict.proofs.NewNumbers.{factor_size, IsNarrow-from}
+use Rattle.md_dict.proofs.NewRows.{IsStepDivisor-rows}
+use Rattle.md_dict.proofs.Reading.{product_small}
+use Rattle.md_dict.proofs.RowLaws.{kept_at, length-kept_of, size_reached, within_by_size, AllWithin-kept_of}
+use Rattle.md_dict.proofs.Filling.{IsLeastRow-same, IsRowSize-same}
+use Rattle.md_dict.proofs.Values.{not_narrow, IsStepDivisor-same, IsTable-with}
+
+-- the step of a pivot is one of the dictionary's rows
+pub IsRowStep-of : (d : Condensed) (row column : ℕ) (g : ℤ) (table : Rows) → IsExchange d row column → d.kept ≡ kept_of (d.rows + 2) table → HasRows d.rows d.columns d.den table → IsRowStep (step_of d row column g) table
+IsRowStep-of d row column g table h e r = record {
+  width = r.width;
+  table = r.table;
+  pivot = subst (IsStep (step_of d row column g)) e (IsStep-step_of d row column g h);
+  den_within = h.shape.den_size;
+}
+
+-- a table whose rows are made, with their shares in the new denominator
+pub record IsNewTable (step : Step) (table new : Rows) (numbers dens sizes : List ℤ) (den : ℤ) : Type 0 where
+  pub width : new.width ≡ step.columns + 1
+  pub made : (i s : ℕ) → i < step.rows + 2 → s < step.columns + 1 → number_in step new.numbers.items i s ≡ made_number step table.numbers.items numbers i s
+  pub own : IsTable step new.numbers.items
+  pub dens_are : new.dens.items ≡ dens
+  pub sizes_are : new.sizes.items ≡ sizes
+  pub dens_length : length dens ≡ step.rows + 2
+  pub sizes_length : length sizes ≡ step.rows + 2
+  pub shares_length : length new.shares.items ≡ step.rows + 2
+  pub dens_size : AllWithin (2 ^ 62) dens
+  pub shares_size : AllWithin (2 ^ 62) new.shares.items
+  pub den_within : IsWithin step.limit den
+  pub shared : (k : ℕ) → k < step.rows + 2 → (share_of new k *ℤ number_at dens k ≡ den) × IsWithin step.limit (share_of new k *ℤ number_at sizes k)
+
+-- what divides all, by the rows' denominators
+pub divided_of : (step : Step) (table : Rows) (numbers dens sizes : List ℤ) (den : ℤ) → IsRowStep step table → IsFilledBy step table numbers dens sizes den → HaveDivisor step (kept_in step table) den (number_at dens) (made_number step table.numbers.items numbers)
+divided_of step table numbers dens sizes den h f =
+    IsStepDivisor-rows step (kept_in step table) den (number_at dens) (made_number step table.numbers.items numbers) h.pivot.table.den_positive h.pivot.table.pivot_positive (λ i b. (f.made.at i b).new) f.multiple
+
+own_is : (step : Step) (new : Rows) (i s : ℕ) → new.width ≡ step.columns + 1 → own_number new i s ≡ number_in step new.numbers.items i s
+own_is step new i s e = ap (λ w. number_at new.numbers.items (i * w + s)) e
+
+-- a number of the new table over its denominator
+new_number : (step : Step) (table new : Rows) (numbers dens sizes : List ℤ) (den : ℤ) (i s : ℕ) → IsNewTable step table new numbers dens sizes den → i < step.rows + 2 → s < step.columns + 1 → number_in step (kept_of (step.rows + 2) new) i s ≡ share_of new i *ℤ made_number step table.numbers.items numbers i s
+new_number step table new numbers dens sizes den i s n a b =
+    ap (λ w. number_at (kept_of (step.rows + 2) new) (i * w + s)) (sym n.width)
+    ∙ kept_at (step.rows + 2) i s new a (omega (arith, b, n.width))
+    ∙ ap (λ z. share_of new i *ℤ z) (own_is step new i s n.width ∙ n.made i s a b)
+
+-- and is within the limit
+new_within : (step : Step) (table new : Rows) (numbers dens sizes : List ℤ) (den : ℤ) (i s : ℕ) → IsFilledBy step table numbers dens sizes den → IsNewTable step table new numbers dens sizes den → i < step.rows + 2 → s < step.columns + 1 → IsWithin step.limit (share_of new i *ℤ made_number step table.numbers.items numbers i s)
+new_within step table new numbers dens sizes den i s f n a b =
+    within_by_size step.limit (step.columns + 1) (made_number step table.numbers.items numbers i) (number_at sizes i) (share_of new i) (f.made.at i a).size (n.shared i a).1 s b
+
+-- the numbers over the new denominator are a table
+IsTable-new : (step : Step) (table new : Rows) (numbers dens sizes : List ℤ) (den : ℤ) → IsFilledBy step table numbers dens sizes den → IsNewTable step table new numbers dens sizes den → IsTable step (kept_of (step.rows + 2) new)
+IsTable-new step table new numbers dens sizes den f n =
+    let t = n.own in
+    let within : AllWithin step.limit (kept_of (step.rows + 2) new) =
+    AllWithin-kept_of step.limit (step.rows + 2) new (λ i s a b. let inside : s < step.columns + 1 = omega (arith, b, n.width) in subst (λ z. IsWithin step.limit (share_of new i *ℤ z)) (sym (own_is step new i s n.width ∙ n.made i s a inside)) (new_within step table new numbers dens sizes den i s f n a inside)) in
+    record {
+      row_limit = t.row_limit;
+      column_limit = t.column_limit;
+      row_in = t.row_in;
+      place_in = t.place_in;
+      limit_size = t.limit_size;
+      kept_length = length-kept_of (step.rows + 2) new ∙ ap (λ w. (step.rows + 2) * w) n.width;
+      kept_size = AllWithin-wider step.limit (2 ^ 62) _ t.limit_size within;
+      kept_limit = within;
+      den_size = t.den_size;
+      pivot_size = t.pivot_size;
+      den_positive = t.den_positive;
+      pivot_positive = t.pivot_positive;
+    }
+
+-- the rows of the new table stand over its denominator
+pub HasRows-new : (step : Step) (table new : Rows) (numbers dens sizes : List ℤ) (den : ℤ) → IsFilledBy step table numbers dens sizes den → IsNewTable step table new numbers dens sizes den → HasRows step.rows step.columns den new
+HasRows-new step table new numbers dens sizes den f n = record {
+  width = n.width;
+  table = record {
+    numbers_length = n.own.kept_length ∙ ap (λ w. (step.rows + 2) * w) (sym n.width);
+    dens_length = ap length n.dens_are ∙ n.dens_length;
+    shares_length = n.shares_length;
+    sizes_length = ap length n.sizes_are ∙ n.sizes_length;
+    numbers_size = n.own.kept_size;
+    dens_size = subst (AllWithin (2 ^ 62)) (sym n.dens_are) n.dens_size;
+    shares_size = n.shares_size;
+    sizes = λ i b.
+        subst (λ w. IsRowSize w (own_number new i) (size_of new i)) (sym n.width)
+        (IsRowSize-same (step.columns + 1) (made_number step table.numbers.items numbers i) (own_number new i) (size_of new i) (λ s a. own_is step new i s n.width ∙ n.made i s b a)
+        (subst (λ xs. IsRowSize (step.columns + 1) (made_number step table.numbers.items numbers i) (number_at xs i)) (sym n.sizes_are) (f.made.at i b).size));
+    least = λ i b.
+        subst (λ w. IsLeastRow w (own_den new i) (own_number new i)) (sym n.width)
+        (IsLeastRow-same (step.columns + 1) (own_den new i) (made_number step table.numbers.items numbers i) (own_number new i) (λ s a. own_is step new i s n.width ∙ n.made i s b a)
+        (subst (λ xs. IsLeastRow (step.columns + 1) (number_at xs i) (made_number step table.numbers.items numbers i)) (sym n.dens_are) (f.made.at i b).new.least));
+    shared = λ i b. subst (λ xs. share_of new i *ℤ number_at xs i ≡ den) (sym n.dens_are) (n.shared i b).0;
+  };
+}
+
+-- what is written is the dictionary after the pivot
+pub AreWritten-new : (d : Condensed) (row column : ℕ) (table new : Rows) (numbers dens sizes : List ℤ) (den g : ℤ) → IsExchange d row column → d.kept ≡ kept_of (d.rows + 2) table → HasRows d.rows d.columns d.den table → IsFilledBy (step_of d row column (pos 1)) table numbers dens sizes den → IsNewTable (step_of d row column (pos 1)) table new numbers dens sizes den → g *ℤ den ≡ d.den *ℤ (step_of d row column (pos 1)).pivot → AreWritten d row column g (kept_of (d.rows + 2) new)
+AreWritten-new d row column table new numbers dens sizes den g h e r f n q = record {
+  exchange = h;
+  divisor = divisor;
+  narrow = IsNarrow-from (step_of d row column g) d.kept d.seat h.place_in divisor (subst (IsWithin (limit_of d.bits)) (sym den_is) n.den_within) (record { at = λ i s a b. subst (IsWithin (limit_of d.bits)) (quotient_is g (raw_number step d.kept i s) _ plain.positive (plain.of_rows.at i s a b) (raw_is i s a b)) (new_within step table new numbers dens sizes den i s f n a b) });
+  written = record {
+    length_is = (IsTable-new step table new numbers dens sizes den f n).kept_length ∙ sym h.shape.kept_length;
+    numbers = λ i s a b. ap (λ z. g *ℤ z) (new_number step table new numbers dens sizes den i s n a b) ∙ raw_is i s a b;
+  };
+  table = IsTable-with d row column (pos 1) g (kept_of (d.rows + 2) new) (IsTable-new step table new numbers dens sizes den f n);
+}
+  where
+    step : Step
+    step = step_of d row column (pos 1)
+
+    rows_are : IsRowStep step table
+    rows_are = IsRowStep-of d row column (pos 1) table h e r
+
+    divided : HaveDivisor step d.kept den (number_at dens) (made_number step table.numbers.items numbers)
+    divided = subst (λ k. HaveDivisor step k den (number_at dens) (made_number step table.numbers.items numbers)) (sym e) (divided_of step table numbers dens sizes den rows_are f)
+
+    plain : IsStepDivisor step d.kept (d.rows + 2) g
+    plain = IsStepDivisor-over step d.kept den g (number_at dens) (made_number step table.numbers.items numbers) divided f.multiple.positive q
+
+    divisor : IsStepDivisor (step_of d row column g) d.kept (d.rows + 2) g
+    divisor = IsStepDivisor-same d row column (pos 1) g g (d.rows + 2) plain
+
+    den_is : int_div (step.den *ℤ step.pivot) g ≡ den
+    den_is = den_over step d.kept den g (number_at dens) (made_number step table.numbers.items numbers) divided f.multiple.positive q
+
+    raw_is : (i s : ℕ) → i < d.rows + 2 → s < d.columns + 1 → g *ℤ (share_of new i *ℤ made_number step table.numbers.items numbers i s) ≡ raw_number step d.kept i s
+    raw_is i s a b = divided_numbers step d.kept den g (number_at dens) (made_number step table.numbers.items numbers) divided f.multiple.positive q i s (share_of new i) a b (n.shared i a).0
+
+-- ---- a table that is too wide
+
+-- where the denominator or a number over it is above the limit, so is an entry
+pub IsWideStep-den : (d : Condensed) (row column : ℕ) (table : Rows) (numbers dens sizes : List ℤ) (den : ℤ) (divided : Step) → IsExchange d row column → d.kept ≡ kept_of (d.rows + 2) table → HasRows d.rows d.columns d.den table → IsFilledBy (step_of d row column (pos 1)) table numbers dens sizes den → divided ≡ step_of d row column divided.divisor → unsigned_abs divided.divisor < 2 ^ 126 → divided.divisor *ℤ den ≡ d.den *ℤ (step_of d row column (pos 1)).pivot → (IsWithin (limit_of d.bits) den × ((k : ℕ) → (share : ℤ) → k < d.rows + 2 → share *ℤ number_at dens k ≡ den → IsWithin (limit_of d.bits) (share *ℤ number_at sizes k)) → ⊥) → IsWideStep d row column divided
+IsWideStep-den d row column table numbers dens sizes den divided h e r f is size q wide = record {
+  step = is;
+  size = size;
+  divisor = subst (λ s. IsStepDivisor s d.kept (d.rows + 2) g) (sym is) divisor;
+  wide = λ n.
+      let narrow : IsNarrow d.rows d.columns (limit_of d.bits) (new_entry (step_of d row column g) d.kept d.seat g) = subst (λ s. IsNarrow d.rows d.columns (limit_of d.bits) (new_entry s d.kept d.seat g)) is n in
+      wide (
+        subst (IsWithin (limit_of d.bits)) den_is (den_within d row column g h narrow),
+        λ k share b c.
+            size_reached (limit_of d.bits) (d.columns + 1) (made_number step table.numbers.items numbers k) (number_at sizes k) share (f.made.at k b).size
+            (λ s a.
+            subst (IsWithin (limit_of d.bits)) (sym (quotient_is g (raw_number step d.kept k s) (share *ℤ made_number step table.numbers.items numbers k s) plain.positive (plain.of_rows.at k s b a) (divided_numbers step d.kept den g (number_at dens) (made_number step table.numbers.items numbers) over f.multiple.positive q k s share b a c)))
+            ((IsReady-of d row column g h divisor narrow k b).narrow s a)),
+      );
+}
+  where
+    g : ℤ
+    g = divided.divisor
+
+    step : Step
+    step = step_of d row column (pos 1)
+
+    over : HaveDivisor step d.kept den (number_at dens) (made_number step table.numbers.items numbers)
+    over = subst (λ k. HaveDivisor step k den (number_at dens) (made_number step table.numbers.items numbers)) (sym e) (divided_of step table numbers dens sizes den (IsRowStep-of d row column (pos 1) table h e r) f)
+
+    plain : IsStepDivisor step d.kept (d.rows + 2) g
+    plain = IsStepDivisor-over step d.kept den g (number_at dens) (made_number step table.numbers.items numbers) over f.multiple.positive q
+
+    divisor : IsStepDivisor (step_of d row column g) d.kept (d.rows + 2) g
+    divisor = IsStepDivisor-same d row column (pos 1) g g (d.rows + 2) plain
+
+    den_is : int_div (step.den *ℤ step.pivot) g ≡ den
+    den_is = den_over step d.kept den g (number_at dens) (made_number step table.numbers.items numbers) over f.multiple.positive q
+
+-- so it is where a row is too wide by itself
+pub IsWideStep-row : (d : Condensed) (row column : ℕ) (divided : Step) → IsExchange d row column → IsWideFor (step_of d row column (pos 1)) d.kept → divided ≡ step_of d row column divided.divisor → unsigned_abs divided.divisor < 2 ^ 126 → IsStepDivisor (step_of d row column (pos 1)) d.kept (d.rows + 2) divided.divisor → IsWideStep d row column divided
+IsWideStep-row d row column divided h w is size q = record {
+  step = is;
+  size = size;
+  divisor = subst (λ s. IsStepDivisor s d.kept (d.rows + 2) divided.divisor) (sym is) (IsStepDivisor-same d row column (pos 1) divided.divisor divided.divisor (d.rows + 2) q);
+  wide = λ n. not_narrow d row column (step_of d row column (pos 1)) divided.divisor refl h w q (subst (λ s. IsNarrow d.rows d.columns (limit_of d.bits) (new_entry s d.kept d.seat divided.divisor)) is n);
+}
+
+-- ---- what the code has
+
+-- the list of numbers and the rows of an equal value
+pub kept_for : (v d : Condensed) (table : Rows) → v ≡ d → v.kept ≡ kept_of (v.rows + 2) table → d.kept ≡ kept_of (d.rows + 2) table
+kept_for v d table e h = subst (λ u. u.kept ≡ kept_of (u.rows + 2) table) e h
+
+pub rows_for : (v d : Condensed) (table : Rows) → v ≡ d → HasRows v.rows v.columns v.den table → HasRows d.rows d.columns d.den table
+rows_for v d table e h = subst (λ u. HasRows u.rows u.columns u.den table) e h
+
+pub IsRowStep-for : (d : Condensed) (s : Step) (table : Rows) → s ≡ step_of d s.row s.entering (pos 1) → IsExchange d s.row s.entering → d.kept ≡ kept_of (d.rows + 2) table → HasRows d.rows d.columns d.den table → IsRowStep s table
+IsRowStep-for d s table e h k r = subst (λ u. IsRowStep u table) (sym e) (IsRowStep-of d s.row s.entering (pos 1) table h k r)
+
+pub IsRoom-for : (v d : Condensed) (s : Step) (fresh : Rows) → v ≡ d → s ≡ step_of d s.row s.entering (pos 1) → IsRoom (v.rows + 2) (v.columns + 1) (limit_of v.bits) fresh → IsRoom (s.rows + 2) (s.columns + 1) s.limit fresh
+IsRoom-for v d s fresh p e h = subst (λ u. IsRoom (u.rows + 2) (u.columns + 1) u.limit fresh) (sym e) (subst (λ u. IsRoom (u.rows + 2) (u.columns + 1) (limit_of u.bits) fresh) p h)
+
+pub IsRoom-from : (v d : Condensed) (s : Step) (fresh : Rows) → v ≡ d → s ≡ step_of d s.row s.entering (pos 1) → IsRoom (s.rows + 2) (s.columns + 1) s.limit fresh → IsRoom (v.rows + 2) (v.columns + 1) (limit_of v.bits) fresh
+IsRoom-from v d s fresh p e h = subst (λ u. IsRoom (u.rows + 2) (u.columns + 1) (limit_of u.bits) fresh) (sym p) (subst (λ u. IsRoom (u.rows + 2) (u.columns + 1) u.limit fresh) e h)
+
+with_divisor : (d : Condensed) (s divided : Step) → s ≡ step_of d s.row s.entering (pos 1) → divided ≡ record s { divisor = divided.divisor } → divided ≡ step_of d s.row s.entering divided.divisor
+with_divisor d s divided e is = is ∙ ap {A = Step} (λ u. record u { divisor = divided.divisor }) e
+
+pub wide_table : (d : Condensed) (s divided : Step) (table : Rows) (numbers dens sizes : List ℤ) (den : ℤ) → s ≡ step_of d s.row s.entering (pos 1) → IsExchange d s.row s.entering → d.kept ≡ kept_of (d.rows + 2) table → HasRows d.rows d.columns d.den table → IsFilledBy s table numbers dens sizes den → divided ≡ record s { divisor = divided.divisor } → unsigned_abs divided.divisor < 2 ^ 126 → divided.divisor *ℤ den ≡ s.den *ℤ s.pivot → (IsWithin s.limit den × ((k : ℕ) → (share : ℤ) → k < s.rows + 2 → share *ℤ number_at dens k ≡ den → IsWithin s.limit (share *ℤ number_at sizes k)) → ⊥) → IsWideStep d s.row s.entering divided
+wide_table d s divided table numbers dens sizes den e h k r f is size q wide =
+    IsWideStep-den d s.row s.entering table numbers dens sizes den divided h k r (subst (λ u. IsFilledBy u table numbers dens sizes den) e f) (with_divisor d s divided e is) size
+    (subst (λ u. divided.divisor *ℤ den ≡ u.den *ℤ u.pivot) e q)
+    (subst (λ u. IsWithin u.limit den × ((k : ℕ) → (share : ℤ) → k < u.rows + 2 → share *ℤ number_at dens k ≡ den → IsWithin u.limit (share *ℤ number_at sizes k)) → ⊥) e wide)
+
+pub written_for : (d : Condensed) (s : Step) (table new : Rows) (numbers dens sizes : List ℤ) (den g : ℤ) → s ≡ step_of d s.row s.entering (pos 1) → IsExchange d s.row s.entering → d.kept ≡ kept_of (d.rows + 2) table → HasRows d.rows d.columns d.den table → IsFilledBy s table numbers dens sizes den → IsNewTable s table new numbers dens sizes den → g *ℤ den ≡ s.den *ℤ s.pivot → AreWritten d s.row s.entering g (kept_of (d.rows + 2) new)
+written_for d s table new numbers dens sizes den g e h k r f n q =
+    AreWritten-new d s.row s.entering table new numbers dens sizes den g h k r (subst (λ u. IsFilledBy u table numbers dens sizes den) e f) (subst (λ u. IsNewTable u table new numbers dens sizes den) e n) (subst (λ u. g *ℤ den ≡ u.den *ℤ u.pivot) e q)
+
+-- what divides all, by the denominators of rows that may be too wide
+divided_by : (step : Step) (table : Rows) (den : ℤ) → IsRowStep step table → (m : IsRowsMultiple step table (step.rows + 2) den) → HaveDivisor step (kept_in step table) den m.dens m.table
+divided_by step table den h m = IsStepDivisor-rows step (kept_in step table) den m.dens m.table h.pivot.table.den_positive h.pivot.table.pivot_positive m.new m.multiple
+
+-- the new denominator divides the old one times the pivot
+pub den_divides : (step : Step) (table : Rows) (den : ℤ) → IsRowStep step table → IsRowsMultiple step table (step.rows + 2) den → Divides den (step.den *ℤ step.pivot)
+den_divides step table den h m =
+    let a = divided_by step table den h m in
+    Divides-from_product den a.divisor (step.den *ℤ step.pivot) (sym (*ℤ_comm den a.divisor ∙ a.den_is))
+
+-- and its quotient divides all
+pub divisor_is : (step : Step) (table : Rows) (den g : ℤ) → IsRowStep step table → IsRowsMultiple step table (step.rows + 2) den → g *ℤ den ≡ step.den *ℤ step.pivot → IsStepDivisor step (kept_in step table) (step.rows + 2) g
+divisor_is step table den g h m e = IsStepDivisor-over step (kept_in step table) den g m.dens m.table (divided_by step table den h m) m.multiple.positive e
+
+-- the divisor over the new denominator is small
+pub divisor_small : (step : Step) (table : Rows) (g den : ℤ) → IsRowStep step table → pos 0 <ℤ den → g *ℤ den ≡ step.den *ℤ step.pivot → unsigned_abs g < 2 ^ 126
+divisor_small step table g den h p e =
+    let t = h.pivot.table in
+    let whole = product_small step.den step.pivot t.den_size t.pivot_size in
+    let le : unsigned_abs g ≤ unsigned_abs (step.den *ℤ step.pivot) = factor_size den g (step.den *ℤ step.pivot) p (*ℤ_comm den g ∙ e) in
+    omega (arith, whole, le)
+
+-- where a row is too wide by itself
+pub wide_row : (d : Condensed) (s divided : Step) (table : Rows) (den : ℤ) → s ≡ step_of d s.row s.entering (pos 1) → IsExchange d s.row s.entering → d.kept ≡ kept_of (d.rows + 2) table → IsWideFor s (kept_in s table) → divided ≡ record s { divisor = divided.divisor } → IsRowStep s table → IsRowsMultiple s table (s.rows + 2) den → divided.divisor *ℤ den ≡ s.den *ℤ s.pivot → IsWideStep d s.row s.entering divided
+wide_row d s divided table den e h k w is rows m q =
+    let wide : IsWideFor (step_of d s.row s.entering (pos 1)) d.kept = subst (IsWideFor (step_of d s.row s.entering (pos 1))) (sym k) (subst (λ u. IsWideFor u (kept_in u table)) e w) in
+    let divisor : IsStepDivisor (step_of d s.row s.entering (pos 1)) d.kept (d.rows + 2) divided.divisor = subst (λ xs. IsStepDivisor (step_of d s.row s.entering (pos 1)) xs (d.rows + 2) divided.divisor) (sym k) (subst (λ u. IsStepDivisor u (kept_in u table) (u.rows + 2) divided.divisor) e (divisor_is s table den divided.divisor rows m q)) in
+    IsWideStep-row d s.row s.entering divided h wide (with_divisor d s divided e is) (divisor_small s table divided.divisor den rows m.multiple.positive q) divisor
+
+-- the table that the code makes
+pub new_table : (step : Step) (table fresh shared new : Rows) (den : ℤ) → IsRowStep step table → IsRoom (step.rows + 2) (step.columns + 1) step.limit fresh → shared ≡ record fresh { shares = shared.shares } → length shared.shares.items ≡ length fresh.shares.items → AllWithin (2 ^ 62) shared.shares.items → IsWithin step.limit den → ((k : ℕ) → k < length fresh.dens.items → (share_of shared k *ℤ own_den fresh k ≡ den) × IsWithin step.limit (share_of shared k *ℤ size_of fresh k)) → new.width ≡ table.width → ((i s : ℕ) → i < step.rows + 2 → s < step.columns + 1 → number_in step new.numbers.items i s ≡ made_number step table.numbers.items shared.numbers.items i s) → IsTable step new.numbers.items → new.dens.items ≡ shared.dens.items → new.shares.items ≡ shared.shares.items → new.sizes.items ≡ shared.sizes.items → IsNewTable step table new fresh.numbers.items fresh.dens.items fresh.sizes.items den
+new_table step table fresh shared new den h room rest long size within each width made own dens shares sizes = record {
+  width = width ∙ h.width;
+  made = λ i s a b. made i s a b ∙ ap (λ r. made_number step table.numbers.items r.numbers.items i s) rest;
+  own = own;
+  dens_are = dens ∙ ap (λ r. r.dens.items) rest;
+  sizes_are = sizes ∙ ap (λ r. r.sizes.items) rest;
+  dens_length = room.dens_length;
+  sizes_length = room.sizes_length;
+  shares_length = ap length shares ∙ long ∙ room.shares_length;
+  dens_size = room.dens_size;
+  shares_size = subst (AllWithin (2 ^ 62)) (sym shares) size;
+  den_within = within;
+  shared = λ k b.
+      let told = each k (omega (arith, b, room.dens_length)) in (
+        subst (λ xs. number_at xs k *ℤ own_den fresh k ≡ den) (sym shares) told.0,
+        subst (λ xs. IsWithin step.limit (number_at xs k *ℤ size_of fresh k)) (sym shares) told.1,
+      );
+}
+
+-- the old table makes room for the next pivot
+pub new_room : (step : Step) (table fresh shared room : Rows) → IsRowStep step table → IsRoom (step.rows + 2) (step.columns + 1) step.limit fresh → shared ≡ record fresh { shares = shared.shares } → room.width ≡ shared.width → IsTable step room.numbers.items → room.dens.items ≡ table.dens.items → room.shares.items ≡ table.shares.items → room.sizes.items ≡ table.sizes.items → IsRoom (step.rows + 2) (step.columns + 1) step.limit room
+new_room step table fresh shared room h r rest width numbers dens shares sizes =
+    record {
+      width_is = width ∙ ap (λ u. u.width) rest ∙ r.width_is;
+      numbers_length = numbers.kept_length;
+      dens_length = ap length dens ∙ h.table.dens_length;
+      shares_length = ap length shares ∙ h.table.shares_length;
+      sizes_length = ap length sizes ∙ h.table.sizes_length;
+      numbers_size = numbers.kept_limit;
+      dens_size = subst (AllWithin (2 ^ 62)) (sym dens) h.table.dens_size;
+      shares_size = subst (AllWithin (2 ^ 62)) (sym shares) h.table.shares_size;
+      sizes_size = subst (AllWithin (2 ^ 62)) (sym sizes) (record { at = λ k b. (h.table.sizes k (omega (arith, b, h.table.sizes_length))).small });
+    }
+
+-- a second table that was only shared out anew is room as before
+pub shared_room : (step : Step) (fresh shared : Rows) → IsRoom (step.rows + 2) (step.columns + 1) step.limit fresh → shared ≡ record fresh { shares = shared.shares } → length shared.shares.items ≡ length fresh.shares.items → AllWithin (2 ^ 62) shared.shares.items → IsRoom (step.rows + 2) (step.columns + 1) step.limit shared
+shared_room step fresh shared r rest long size = record {
+  width_is = ap (λ u. u.width) rest ∙ r.width_is;
+  numbers_length = ap (λ u. length u.numbers.items) rest ∙ r.numbers_length;
+  dens_length = ap (λ u. length u.dens.items) rest ∙ r.dens_length;
+  shares_length = long ∙ r.shares_length;
+  sizes_length = ap (λ u. length u.sizes.items) rest ∙ r.sizes_length;
+  numbers_size = subst (λ u. AllWithin step.limit u.numbers.items) (sym rest) r.numbers_size;
+  dens_size = subst (λ u. AllWithin (2 ^ 62) u.dens.items) (sym rest) r.dens_size;
+  shares_size = size;
+  sizes_size = subst (λ u. AllWithin (2 ^ 62) u.sizes.items) (sym rest) r.sizes_size;
+}
+
+pub row_step : (v d : Condensed) (s : Step) (table : Rows) → v ≡ d → v.kept ≡ kept_of (v.rows + 2) table → HasRows v.rows v.columns v.den table → s ≡ step_of d s.row s.entering (pos 1) → IsExchange d s.row s.entering → IsRowStep s table
+row_step v d s table p k r e h = IsRowStep-for d s table e h (kept_for v d table p k) (rows_for v d table p r)
+
+-- the places of a step are those of the dictionary
+pub leaving_small : (d : Condensed) (s : Step) → s ≡ step_of d s.row s.entering (pos 1) → IsExchange d s.row s.entering → s.leaving < d.columns + d.rows
+leaving_small d s e h = subst (λ u. u.leaving < d.columns + d.rows) (sym e) (leaving_in d s.row h.shape.places h.row_in)
+
+pub rows_from : (v d : Condensed) (s : Step) (den : ℤ) (new : Rows) → v ≡ d → s ≡ step_of d s.row s.entering (pos 1) → HasRows s.rows s.columns den new → HasRows v.rows v.columns den new
+rows_from v d s den new p e h = subst (λ u. HasRows u.rows u.columns den new) (sym p) (subst (λ u. HasRows u.rows u.columns den new) e h)
+
+pub written_from : (v d : Condensed) (s : Step) (g : ℤ) (new : Rows) → v ≡ d → AreWritten d s.row s.entering g (kept_of (d.rows + 2) new) → AreWritten d s.row s.entering g (kept_of (v.rows + 2) new)
+written_from v d s g new p h = subst (λ u. AreWritten d s.row s.entering g (kept_of (u.rows + 2) new)) (sym p) h
+
+-- the new denominator is the quotient that the value after the pivot has
+pub den_quotient : (d : Condensed) (s : Step) (g den : ℤ) (kept : List ℤ) → s ≡ step_of d s.row s.entering (pos 1) → AreWritten d s.row s.entering g kept → g *ℤ den ≡ s.den *ℤ s.pivot → den ≡ int_div (s.den *ℤ s.pivot) g
+den_quotient d s g den kept e h q = quotient_is g (s.den *ℤ s.pivot) den h.divisor.positive (subst (λ u. Divides g (u.den *ℤ u.pivot)) (sym e) h.divisor.of_den) q
+
+-- ---- the first wide entry
+
+-- the rows of a step that has its divisor
+pub step_for_wide : (d : Condensed) (divided : Step) (table : Rows) → IsExchange d divided.row divided.entering → IsWideStep d divided.row divided.entering divided → d.kept ≡ kept_of (d.rows + 2) table → HasRows d.rows d.columns d.den table → IsRowStep divided table
+step_for_wide d divided table h w k r = subst (λ u. IsRowStep u table) (sym w.step) (IsRowStep-of d divided.row divided.entering divided.divisor table h k r)
+
+pub seated_for : (d : Condensed) (divided : Step) → IsExchange d divided.row divided.entering → IsWideStep d divided.row divided.entering divided → IsSeated divided d.seat
+seated_for d divided h w = subst (λ u. IsSeated u d.seat) (sym w.step) (IsSeated-step_of d divided.row divided.entering divided.divisor h.shape)
+
+-- the numbers over the denominator of all rows are those of the dictionary
+kept_is : (d : Condensed) (divided : Step) (table : Rows) → IsWideStep d divided.row divided.entering divided → d.kept ≡ kept_of (d.rows + 2) table → d.kept ≡ kept_in divided table
+kept_is d divided table w k = k ∙ ap (λ (u : Step). kept_of (u.rows + 2) table) (sym w.step)
+
+pub wide_divisor : (d : Condensed) (divided : Step) (table : Rows) → IsWideStep d divided.row divided.entering divided → d.kept ≡ kept_of (d.rows + 2) table → IsStepDivisor divided (kept_in divided table) (divided.rows + 2) divided.divisor
+wide_divisor d divided table w k =
+    subst (λ xs. IsStepDivisor divided xs (divided.rows + 2) divided.divisor) (kept_is d divided table w k)
+    (subst (λ n. IsStepDivisor divided d.kept (n + 2) divided.divisor) (ap (λ (u : Step). u.rows) (sym w.step)) w.divisor)
+
+-- what is wide for the dictionary is wide for the step
+pub wide_entries : (d : Condensed) (divided : Step) (table : Rows) → IsWideStep d divided.row divided.entering divided → d.kept ≡ kept_of (d.rows + 2) table → ¬ IsNarrow divided.rows divided.columns divided.limit (new_entry divided (kept_in divided table) d.seat divided.divisor)
+wide_entries d divided table w k = λ n.
+    let same : IsNarrow divided.rows divided.columns divided.limit (new_entry divided d.kept d.seat divided.divisor) = subst (λ xs. IsNarrow divided.rows divided.columns divided.limit (new_entry divided xs d.seat divided.divisor)) (sym (kept_is d divided table w k)) n in
+    w.wide (subst (λ (u : Step). IsNarrow u.rows u.columns u.limit (new_entry divided d.kept d.seat divided.divisor)) w.step same)
+
+pub first_for : (d : Condensed) (divided : Step) (table : Rows) (entry : Entry) → IsWideStep d divided.row divided.entering divided → d.kept ≡ kept_of (d.rows + 2) table → IsFirstWide divided.rows divided.columns divided.limit (int_div (divided.den *ℤ divided.pivot) divided.divisor) (new_entry divided (kept_in divided table) d.seat divided.divisor) entry → IsFirstWide d.rows d.columns (limit_of d.bits) (int_div (divided.den *ℤ divided.pivot) divided.divisor) (new_entry divided d.kept d.seat divided.divisor) entry
+first_for d divided table entry w k h =
+    subst (λ (u : Step). IsFirstWide u.rows u.columns u.limit (int_div (divided.den *ℤ divided.pivot) divided.divisor) (new_entry divided d.kept d.seat divided.divisor) entry) w.step
+    (subst (λ xs. IsFirstWide divided.rows divided.columns divided.limit (int_div (divided.den *ℤ divided.pivot) divided.divisor) (new_entry divided xs d.seat divided.divisor) entry) (sym (kept_is d divided table w k)) h)
+
+-- ---- what a pivot answers
+
+-- the step of a pivot is that of its row and column
+pub wide_of : (d : Condensed) (row column : ℕ) (s divided : Step) → s ≡ step_of d row column (pos 1) → IsWideStep d s.row s.entering divided → IsWideStep d row column divided
+wide_of d row column s divided e w = subst (λ (u : Step). IsWideStep d u.row u.entering divided) e w
+
+pub wide_itself : (d : Condensed) (row column : ℕ) (divided : Step) → IsWideStep d row column divided → IsWideStep d divided.row divided.entering divided
+wide_itself d row column divided w = subst (λ (u : Step). IsWideStep d u.row u.entering divided) (sym w.step) w
+
+pub wide_exchange : (d : Condensed) (row column : ℕ) (divided : Step) → IsWideStep d row column divided → IsExchange d row column → IsExchange d divided.row divided.entering
+wide_exchange d row column divided w h = subst (λ (u : Step). IsExchange d u.row u.entering) (sym w.step) h
+
+pub wide_basis : (p : Program) (d : Condensed) (row column : ℕ) (divided : Step) (entry : Entry) → Holds p d → IsExchange d row column → IsWideStep d row column divided → IsFirstWide d.rows d.columns (limit_of d.bits) (int_div (divided.den *ℤ divided.pivot) divided.divisor) (new_entry divided d.kept d.seat divided.divisor) entry → IsWideBasis d.rows d.columns (first_entry p) (with_column (basic_at d) row column) (limit_of d.bits) entry
+wide_basis p d row column divided entry k h w first =
+    IsWideBasis-of p d row column divided.divisor entry k h
+    (subst (λ u. IsStepDivisor u d.kept (d.rows + 2) divided.divisor) w.step w.divisor)
+    (subst (λ (u : Step). IsFirstWide d.rows d.columns (limit_of d.bits) (int_div (u.den *ℤ u.pivot) divided.divisor) (new_entry u d.kept d.seat divided.divisor) entry) w.step first)
+
+-- the exchange was carried out
+record IsDone (d new : Condensed) (s : Step) : Type 0 where
+  divisor : ℤ
+  is : new ≡ exchanged d s.row s.entering divisor new.kept
+  written : AreWritten d s.row s.entering divisor new.kept
+
+is_done : (d new : Condensed) (s : Step) (result : Result ℤ Step) → ((e : Step) → result ≡ Err e → ⊥) → IfOk result (λ divisor. new ≡ exchanged d s.row s.entering divisor new.kept) → IfOk result (λ divisor. AreWritten d s.row s.entering divisor new.kept) → IsDone d new s
+is_done d new s (Ok divisor) o a b = record { divisor = divisor; is = a; written = b }
+is_done d new s (Err e) o a b = absurd (o e refl)
+
+pub new_holds : (p : Program) (d new : Condensed) (s : Step) (result : Result ℤ Step) → ((e : Step) → result ≡ Err e → ⊥) → IfOk result (λ divisor. new ≡ exchanged d s.row s.entering divisor new.kept) → IfOk result (λ divisor. AreWritten d s.row s.entering divisor new.kept) → Holds p d → Holds p new
+new_holds p d new s result o a b k =
+    let h = is_done d new s result o a b in
+    subst (Holds p) (sym h.is) (Holds-exchanged p d s.row s.entering h.divisor new.kept h.written k)
+
+pub new_basis : (d new : Condensed) (s : Step) (result : Result ℤ Step) → ((e : Step) → result ≡ Err e → ⊥) → IfOk result (λ divisor. new ≡ exchanged d s.row s.entering divisor new.kept) → IfOk result (λ divisor. AreWritten d s.row s.entering divisor new.kept) → TakesColumn d new s.row s.entering
+new_basis d new s result o a b =
+    let h = is_done d new s result o a b in
+    subst (λ v. TakesColumn d v s.row s.entering) (sym h.is) (TakesColumn-exchanged d s.row s.entering h.divisor new.kept h.written.exchange)
+
+pub new_narrow : (d new : Condensed) (s : Step) (result : Result ℤ Step) → ((e : Step) → result ≡ Err e → ⊥) → IfOk result (λ divisor. new ≡ exchanged d s.row s.entering divisor new.kept) → IfOk result (λ divisor. AreWritten d s.row s.entering divisor new.kept) → IsNarrow new.rows new.columns (limit_of new.bits) (entry_at new)
+new_narrow d new s result o a b =
+    let h = is_done d new s result o a b in
+    subst (λ v. IsNarrow v.rows v.columns (limit_of v.bits) (entry_at v)) (sym h.is) (IsNarrow-exchanged d s.row s.entering h.divisor new.kept h.written)

@@ -1,0 +1,37 @@
+use Rattle.std.proofs.Common.{◌≡◌, ◌-ℤ◌, ◌*ℤ◌, ◌*◌, ◌<◌, ◌≤◌, ◌^◌, FitsSigned, length, unsigned_abs, refl, ap, sym, subst, ◌∙◌, arith, length-set, mul-le-mul_right}
+use Rattle.std.proofs.lemmas.Int.{to_z-of_z}
+use mir.Syntax.{w64}
+use Rattle.md_math.specs.Lists.{number_at}
+use Rattle.md_math.specs.Sizes.{IsWithin}
+use Rattle.md_math.proofs.SizeLaws.{AllWithin-number_at}
+use Rattle.md_dict.specs.Reduce.{AreDivided}
+use Rattle.md_dict.proofs.Guessing.{guessed_right}
+use Rattle.md_dict.proofs.Reading.{read_short}
+use Rattle.md_dict.proofs.Reducing.{AreDivided-short, IsGreatestSize-more, combined_beside}
+use Rattle.md_dict.proofs.combination.Combination.write_shortly.Goals as goal
+
+pub loop-place-preserved : goal.loop-place-preserved
+loop-place-preserved c =
+    let own : IsWithin (2 ^ 62) (number_at c.args.own.now c.loop-place.place) = AllWithin-number_at (2 ^ 62) c.args.own.now c.loop-place.place c.requires.combination.own_size in
+    let taken : IsWithin (2 ^ 62) (number_at c.args.taken.now c.loop-place.place) = AllWithin-number_at (2 ^ 62) c.args.taken.now c.loop-place.place c.requires.combination.taken_size in
+    let inside : c.loop-place.place < length c.loop-place.fresh = omega (arith, c.loop-place-test.true, c.loop-place.invariant.2) in
+    let number : c.short_mixed.result ≡ c.args.self.now.multiplier *ℤ number_at c.args.own.now c.loop-place.place -ℤ c.args.self.now.factor *ℤ number_at c.args.taken.now c.loop-place.place =
+    rw (read_short (number_at c.args.own.now c.loop-place.place) own, read_short (number_at c.args.taken.now c.loop-place.place) taken) at c.short_mixed.ensures in
+    let fits : FitsSigned w64 c.short_mixed.result = record { sfits = c.short_mixed.type_inv } in
+    let made = rw (to_z-of_z w64 c.short_mixed.result fits) at c.bits-bits.ensures in
+    let q = to_z-of_z w64 c.of_bits-quotient.result (record { sfits = c.of_bits-quotient.type_inv }) in
+    let size : unsigned_abs c.of_bits-quotient.result ≡ c.unsigned_abs.result = sym (c.unsigned_abs.ensures.value ∙ ap unsigned_abs q) in
+    let inverse = c.requires.inverse in
+    let value = c.requires.size.within in
+    rw q (
+      AreDivided-short c.args.self.now c.args.own.now c.args.taken.now c.args.quick.now.value c.loop-place.fresh c.loop-place.place c.args.quick.now.guess.shift c.loop-place.lost c.bits-bits.result c.loop-place.greatest c.unsigned_abs.result c.max-greatest.result c.of_bits-quotient.result inside size (sym c.max-greatest.ensures) c.loop-place.invariant.0
+          (λ zeros l o. guessed_right inverse.odd c.args.quick.now.guess.inverse c.bits-bits.result c.args.quick.now.guess.shift c.args.quick.now.value c.short_mixed.result c.of_bits-quotient.result inverse.value inverse.one made (c.of_bits-quotient.ensures inverse.shift_in zeros) (omega (arith, value)) fits l ∙ number ∙ sym (combined_beside c.args.self.now c.args.own.now c.args.taken.now c.loop-place.place o)),
+      IsGreatestSize-more c.loop-place.place c.loop-place.fresh c.of_bits-quotient.result c.loop-place.greatest c.unsigned_abs.result c.max-greatest.result inside size (sym c.max-greatest.ensures) c.loop-place.invariant.1,
+      length-set c.loop-place.fresh c.loop-place.place c.of_bits-quotient.result ∙ c.loop-place.invariant.2,
+    )
+
+pub returns-clause-divided : goal.returns-clause-divided
+returns-clause-divided c =
+    let less : c.loop-place.greatest * unsigned_abs c.args.quick.now.value ≤ c.short_most.result * unsigned_abs c.args.quick.now.value = mul-le-mul_right (unsigned_abs c.args.quick.now.value) c.if-greatest-short_most.false in
+    let done : c.loop-place.place ≡ length c.args.own.now = omega (arith, c.loop-place.invariant.2, c.requires.length, c.loop-place-test.false) in
+    subst (AreDivided c.args.self.now c.args.own.now c.args.taken.now c.args.quick.now.value c.loop-place.fresh) done (c.loop-place.invariant.0 (c.if-loses.ensures refl) (omega (arith, less, c.short_most.ensures.product)))
