@@ -4,6 +4,7 @@ pub mod Columns
 pub mod Path
 pub mod Reading
 pub mod ReadingSteps
+pub mod Rivals
 pub mod Runs
 pub mod Signs
 pub mod Walk
