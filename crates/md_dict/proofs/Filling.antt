@@ -8,8 +8,7 @@ use borrow.Rule.Slice.PartMut.{put_mid}
 use mir.Syntax.{w128, w64}
 use Rattle.md_math.specs.Lists.{number_at}
 use Rattle.md_math.specs.Sizes.{IsWithin, AllWithin}
-use Rattle.md_math.proofs.SizeLaws.{AllWithin-number_at, AllWithin-wider}
-use Rattle.md_dict.specs.Dictionary.{basic_value}
+use Rattle.md_math.proofs.SizeLaws.{AllWithin-number_at}
 use Rattle.md_dict.specs.declared.step.Step.{Step}
 use Rattle.md_dict.specs.declared.rows.Rows.{Rows}
 use Rattle.md_dict.specs.Step.{number_in, IsTable}
@@ -20,12 +19,11 @@ use Rattle.md_dict.specs.Combination.{IsCombination, IsLeastDen, IsReducedTo, Is
 use Rattle.md_dict.specs.Fill.{AreFilledBy, IsDenOf, IsRowsMultiple, IsWideFor, Leaves}
 use Rattle.md_dict.specs.Rows.{own_den, own_number, share_of, size_of, IsLeastRow, IsRowSize}
 use Rattle.md_dict.specs.Multiples.{IsMultipleOfTwo, IsNewRow}
-use Rattle.md_dict.specs.RowStep.{kept_in, made_number, stays_in, AreMade, IsCombinationOf, IsRoom, IsMadeRow, IsOwnRow, IsRowStep}
+use Rattle.md_dict.specs.RowStep.{kept_in, stays_in, AreDone, CanBeRestored, IsCombinationOf, IsDoneRow, IsMadeRow, IsOwnRow, IsRowStep}
 use Rattle.md_dict.proofs.RowLaws.{kept_within, positive_share, within_by_share}
 use Rattle.md_dict.proofs.RowSteps.{IsCombination-of, IsNewRow-combined, IsNewRow-pivot, IsNewRow-stays, IsWideFor-row}
 use Rattle.md_dict.proofs.Parts.{end_inside, in_part, length_part, within_part}
 use Rattle.md_dict.proofs.NewRows.{common_multiple}
-use Rattle.md_dict.proofs.Settling.{made_stays, made_written}
 use Rattle.md_math.proofs.Order.{positive-*ℤ}
 use Rattle.md_dict.proofs.LeastMultiples.{IsLeastMultiple-more, IsLeastMultiple-none, IsLeastMultiple-same}
 use Rattle.md_dict.proofs.Reading.{product_small, read_short, read_small}
@@ -47,18 +45,6 @@ read_at xs k x w inside e =
     let value : x ≡ number_at xs k = get_or_read xs k x inside e (pos 0) in
     let size : IsWithin (2 ^ 62) x = subst (IsWithin (2 ^ 62)) (sym value) (AllWithin-number_at (2 ^ 62) xs k w) in
     record { value = value; size = size; short = read_short x size; long = read_small x size }
-
--- what the leaving column holds in a row, over the row's denominator, is no larger than that
-pub record IsLeavingValue (step : Step) (rows : Rows) (i : ℕ) (x : ℤ) : Type 0 where
-  pub value : x ≡ basic_value step.rows step.columns (own_den rows i) step.row step.leaving i
-  pub size : IsWithin (2 ^ 62) x
-
-pub leaving_value : (step : Step) (rows : Rows) (i : ℕ) (den from x : ℤ) → IsReadAt rows.dens.items i den → from ≡ to_z w64 (of_z w64 den) → x ≡ basic_value step.rows step.columns (to_z w128 (of_z w128 from)) step.row step.leaving i → unsigned_abs x ≤ unsigned_abs (to_z w128 (of_z w128 from)) → IsLeavingValue step rows i x
-leaving_value step rows i den from x r e value size =
-    let same : from ≡ den = e ∙ r.short in
-    let told = rw (same, r.long, r.value) at value in
-    let small = rw (same, r.long) at size in
-    record { value = told; size = record { within = (let within = r.size.within in omega (arith, small, within)) } }
 
 -- ---- the rows' own numbers as a table
 
@@ -108,26 +94,30 @@ IsTable-own step rows h =
         subst (λ z. IsWithin step.limit (number_at rows.numbers.items z)) (sym p.is)
         (within_by_share step.limit (share_of rows p.row) (own_number rows p.row p.place) (kept_within step.limit (step.rows + 2) rows h.pivot.table.kept_limit p.row p.place p.row_in p.place_in) share)
 
+-- an own number is within the limit
+pub own_limit : (step : Step) (rows : Rows) (i s : ℕ) → IsRowStep step rows → IsWithin step.limit (own_number rows i s)
+own_limit step rows i s h = subst (IsWithin step.limit) (number_in-own step rows i s h) (AllWithin-number_at step.limit rows.numbers.items (i * (step.columns + 1) + s) (IsTable-own step rows h).kept_limit)
+
 -- ---- rows that stay
 
 -- what is known of a row that stays
-pub record IsStaying (step : Step) (xs : List ℤ) (i : ℕ) : Type 0 where
+pub record IsStaying (step : Step) (factors : List ℤ) (i : ℕ) : Type 0 where
   pub other : i ≢ step.row
   pub not_face : i ≢ step.rows
-  pub zero : number_in step xs i step.place ≡ pos 0
+  pub zero : number_at factors i ≡ pos 0
 
-pub staying : (step : Step) (xs : List ℤ) (i : ℕ) → stays_in step xs i ≡ true → IsStaying step xs i
-staying step xs i e =
+pub staying : (step : Step) (factors : List ℤ) (i : ℕ) → stays_in step factors i ≡ true → IsStaying step factors i
+staying step factors i e =
     elim (cases_eq i step.row) [
-      | inl same ↦ absurd (clash (i == step.rows) (int_eq (number_in step xs i step.place) (pos 0)) (subst (λ b. (not b && not (i == step.rows) && int_eq (number_in step xs i step.place) (pos 0)) ≡ true) (eq-eqb i step.row same) e))
+      | inl same ↦ absurd (clash (i == step.rows) (int_eq (number_at factors i) (pos 0)) (subst (λ b. (not b && not (i == step.rows) && int_eq (number_at factors i) (pos 0)) ≡ true) (eq-eqb i step.row same) e))
       | inr o ↦
           elim (cases_eq i step.rows) [
-            | inl same ↦ absurd (clash_face (i == step.row) (int_eq (number_in step xs i step.place) (pos 0)) (subst (λ b. (not (i == step.row) && not b && int_eq (number_in step xs i step.place) (pos 0)) ≡ true) (eq-eqb i step.rows same) e))
+            | inl same ↦ absurd (clash_face (i == step.row) (int_eq (number_at factors i) (pos 0)) (subst (λ b. (not (i == step.row) && not b && int_eq (number_at factors i) (pos 0)) ≡ true) (eq-eqb i step.rows same) e))
             | inr f ↦
                 record {
                   other = o;
                   not_face = f;
-                  zero = (Decides-int_eq (number_in step xs i step.place) (pos 0)).0 (last (not (i == step.row)) (not (i == step.rows)) (int_eq (number_in step xs i step.place) (pos 0)) e);
+                  zero = (Decides-int_eq (number_at factors i) (pos 0)).0 (last (not (i == step.row)) (not (i == step.rows)) (int_eq (number_at factors i) (pos 0)) e);
                 }
           ]
     ]
@@ -156,15 +146,12 @@ IsRowSize-same w f g size e h = record {
 }
 
 -- a row that stays is made
-pub IsMadeRow-stays : (step : Step) (rows : Rows) (fresh : List ℤ) (i : ℕ) (den size : ℤ) → IsRowStep step rows → i < step.rows + 2 → stays_in step rows.numbers.items i ≡ true → den ≡ own_den rows i → size ≡ size_of rows i → IsWithin (2 ^ 62) den → IsMadeRow step rows i (record { den = den; size = size }) (made_number step rows.numbers.items fresh i)
-IsMadeRow-stays step rows fresh i den size h b e den_is size_is w =
-    let t = staying step rows.numbers.items i e in
-    let same : (s : ℕ) → made_number step rows.numbers.items fresh i s ≡ own_number rows i s = (λ s. made_stays step rows.numbers.items fresh i s e ∙ number_in-own step rows i s h) in
-    record {
-      new = subst (λ d. IsNewRow step (kept_in step rows) i d (made_number step rows.numbers.items fresh i)) (sym den_is) (IsNewRow-stays step rows i (made_number step rows.numbers.items fresh i) h b t.other t.not_face (sym (number_in-own step rows i step.place h) ∙ t.zero) (λ s _. same s));
-      size = subst (IsRowSize (step.columns + 1) (made_number step rows.numbers.items fresh i)) (sym size_is) (IsRowSize-same (step.columns + 1) (own_number rows i) (made_number step rows.numbers.items fresh i) (size_of rows i) (λ s _. same s) (subst (λ w. IsRowSize w (own_number rows i) (size_of rows i)) h.width (h.table.sizes i b)));
-      den_size = w;
-    }
+pub IsMadeRow-stays : (step : Step) (rows : Rows) (factors : List ℤ) (i : ℕ) (den size : ℤ) (f : ℕ → ℤ) → IsRowStep step rows → i < step.rows + 2 → IsStaying step factors i → number_at factors i ≡ own_number rows i step.place → ((s : ℕ) → s < step.columns + 1 → f s ≡ own_number rows i s) → den ≡ own_den rows i → size ≡ size_of rows i → IsWithin (2 ^ 62) den → IsMadeRow step rows i (record { den = den; size = size }) f
+IsMadeRow-stays step rows factors i den size f h b t factor same den_is size_is w = record {
+  new = subst (λ d. IsNewRow step (kept_in step rows) i d f) (sym den_is) (IsNewRow-stays step rows i f h b t.other t.not_face (sym factor ∙ t.zero) (λ s c. same s (omega (arith, c, h.width))));
+  size = subst (IsRowSize (step.columns + 1) f) (sym size_is) (IsRowSize-same (step.columns + 1) (own_number rows i) f (size_of rows i) same (subst (λ w. IsRowSize w (own_number rows i) (size_of rows i)) h.width (h.table.sizes i b)));
+  den_size = w;
+}
 
 -- ---- rows that are written
 
@@ -187,10 +174,6 @@ IsMadeRow-same step rows i least f g same h = record {
   size = IsRowSize-same (step.columns + 1) f g least.size same h.size;
   den_size = h.den_size;
 }
-
--- a row that does not stay has the numbers that are written
-pub IsMadeRow-written : (step : Step) (rows : Rows) (fresh : List ℤ) (i : ℕ) (least : LeastRow) → stays_in step rows.numbers.items i ≡ false → IsMadeRow step rows i least (number_in step fresh i) → IsMadeRow step rows i least (made_number step rows.numbers.items fresh i)
-IsMadeRow-written step rows fresh i least e h = IsMadeRow-same step rows i least (number_in step fresh i) (made_number step rows.numbers.items fresh i) (λ s _. made_written step rows.numbers.items fresh i s e) h
 
 -- a row's denominator is within the limit
 pub den_within : (step : Step) (rows : Rows) (i : ℕ) → IsRowStep step rows → i < step.rows + 2 → IsWithin step.limit (own_den rows i)
@@ -266,24 +249,41 @@ den_combined step rows i c own taken den h b is o t least = record {
 
 -- ---- all rows
 
-pub AreMade-none : (step : Step) (rows : Rows) (numbers dens sizes : List ℤ) → AreMade step rows numbers dens sizes 0
-AreMade-none step rows numbers dens sizes = record { at = λ i b. absurd (omega arith) }
+-- a row whose old numbers are known has equal numbers
+pub CanBeRestored-same : (step : Step) (rows : Rows) (factors : List ℤ) (i : ℕ) (den : ℤ) (f g : ℕ → ℤ) → ((s : ℕ) → s < step.columns + 1 → g s ≡ f s) → CanBeRestored step rows factors i den f → CanBeRestored step rows factors i den g
+CanBeRestored-same step rows factors i den f g same h = record {
+  positive = h.positive;
+  size = h.size;
+  kept = λ e s b. same s b ∙ h.kept e s b;
+  back = λ e o.
+      let k = h.back e o in
+      record {
+        divisor = k.divisor;
+        den_is = k.den_is;
+        numbers = record { at = λ s b p. ap (λ z. k.divisor *ℤ z) (same s b) ∙ k.numbers.at s b p };
+      };
+}
 
--- one more row is made
-pub AreMade-more : (step : Step) (rows : Rows) (numbers more dens sizes : List ℤ) (n : ℕ) (least : LeastRow) → n < length dens → n < length sizes → AreMade step rows numbers dens sizes n → Leaves step n numbers more → IsMadeRow step rows n least (made_number step rows.numbers.items more n) → AreMade step rows more (set dens n least.den) (set sizes n least.size) (n + 1)
-AreMade-more step rows numbers more dens sizes n least a b h l made = record {
+pub AreDone-none : (step : Step) (rows : Rows) (factors numbers dens sizes : List ℤ) → AreDone step rows factors numbers dens sizes 0
+AreDone-none step rows factors numbers dens sizes = record { at = λ i b. absurd (omega arith) }
+
+-- one more row
+pub AreDone-more : (step : Step) (rows : Rows) (factors numbers more dens sizes : List ℤ) (n : ℕ) (least : LeastRow) → n < length dens → n < length sizes → AreDone step rows factors numbers dens sizes n → Leaves step n numbers more → IsDoneRow step rows factors more n least → AreDone step rows factors more (set dens n least.den) (set sizes n least.size) (n + 1)
+AreDone-more step rows factors numbers more dens sizes n least a b h l done = record {
   at = λ i c.
       elim (cases_eq i n) [
         | inl same ↦
-            subst (λ k. IsMadeRow step rows k (record { den = number_at (set dens n least.den) k; size = number_at (set sizes n least.size) k }) (made_number step rows.numbers.items more k)) (sym same)
-            (subst (λ x. IsMadeRow step rows n (record { den = x; size = number_at (set sizes n least.size) n }) (made_number step rows.numbers.items more n)) (sym (get_or-set_same dens n least.den (pos 0) a))
-            (subst (λ x. IsMadeRow step rows n (record { den = least.den; size = x }) (made_number step rows.numbers.items more n)) (sym (get_or-set_same sizes n least.size (pos 0) b)) made))
+            subst (λ k. IsDoneRow step rows factors more k (record { den = number_at (set dens n least.den) k; size = number_at (set sizes n least.size) k })) (sym same)
+            (subst (λ x. IsDoneRow step rows factors more n (record { den = x; size = number_at (set sizes n least.size) n })) (sym (get_or-set_same dens n least.den (pos 0) a))
+            (subst (λ x. IsDoneRow step rows factors more n (record { den = least.den; size = x })) (sym (get_or-set_same sizes n least.size (pos 0) b)) done))
         | inr o ↦
-            subst (λ x. IsMadeRow step rows i (record { den = x; size = number_at (set sizes n least.size) i }) (made_number step rows.numbers.items more i)) (sym (get_or-set_other dens n i least.den (pos 0) o))
-            (subst (λ x. IsMadeRow step rows i (record { den = number_at dens i; size = x }) (made_number step rows.numbers.items more i)) (sym (get_or-set_other sizes n i least.size (pos 0) o))
-            (IsMadeRow-same step rows i _ (made_number step rows.numbers.items numbers i) (made_number step rows.numbers.items more i)
-            (λ s d. ap (λ z. if stays_in step rows.numbers.items i then number_in step rows.numbers.items i s else z) (l.others i s o d))
-            (h.at i (omega arith))))
+            subst (λ x. IsDoneRow step rows factors more i (record { den = x; size = number_at (set sizes n least.size) i })) (sym (get_or-set_other dens n i least.den (pos 0) o))
+            (subst (λ x. IsDoneRow step rows factors more i (record { den = number_at dens i; size = x })) (sym (get_or-set_other sizes n i least.size (pos 0) o))
+            (let old = h.at i (omega arith) in
+            record {
+              made = IsMadeRow-same step rows i _ (number_in step numbers i) (number_in step more i) (λ s d. l.others i s o d) old.made;
+              restorable = CanBeRestored-same step rows factors i _ (number_in step numbers i) (number_in step more i) (λ s d. l.others i s o d) old.restorable;
+            }))
       ];
 }
 
@@ -343,36 +343,42 @@ rows_room step rows n d den f h m new =
       common_multiple step (kept_in step rows) n den f new,
     )
 
--- one more row that is made
-pub AreFilledBy-more : (step : Step) (rows : Rows) (numbers more dens sizes : List ℤ) (n : ℕ) (least : LeastRow) (d e : ℤ) → n < length dens → n < length sizes → AreFilledBy step rows numbers dens sizes n d → Leaves step n numbers more → IsMadeRow step rows n least (made_number step rows.numbers.items more n) → IsMultipleOfTwo d least.den e → AreFilledBy step rows more (set dens n least.den) (set sizes n least.size) (n + 1) e
-AreFilledBy-more step rows numbers more dens sizes n least d e a b h l made m = record {
-  made = AreMade-more step rows numbers more dens sizes n least a b h.made l made;
+-- one more row is written
+pub AreFilledBy-more : (step : Step) (rows : Rows) (factors numbers more dens sizes : List ℤ) (n : ℕ) (least : LeastRow) (d e : ℤ) → n < length dens → n < length sizes → AreFilledBy step rows factors numbers dens sizes n d → Leaves step n numbers more → IsDoneRow step rows factors more n least → IsMultipleOfTwo d least.den e → AreFilledBy step rows factors more (set dens n least.den) (set sizes n least.size) (n + 1) e
+AreFilledBy-more step rows factors numbers more dens sizes n least d e a b h l done m = record {
+  done = AreDone-more step rows factors numbers more dens sizes n least a b h.done l done;
   multiple = IsLeastMultiple-more n (number_at (set dens n least.den)) d e
       (IsLeastMultiple-same n (number_at dens) (number_at (set dens n least.den)) d (λ k c. get_or-set_other dens n k least.den (pos 0) (omega arith)) h.multiple)
       (subst (λ x. IsMultipleOfTwo d x e) (sym (get_or-set_same dens n least.den (pos 0) a)) m);
 }
 
-pub AreFilledBy-none : (step : Step) (rows : Rows) (numbers dens sizes : List ℤ) → AreFilledBy step rows numbers dens sizes 0 (pos 1)
-AreFilledBy-none step rows numbers dens sizes = record { made = AreMade-none step rows numbers dens sizes; multiple = IsLeastMultiple-none (number_at dens) }
+pub AreFilledBy-none : (step : Step) (rows : Rows) (factors numbers dens sizes : List ℤ) → AreFilledBy step rows factors numbers dens sizes 0 (pos 1)
+AreFilledBy-none step rows factors numbers dens sizes = record { done = AreDone-none step rows factors numbers dens sizes; multiple = IsLeastMultiple-none (number_at dens) }
 
--- room for the rows is a table
-pub IsTable-room : (step : Step) (rows fresh : Rows) → IsRowStep step rows → IsRoom (step.rows + 2) (step.columns + 1) step.limit fresh → IsTable step fresh.numbers.items
-IsTable-room step rows fresh h r =
-    let t = h.pivot.table in
-    record {
-      row_limit = t.row_limit;
-      column_limit = t.column_limit;
-      row_in = t.row_in;
-      place_in = t.place_in;
-      limit_size = t.limit_size;
-      kept_length = r.numbers_length;
-      kept_size = AllWithin-wider step.limit (2 ^ 62) fresh.numbers.items t.limit_size r.numbers_size;
-      kept_limit = r.numbers_size;
-      den_size = t.den_size;
-      pivot_size = t.pivot_size;
-      den_positive = t.den_positive;
-      pivot_positive = t.pivot_positive;
-    }
+-- a later row is written in vain
+pub AreFilledBy-left : (step : Step) (rows : Rows) (factors numbers more dens sizes : List ℤ) (n : ℕ) (den : ℤ) → AreFilledBy step rows factors numbers dens sizes n den → Leaves step n numbers more → AreFilledBy step rows factors more dens sizes n den
+AreFilledBy-left step rows factors numbers more dens sizes n den h l = record {
+  done = record {
+    at = λ i b.
+        let old = h.done.at i b in
+        let same : (s : ℕ) → s < step.columns + 1 → number_in step more i s ≡ number_in step numbers i s = λ s d. l.others i s (λ e. omega arith) d in
+        record {
+          made = IsMadeRow-same step rows i _ (number_in step numbers i) (number_in step more i) same old.made;
+          restorable = CanBeRestored-same step rows factors i _ (number_in step numbers i) (number_in step more i) same old.restorable;
+        };
+  };
+  multiple = h.multiple;
+}
+
+-- the rows that are written have a least common multiple of their denominators
+pub IsRowsMultiple-filled : (step : Step) (rows : Rows) (factors numbers dens sizes : List ℤ) (n : ℕ) (den : ℤ) → AreFilledBy step rows factors numbers dens sizes n den → unsigned_abs den < 2 ^ 126 → IsRowsMultiple step rows n den
+IsRowsMultiple-filled step rows factors numbers dens sizes n den h small = record {
+  dens = number_at dens;
+  table = number_in step numbers;
+  new = λ i b. (h.done.at i b).made.new;
+  multiple = h.multiple;
+  size = small;
+}
 
 -- the numbers of a row are no larger than its size
 pub row_within : (step : Step) (rows : Rows) (i : ℕ) (own : List ℤ) → IsRowStep step rows → i < step.rows + 2 → IsOwnRow rows i own → AllWithin (unsigned_abs (size_of rows i)) own

@@ -1,8 +1,10 @@
 mod Building
 mod Change
 mod FaceRow
+mod LeastRows
 mod FirstRows
 mod NewNumbers
+mod OldRows
 mod Parts
 mod Readers
 mod Reading
@@ -19,14 +21,17 @@ pub mod RowSteps
 pub mod Uniqueness
 mod NewRows
 mod LeastMultiples
-mod Settling
 mod Filling
 mod RowNumbers
 mod Divided
 mod NewTable
+mod Restoring
 mod Tables
+mod TurningBack
 mod HalfSizes
 mod Reducing
+mod Candidates
 mod OddParts
 mod Lowering
 mod Guessing
+mod Multiplying

@@ -1,14 +1,16 @@
 -- The table after a pivot: its rows are made, and over their least common multiple they are the numbers after the pivot.
-use Rattle.std.proofs.Common.{◌≡◌, ℕ, ◌+◌, ◌*◌, ◌^◌, ◌<◌, ◌≤◌, List, length, ℤ, pos, ◌*ℤ◌, ◌<ℤ◌, int_div, unsigned_abs, Result, Ok, Err, IfOk, refl, sym, ap, ◌∙◌, subst, arith}
+use Rattle.std.proofs.Common.{◌≡◌, ℕ, ◌+◌, ◌*◌, ◌^◌, ◌<◌, ◌≤◌, List, length, ℤ, pos, ◌*ℤ◌, ◌<ℤ◌, int_div, unsigned_abs, Result, Ok, Err, IfOk, refl, sym, ap, ap₂, ◌∙◌, subst, arith}
 use Rattle.md_num.specs.Limits.{limit_of}
-use Rattle.md_math.specs.Lists.{number_at}
+use Rattle.md_math.specs.Lists.{list_to, number_at}
 use Rattle.md_math.specs.Sizes.{AllWithin, IsWithin}
 use Rattle.md_math.specs.Divisors.{Divides}
 use lib.IntN.{*ℤ_comm}
+use Rattle.md_math.proofs.Builders.{list_to-same, up_to-same}
 use Rattle.md_math.proofs.Division.{Divides-from_product}
 use Rattle.md_math.proofs.SizeLaws.{AllWithin-wider}
 use Rattle.md_dict.specs.declared.step.Step.{Step}
 use Rattle.md_dict.specs.declared.rows.Rows.{Rows}
+use Rattle.md_dict.specs.declared.draft.Draft.{Draft}
 use Rattle.md_lp.specs.Program.{Program}
 use Rattle.md_dict.specs.FirstTable.{first_entry}
 use Rattle.md_dict.specs.Pivot.{with_column}
@@ -17,10 +19,10 @@ use Rattle.md_lp.specs.declared.entry.Entry.{Entry}
 use Rattle.md_dict.specs.Wide.{IsFirstWide, IsNarrow, IsWideBasis}
 use Rattle.md_dict.specs.Step.{new_entry, number_in, raw_number, IsSeated, IsStep, IsStepDivisor, IsTable}
 use Rattle.md_dict.specs.Exchange.{exchanged, step_of, AreWritten, IsExchange, IsWideStep}
-use Rattle.md_dict.specs.Fill.{IsFilledBy, IsRowsMultiple, IsWideFor}
+use Rattle.md_dict.specs.Fill.{AreSameRows, IsFilledBy, IsNewTable, IsRowsMultiple, IsWideFor}
 use Rattle.md_dict.specs.Multiples.{HaveDivisor}
-use Rattle.md_dict.specs.Rows.{kept_of, own_den, own_number, share_of, size_of, HasRows, IsLeastRow, IsRowSize}
-use Rattle.md_dict.specs.RowStep.{kept_in, made_number, IsRoom, IsRowStep}
+use Rattle.md_dict.specs.Rows.{kept_of, own_den, own_number, share_of, size_of, AreRows, HasRows, IsLeastRow, IsRowSize}
+use Rattle.md_dict.specs.RowStep.{kept_in, IsDraft, IsRowStep}
 use Rattle.md_dict.proofs.Exchange.{leaving_in, IsSeated-step_of, IsStep-step_of}
 use Rattle.md_dict.proofs.Exchanged.{den_within, Holds-exchanged, IsNarrow-exchanged, IsReady-of, IsWideBasis-of, TakesColumn-exchanged}
 use Rattle.md_dict.proofs.Divided.{den_over, divided_numbers, IsStepDivisor-over}
@@ -41,43 +43,28 @@ IsRowStep-of d row column g table h e r = record {
   den_within = h.shape.den_size;
 }
 
--- a table whose rows are made, with their shares in the new denominator
-pub record IsNewTable (step : Step) (table new : Rows) (numbers dens sizes : List ℤ) (den : ℤ) : Type 0 where
-  pub width : new.width ≡ step.columns + 1
-  pub made : (i s : ℕ) → i < step.rows + 2 → s < step.columns + 1 → number_in step new.numbers.items i s ≡ made_number step table.numbers.items numbers i s
-  pub own : IsTable step new.numbers.items
-  pub dens_are : new.dens.items ≡ dens
-  pub sizes_are : new.sizes.items ≡ sizes
-  pub dens_length : length dens ≡ step.rows + 2
-  pub sizes_length : length sizes ≡ step.rows + 2
-  pub shares_length : length new.shares.items ≡ step.rows + 2
-  pub dens_size : AllWithin (2 ^ 62) dens
-  pub shares_size : AllWithin (2 ^ 62) new.shares.items
-  pub den_within : IsWithin step.limit den
-  pub shared : (k : ℕ) → k < step.rows + 2 → (share_of new k *ℤ number_at dens k ≡ den) × IsWithin step.limit (share_of new k *ℤ number_at sizes k)
-
 -- what divides all, by the rows' denominators
-pub divided_of : (step : Step) (table : Rows) (numbers dens sizes : List ℤ) (den : ℤ) → IsRowStep step table → IsFilledBy step table numbers dens sizes den → HaveDivisor step (kept_in step table) den (number_at dens) (made_number step table.numbers.items numbers)
+pub divided_of : (step : Step) (table : Rows) (numbers dens sizes : List ℤ) (den : ℤ) → IsRowStep step table → IsFilledBy step table numbers dens sizes den → HaveDivisor step (kept_in step table) den (number_at dens) (number_in step numbers)
 divided_of step table numbers dens sizes den h f =
-    IsStepDivisor-rows step (kept_in step table) den (number_at dens) (made_number step table.numbers.items numbers) h.pivot.table.den_positive h.pivot.table.pivot_positive (λ i b. (f.made.at i b).new) f.multiple
+    IsStepDivisor-rows step (kept_in step table) den (number_at dens) (number_in step numbers) h.pivot.table.den_positive h.pivot.table.pivot_positive (λ i b. (f.made i b).new) f.multiple
 
 own_is : (step : Step) (new : Rows) (i s : ℕ) → new.width ≡ step.columns + 1 → own_number new i s ≡ number_in step new.numbers.items i s
 own_is step new i s e = ap (λ w. number_at new.numbers.items (i * w + s)) e
 
 -- a number of the new table over its denominator
-new_number : (step : Step) (table new : Rows) (numbers dens sizes : List ℤ) (den : ℤ) (i s : ℕ) → IsNewTable step table new numbers dens sizes den → i < step.rows + 2 → s < step.columns + 1 → number_in step (kept_of (step.rows + 2) new) i s ≡ share_of new i *ℤ made_number step table.numbers.items numbers i s
+new_number : (step : Step) (table new : Rows) (numbers dens sizes : List ℤ) (den : ℤ) (i s : ℕ) → IsNewTable step new numbers dens sizes den → i < step.rows + 2 → s < step.columns + 1 → number_in step (kept_of (step.rows + 2) new) i s ≡ share_of new i *ℤ number_in step numbers i s
 new_number step table new numbers dens sizes den i s n a b =
     ap (λ w. number_at (kept_of (step.rows + 2) new) (i * w + s)) (sym n.width)
     ∙ kept_at (step.rows + 2) i s new a (omega (arith, b, n.width))
     ∙ ap (λ z. share_of new i *ℤ z) (own_is step new i s n.width ∙ n.made i s a b)
 
 -- and is within the limit
-new_within : (step : Step) (table new : Rows) (numbers dens sizes : List ℤ) (den : ℤ) (i s : ℕ) → IsFilledBy step table numbers dens sizes den → IsNewTable step table new numbers dens sizes den → i < step.rows + 2 → s < step.columns + 1 → IsWithin step.limit (share_of new i *ℤ made_number step table.numbers.items numbers i s)
+new_within : (step : Step) (table new : Rows) (numbers dens sizes : List ℤ) (den : ℤ) (i s : ℕ) → IsFilledBy step table numbers dens sizes den → IsNewTable step new numbers dens sizes den → i < step.rows + 2 → s < step.columns + 1 → IsWithin step.limit (share_of new i *ℤ number_in step numbers i s)
 new_within step table new numbers dens sizes den i s f n a b =
-    within_by_size step.limit (step.columns + 1) (made_number step table.numbers.items numbers i) (number_at sizes i) (share_of new i) (f.made.at i a).size (n.shared i a).1 s b
+    within_by_size step.limit (step.columns + 1) (number_in step numbers i) (number_at sizes i) (share_of new i) (f.made i a).size (n.shared i a).1 s b
 
 -- the numbers over the new denominator are a table
-IsTable-new : (step : Step) (table new : Rows) (numbers dens sizes : List ℤ) (den : ℤ) → IsFilledBy step table numbers dens sizes den → IsNewTable step table new numbers dens sizes den → IsTable step (kept_of (step.rows + 2) new)
+IsTable-new : (step : Step) (table new : Rows) (numbers dens sizes : List ℤ) (den : ℤ) → IsFilledBy step table numbers dens sizes den → IsNewTable step new numbers dens sizes den → IsTable step (kept_of (step.rows + 2) new)
 IsTable-new step table new numbers dens sizes den f n =
     let t = n.own in
     let within : AllWithin step.limit (kept_of (step.rows + 2) new) =
@@ -98,7 +85,7 @@ IsTable-new step table new numbers dens sizes den f n =
     }
 
 -- the rows of the new table stand over its denominator
-pub HasRows-new : (step : Step) (table new : Rows) (numbers dens sizes : List ℤ) (den : ℤ) → IsFilledBy step table numbers dens sizes den → IsNewTable step table new numbers dens sizes den → HasRows step.rows step.columns den new
+pub HasRows-new : (step : Step) (table new : Rows) (numbers dens sizes : List ℤ) (den : ℤ) → IsFilledBy step table numbers dens sizes den → IsNewTable step new numbers dens sizes den → HasRows step.rows step.columns den new
 HasRows-new step table new numbers dens sizes den f n = record {
   width = n.width;
   table = record {
@@ -111,18 +98,18 @@ HasRows-new step table new numbers dens sizes den f n = record {
     shares_size = n.shares_size;
     sizes = λ i b.
         subst (λ w. IsRowSize w (own_number new i) (size_of new i)) (sym n.width)
-        (IsRowSize-same (step.columns + 1) (made_number step table.numbers.items numbers i) (own_number new i) (size_of new i) (λ s a. own_is step new i s n.width ∙ n.made i s b a)
-        (subst (λ xs. IsRowSize (step.columns + 1) (made_number step table.numbers.items numbers i) (number_at xs i)) (sym n.sizes_are) (f.made.at i b).size));
+        (IsRowSize-same (step.columns + 1) (number_in step numbers i) (own_number new i) (size_of new i) (λ s a. own_is step new i s n.width ∙ n.made i s b a)
+        (subst (λ xs. IsRowSize (step.columns + 1) (number_in step numbers i) (number_at xs i)) (sym n.sizes_are) (f.made i b).size));
     least = λ i b.
         subst (λ w. IsLeastRow w (own_den new i) (own_number new i)) (sym n.width)
-        (IsLeastRow-same (step.columns + 1) (own_den new i) (made_number step table.numbers.items numbers i) (own_number new i) (λ s a. own_is step new i s n.width ∙ n.made i s b a)
-        (subst (λ xs. IsLeastRow (step.columns + 1) (number_at xs i) (made_number step table.numbers.items numbers i)) (sym n.dens_are) (f.made.at i b).new.least));
+        (IsLeastRow-same (step.columns + 1) (own_den new i) (number_in step numbers i) (own_number new i) (λ s a. own_is step new i s n.width ∙ n.made i s b a)
+        (subst (λ xs. IsLeastRow (step.columns + 1) (number_at xs i) (number_in step numbers i)) (sym n.dens_are) (f.made i b).new.least));
     shared = λ i b. subst (λ xs. share_of new i *ℤ number_at xs i ≡ den) (sym n.dens_are) (n.shared i b).0;
   };
 }
 
 -- what is written is the dictionary after the pivot
-pub AreWritten-new : (d : Condensed) (row column : ℕ) (table new : Rows) (numbers dens sizes : List ℤ) (den g : ℤ) → IsExchange d row column → d.kept ≡ kept_of (d.rows + 2) table → HasRows d.rows d.columns d.den table → IsFilledBy (step_of d row column (pos 1)) table numbers dens sizes den → IsNewTable (step_of d row column (pos 1)) table new numbers dens sizes den → g *ℤ den ≡ d.den *ℤ (step_of d row column (pos 1)).pivot → AreWritten d row column g (kept_of (d.rows + 2) new)
+pub AreWritten-new : (d : Condensed) (row column : ℕ) (table new : Rows) (numbers dens sizes : List ℤ) (den g : ℤ) → IsExchange d row column → d.kept ≡ kept_of (d.rows + 2) table → HasRows d.rows d.columns d.den table → IsFilledBy (step_of d row column (pos 1)) table numbers dens sizes den → IsNewTable (step_of d row column (pos 1)) new numbers dens sizes den → g *ℤ den ≡ d.den *ℤ (step_of d row column (pos 1)).pivot → AreWritten d row column g (kept_of (d.rows + 2) new)
 AreWritten-new d row column table new numbers dens sizes den g h e r f n q = record {
   exchange = h;
   divisor = divisor;
@@ -140,20 +127,20 @@ AreWritten-new d row column table new numbers dens sizes den g h e r f n q = rec
     rows_are : IsRowStep step table
     rows_are = IsRowStep-of d row column (pos 1) table h e r
 
-    divided : HaveDivisor step d.kept den (number_at dens) (made_number step table.numbers.items numbers)
-    divided = subst (λ k. HaveDivisor step k den (number_at dens) (made_number step table.numbers.items numbers)) (sym e) (divided_of step table numbers dens sizes den rows_are f)
+    divided : HaveDivisor step d.kept den (number_at dens) (number_in step numbers)
+    divided = subst (λ k. HaveDivisor step k den (number_at dens) (number_in step numbers)) (sym e) (divided_of step table numbers dens sizes den rows_are f)
 
     plain : IsStepDivisor step d.kept (d.rows + 2) g
-    plain = IsStepDivisor-over step d.kept den g (number_at dens) (made_number step table.numbers.items numbers) divided f.multiple.positive q
+    plain = IsStepDivisor-over step d.kept den g (number_at dens) (number_in step numbers) divided f.multiple.positive q
 
     divisor : IsStepDivisor (step_of d row column g) d.kept (d.rows + 2) g
     divisor = IsStepDivisor-same d row column (pos 1) g g (d.rows + 2) plain
 
     den_is : int_div (step.den *ℤ step.pivot) g ≡ den
-    den_is = den_over step d.kept den g (number_at dens) (made_number step table.numbers.items numbers) divided f.multiple.positive q
+    den_is = den_over step d.kept den g (number_at dens) (number_in step numbers) divided f.multiple.positive q
 
-    raw_is : (i s : ℕ) → i < d.rows + 2 → s < d.columns + 1 → g *ℤ (share_of new i *ℤ made_number step table.numbers.items numbers i s) ≡ raw_number step d.kept i s
-    raw_is i s a b = divided_numbers step d.kept den g (number_at dens) (made_number step table.numbers.items numbers) divided f.multiple.positive q i s (share_of new i) a b (n.shared i a).0
+    raw_is : (i s : ℕ) → i < d.rows + 2 → s < d.columns + 1 → g *ℤ (share_of new i *ℤ number_in step numbers i s) ≡ raw_number step d.kept i s
+    raw_is i s a b = divided_numbers step d.kept den g (number_at dens) (number_in step numbers) divided f.multiple.positive q i s (share_of new i) a b (n.shared i a).0
 
 -- ---- a table that is too wide
 
@@ -168,9 +155,9 @@ IsWideStep-den d row column table numbers dens sizes den divided h e r f is size
       wide (
         subst (IsWithin (limit_of d.bits)) den_is (den_within d row column g h narrow),
         λ k share b c.
-            size_reached (limit_of d.bits) (d.columns + 1) (made_number step table.numbers.items numbers k) (number_at sizes k) share (f.made.at k b).size
+            size_reached (limit_of d.bits) (d.columns + 1) (number_in step numbers k) (number_at sizes k) share (f.made k b).size
             (λ s a.
-            subst (IsWithin (limit_of d.bits)) (sym (quotient_is g (raw_number step d.kept k s) (share *ℤ made_number step table.numbers.items numbers k s) plain.positive (plain.of_rows.at k s b a) (divided_numbers step d.kept den g (number_at dens) (made_number step table.numbers.items numbers) over f.multiple.positive q k s share b a c)))
+            subst (IsWithin (limit_of d.bits)) (sym (quotient_is g (raw_number step d.kept k s) (share *ℤ number_in step numbers k s) plain.positive (plain.of_rows.at k s b a) (divided_numbers step d.kept den g (number_at dens) (number_in step numbers) over f.multiple.positive q k s share b a c)))
             ((IsReady-of d row column g h divisor narrow k b).narrow s a)),
       );
 }
@@ -181,17 +168,17 @@ IsWideStep-den d row column table numbers dens sizes den divided h e r f is size
     step : Step
     step = step_of d row column (pos 1)
 
-    over : HaveDivisor step d.kept den (number_at dens) (made_number step table.numbers.items numbers)
-    over = subst (λ k. HaveDivisor step k den (number_at dens) (made_number step table.numbers.items numbers)) (sym e) (divided_of step table numbers dens sizes den (IsRowStep-of d row column (pos 1) table h e r) f)
+    over : HaveDivisor step d.kept den (number_at dens) (number_in step numbers)
+    over = subst (λ k. HaveDivisor step k den (number_at dens) (number_in step numbers)) (sym e) (divided_of step table numbers dens sizes den (IsRowStep-of d row column (pos 1) table h e r) f)
 
     plain : IsStepDivisor step d.kept (d.rows + 2) g
-    plain = IsStepDivisor-over step d.kept den g (number_at dens) (made_number step table.numbers.items numbers) over f.multiple.positive q
+    plain = IsStepDivisor-over step d.kept den g (number_at dens) (number_in step numbers) over f.multiple.positive q
 
     divisor : IsStepDivisor (step_of d row column g) d.kept (d.rows + 2) g
     divisor = IsStepDivisor-same d row column (pos 1) g g (d.rows + 2) plain
 
     den_is : int_div (step.den *ℤ step.pivot) g ≡ den
-    den_is = den_over step d.kept den g (number_at dens) (made_number step table.numbers.items numbers) over f.multiple.positive q
+    den_is = den_over step d.kept den g (number_at dens) (number_in step numbers) over f.multiple.positive q
 
 -- so it is where a row is too wide by itself
 pub IsWideStep-row : (d : Condensed) (row column : ℕ) (divided : Step) → IsExchange d row column → IsWideFor (step_of d row column (pos 1)) d.kept → divided ≡ step_of d row column divided.divisor → unsigned_abs divided.divisor < 2 ^ 126 → IsStepDivisor (step_of d row column (pos 1)) d.kept (d.rows + 2) divided.divisor → IsWideStep d row column divided
@@ -214,11 +201,11 @@ rows_for v d table e h = subst (λ u. HasRows u.rows u.columns u.den table) e h
 pub IsRowStep-for : (d : Condensed) (s : Step) (table : Rows) → s ≡ step_of d s.row s.entering (pos 1) → IsExchange d s.row s.entering → d.kept ≡ kept_of (d.rows + 2) table → HasRows d.rows d.columns d.den table → IsRowStep s table
 IsRowStep-for d s table e h k r = subst (λ u. IsRowStep u table) (sym e) (IsRowStep-of d s.row s.entering (pos 1) table h k r)
 
-pub IsRoom-for : (v d : Condensed) (s : Step) (fresh : Rows) → v ≡ d → s ≡ step_of d s.row s.entering (pos 1) → IsRoom (v.rows + 2) (v.columns + 1) (limit_of v.bits) fresh → IsRoom (s.rows + 2) (s.columns + 1) s.limit fresh
-IsRoom-for v d s fresh p e h = subst (λ u. IsRoom (u.rows + 2) (u.columns + 1) u.limit fresh) (sym e) (subst (λ u. IsRoom (u.rows + 2) (u.columns + 1) (limit_of u.bits) fresh) p h)
+pub IsDraft-for : (v d : Condensed) (s : Step) (draft : Draft) → v ≡ d → s ≡ step_of d s.row s.entering (pos 1) → IsDraft (v.rows + 2) (v.columns + 1) draft → IsDraft (s.rows + 2) (s.columns + 1) draft
+IsDraft-for v d s draft p e h = subst (λ u. IsDraft (u.rows + 2) (u.columns + 1) draft) (sym e) (subst (λ u. IsDraft (u.rows + 2) (u.columns + 1) draft) p h)
 
-pub IsRoom-from : (v d : Condensed) (s : Step) (fresh : Rows) → v ≡ d → s ≡ step_of d s.row s.entering (pos 1) → IsRoom (s.rows + 2) (s.columns + 1) s.limit fresh → IsRoom (v.rows + 2) (v.columns + 1) (limit_of v.bits) fresh
-IsRoom-from v d s fresh p e h = subst (λ u. IsRoom (u.rows + 2) (u.columns + 1) (limit_of u.bits) fresh) (sym p) (subst (λ u. IsRoom (u.rows + 2) (u.columns + 1) u.limit fresh) e h)
+pub IsDraft-from : (v d : Condensed) (s : Step) (draft : Draft) → v ≡ d → s ≡ step_of d s.row s.entering (pos 1) → IsDraft (s.rows + 2) (s.columns + 1) draft → IsDraft (v.rows + 2) (v.columns + 1) draft
+IsDraft-from v d s draft p e h = subst (λ u. IsDraft (u.rows + 2) (u.columns + 1) draft) (sym p) (subst (λ u. IsDraft (u.rows + 2) (u.columns + 1) draft) e h)
 
 with_divisor : (d : Condensed) (s divided : Step) → s ≡ step_of d s.row s.entering (pos 1) → divided ≡ record s { divisor = divided.divisor } → divided ≡ step_of d s.row s.entering divided.divisor
 with_divisor d s divided e is = is ∙ ap {A = Step} (λ u. record u { divisor = divided.divisor }) e
@@ -229,9 +216,9 @@ wide_table d s divided table numbers dens sizes den e h k r f is size q wide =
     (subst (λ u. divided.divisor *ℤ den ≡ u.den *ℤ u.pivot) e q)
     (subst (λ u. IsWithin u.limit den × ((k : ℕ) → (share : ℤ) → k < u.rows + 2 → share *ℤ number_at dens k ≡ den → IsWithin u.limit (share *ℤ number_at sizes k)) → ⊥) e wide)
 
-pub written_for : (d : Condensed) (s : Step) (table new : Rows) (numbers dens sizes : List ℤ) (den g : ℤ) → s ≡ step_of d s.row s.entering (pos 1) → IsExchange d s.row s.entering → d.kept ≡ kept_of (d.rows + 2) table → HasRows d.rows d.columns d.den table → IsFilledBy s table numbers dens sizes den → IsNewTable s table new numbers dens sizes den → g *ℤ den ≡ s.den *ℤ s.pivot → AreWritten d s.row s.entering g (kept_of (d.rows + 2) new)
+pub written_for : (d : Condensed) (s : Step) (table new : Rows) (numbers dens sizes : List ℤ) (den g : ℤ) → s ≡ step_of d s.row s.entering (pos 1) → IsExchange d s.row s.entering → d.kept ≡ kept_of (d.rows + 2) table → HasRows d.rows d.columns d.den table → IsFilledBy s table numbers dens sizes den → IsNewTable s new numbers dens sizes den → g *ℤ den ≡ s.den *ℤ s.pivot → AreWritten d s.row s.entering g (kept_of (d.rows + 2) new)
 written_for d s table new numbers dens sizes den g e h k r f n q =
-    AreWritten-new d s.row s.entering table new numbers dens sizes den g h k r (subst (λ u. IsFilledBy u table numbers dens sizes den) e f) (subst (λ u. IsNewTable u table new numbers dens sizes den) e n) (subst (λ u. g *ℤ den ≡ u.den *ℤ u.pivot) e q)
+    AreWritten-new d s.row s.entering table new numbers dens sizes den g h k r (subst (λ u. IsFilledBy u table numbers dens sizes den) e f) (subst (λ u. IsNewTable u new numbers dens sizes den) e n) (subst (λ u. g *ℤ den ≡ u.den *ℤ u.pivot) e q)
 
 -- what divides all, by the denominators of rows that may be too wide
 divided_by : (step : Step) (table : Rows) (den : ℤ) → IsRowStep step table → (m : IsRowsMultiple step table (step.rows + 2) den) → HaveDivisor step (kept_in step table) den m.dens m.table
@@ -263,54 +250,102 @@ wide_row d s divided table den e h k w is rows m q =
     IsWideStep-row d s.row s.entering divided h wide (with_divisor d s divided e is) (divisor_small s table divided.divisor den rows m.multiple.positive q) divisor
 
 -- the table that the code makes
-pub new_table : (step : Step) (table fresh shared new : Rows) (den : ℤ) → IsRowStep step table → IsRoom (step.rows + 2) (step.columns + 1) step.limit fresh → shared ≡ record fresh { shares = shared.shares } → length shared.shares.items ≡ length fresh.shares.items → AllWithin (2 ^ 62) shared.shares.items → IsWithin step.limit den → ((k : ℕ) → k < length fresh.dens.items → (share_of shared k *ℤ own_den fresh k ≡ den) × IsWithin step.limit (share_of shared k *ℤ size_of fresh k)) → new.width ≡ table.width → ((i s : ℕ) → i < step.rows + 2 → s < step.columns + 1 → number_in step new.numbers.items i s ≡ made_number step table.numbers.items shared.numbers.items i s) → IsTable step new.numbers.items → new.dens.items ≡ shared.dens.items → new.shares.items ≡ shared.shares.items → new.sizes.items ≡ shared.sizes.items → IsNewTable step table new fresh.numbers.items fresh.dens.items fresh.sizes.items den
-new_table step table fresh shared new den h room rest long size within each width made own dens shares sizes = record {
-  width = width ∙ h.width;
-  made = λ i s a b. made i s a b ∙ ap (λ r. made_number step table.numbers.items r.numbers.items i s) rest;
-  own = own;
-  dens_are = dens ∙ ap (λ r. r.dens.items) rest;
-  sizes_are = sizes ∙ ap (λ r. r.sizes.items) rest;
+pub new_table : (step : Step) (table filled new : Rows) (draft shared : Draft) (den : ℤ) → IsRowStep step table → IsDraft (step.rows + 2) (step.columns + 1) draft → shared ≡ record draft { shares = shared.shares } → length shared.shares.items ≡ length draft.shares.items → AllWithin (2 ^ 62) shared.shares.items → IsWithin step.limit den → ((k : ℕ) → k < length draft.dens.items → (number_at shared.shares.items k *ℤ number_at draft.dens.items k ≡ den) × IsWithin step.limit (number_at shared.shares.items k *ℤ number_at draft.sizes.items k)) → filled ≡ record table { numbers = filled.numbers } → IsTable step filled.numbers.items → new ≡ record filled { dens = shared.dens; shares = shared.shares; sizes = shared.sizes } → IsNewTable step new filled.numbers.items draft.dens.items draft.sizes.items den
+new_table step table filled new draft shared den h room rest long size within each written own given = record {
+  width = ap (λ r. r.width) given ∙ ap (λ r. r.width) written ∙ h.width;
+  made = λ i s a b. ap (λ r. number_in step r.numbers.items i s) given;
+  own = subst (λ r. IsTable step r.numbers.items) (sym given) own;
+  dens_are = ap (λ r. r.dens.items) given ∙ ap (λ r. r.dens.items) rest;
+  sizes_are = ap (λ r. r.sizes.items) given ∙ ap (λ r. r.sizes.items) rest;
   dens_length = room.dens_length;
   sizes_length = room.sizes_length;
-  shares_length = ap length shares ∙ long ∙ room.shares_length;
+  shares_length = ap (λ r. length r.shares.items) given ∙ long ∙ room.shares_length;
   dens_size = room.dens_size;
-  shares_size = subst (AllWithin (2 ^ 62)) (sym shares) size;
+  shares_size = subst (λ r. AllWithin (2 ^ 62) r.shares.items) (sym given) size;
   den_within = within;
   shared = λ k b.
       let told = each k (omega (arith, b, room.dens_length)) in (
-        subst (λ xs. number_at xs k *ℤ own_den fresh k ≡ den) (sym shares) told.0,
-        subst (λ xs. IsWithin step.limit (number_at xs k *ℤ size_of fresh k)) (sym shares) told.1,
+        subst (λ r. share_of r k *ℤ number_at draft.dens.items k ≡ den) (sym given) told.0,
+        subst (λ r. IsWithin step.limit (share_of r k *ℤ number_at draft.sizes.items k)) (sym given) told.1,
       );
 }
 
--- the old table makes room for the next pivot
-pub new_room : (step : Step) (table fresh shared room : Rows) → IsRowStep step table → IsRoom (step.rows + 2) (step.columns + 1) step.limit fresh → shared ≡ record fresh { shares = shared.shares } → room.width ≡ shared.width → IsTable step room.numbers.items → room.dens.items ≡ table.dens.items → room.shares.items ≡ table.shares.items → room.sizes.items ≡ table.sizes.items → IsRoom (step.rows + 2) (step.columns + 1) step.limit room
-new_room step table fresh shared room h r rest width numbers dens shares sizes =
-    record {
-      width_is = width ∙ ap (λ u. u.width) rest ∙ r.width_is;
-      numbers_length = numbers.kept_length;
-      dens_length = ap length dens ∙ h.table.dens_length;
-      shares_length = ap length shares ∙ h.table.shares_length;
-      sizes_length = ap length sizes ∙ h.table.sizes_length;
-      numbers_size = numbers.kept_limit;
-      dens_size = subst (AllWithin (2 ^ 62)) (sym dens) h.table.dens_size;
-      shares_size = subst (AllWithin (2 ^ 62)) (sym shares) h.table.shares_size;
-      sizes_size = subst (AllWithin (2 ^ 62)) (sym sizes) (record { at = λ k b. (h.table.sizes k (omega (arith, b, h.table.sizes_length))).small });
-    }
-
--- a second table that was only shared out anew is room as before
-pub shared_room : (step : Step) (fresh shared : Rows) → IsRoom (step.rows + 2) (step.columns + 1) step.limit fresh → shared ≡ record fresh { shares = shared.shares } → length shared.shares.items ≡ length fresh.shares.items → AllWithin (2 ^ 62) shared.shares.items → IsRoom (step.rows + 2) (step.columns + 1) step.limit shared
-shared_room step fresh shared r rest long size = record {
-  width_is = ap (λ u. u.width) rest ∙ r.width_is;
-  numbers_length = ap (λ u. length u.numbers.items) rest ∙ r.numbers_length;
+-- a draft that was only shared out anew is room as before
+pub shared_draft : (n width : ℕ) (draft shared : Draft) → IsDraft n width draft → shared ≡ record draft { shares = shared.shares } → length shared.shares.items ≡ length draft.shares.items → AllWithin (2 ^ 62) shared.shares.items → IsDraft n width shared
+shared_draft n width draft shared r rest long size = record {
+  own_length = ap (λ u. length u.own.items) rest ∙ r.own_length;
+  pivot_row_length = ap (λ u. length u.pivot_row.items) rest ∙ r.pivot_row_length;
+  zeros = ap (λ u. u.zeros.items) rest ∙ r.zeros;
+  factors_length = ap (λ u. length u.factors.items) rest ∙ r.factors_length;
   dens_length = ap (λ u. length u.dens.items) rest ∙ r.dens_length;
   shares_length = long ∙ r.shares_length;
   sizes_length = ap (λ u. length u.sizes.items) rest ∙ r.sizes_length;
-  numbers_size = subst (λ u. AllWithin step.limit u.numbers.items) (sym rest) r.numbers_size;
   dens_size = subst (λ u. AllWithin (2 ^ 62) u.dens.items) (sym rest) r.dens_size;
   shares_size = size;
   sizes_size = subst (λ u. AllWithin (2 ^ 62) u.sizes.items) (sym rest) r.sizes_size;
 }
+
+-- the old denominators, shares and sizes are room for the next pivot
+pub next_draft : (step : Step) (table filled : Rows) (shared new : Draft) → IsRowStep step table → IsDraft (step.rows + 2) (step.columns + 1) shared → filled ≡ record table { numbers = filled.numbers } → new ≡ record shared { dens = filled.dens; shares = filled.shares; sizes = filled.sizes } → IsDraft (step.rows + 2) (step.columns + 1) new
+next_draft step table filled shared new h r written given =
+    let dens : new.dens ≡ table.dens = ap (λ u. u.dens) given ∙ ap (λ u. u.dens) written in
+    let shares : new.shares ≡ table.shares = ap (λ u. u.shares) given ∙ ap (λ u. u.shares) written in
+    let sizes : new.sizes ≡ table.sizes = ap (λ u. u.sizes) given ∙ ap (λ u. u.sizes) written in
+    record {
+      own_length = ap (λ u. length u.own.items) given ∙ r.own_length;
+      pivot_row_length = ap (λ u. length u.pivot_row.items) given ∙ r.pivot_row_length;
+      zeros = ap (λ u. u.zeros.items) given ∙ r.zeros;
+      factors_length = ap (λ u. length u.factors.items) given ∙ r.factors_length;
+      dens_length = ap (λ u. length u.items) dens ∙ h.table.dens_length;
+      shares_length = ap (λ u. length u.items) shares ∙ h.table.shares_length;
+      sizes_length = ap (λ u. length u.items) sizes ∙ h.table.sizes_length;
+      dens_size = subst (λ u. AllWithin (2 ^ 62) u.items) (sym dens) h.table.dens_size;
+      shares_size = subst (λ u. AllWithin (2 ^ 62) u.items) (sym shares) h.table.shares_size;
+      sizes_size = subst (λ u. AllWithin (2 ^ 62) u.items) (sym sizes) (record { at = λ k b. (h.table.sizes k (omega (arith, b, h.table.sizes_length))).small });
+    }
+
+-- ---- rows that have their old numbers back
+
+same_number : (step : Step) (table new : Rows) (i s : ℕ) → IsRowStep step table → AreSameRows step table new → i < step.rows + 2 → s < table.width → own_number new i s ≡ own_number table i s
+same_number step table new i s h e a b =
+    ap (λ w. number_at new.numbers.items (i * w + s)) (ap (λ r. r.width) e.rest ∙ h.width)
+    ∙ e.numbers.at i s (omega arith) a (omega (arith, b, h.width))
+
+-- the same numbers over the denominator of all
+pub same_kept : (step : Step) (table new : Rows) → IsRowStep step table → AreSameRows step table new → kept_of (step.rows + 2) new ≡ kept_of (step.rows + 2) table
+same_kept step table new h e =
+    let width : new.width ≡ table.width = ap (λ u. u.width) e.rest in
+    up_to-same (step.rows + 2) (λ i. list_to new.width (λ s. share_of new i *ℤ own_number new i s)) (λ i. list_to table.width (λ s. share_of table i *ℤ own_number table i s))
+    (λ i b.
+    ap (λ w. list_to w (λ s. share_of new i *ℤ own_number new i s)) width
+    ∙ list_to-same table.width (λ s. share_of new i *ℤ own_number new i s) (λ s. share_of table i *ℤ own_number table i s) (λ s c. ap₂ (λ x y. x *ℤ y) (ap (λ u. number_at u.shares.items i) e.rest) (same_number step table new i s h e b c)))
+
+pub same_rows : (step : Step) (table new : Rows) (den : ℤ) → IsRowStep step table → AreSameRows step table new → AreRows (step.rows + 2) den table → AreRows (step.rows + 2) den new
+same_rows step table new den h e r =
+    let width : new.width ≡ table.width = ap (λ u. u.width) e.rest in
+    let dens : new.dens ≡ table.dens = ap (λ u. u.dens) e.rest in
+    let shares : new.shares ≡ table.shares = ap (λ u. u.shares) e.rest in
+    let sizes : new.sizes ≡ table.sizes = ap (λ u. u.sizes) e.rest in
+    record {
+      numbers_length = e.own.kept_length ∙ ap (λ w. (step.rows + 2) * w) (sym (width ∙ h.width));
+      dens_length = ap (λ u. length u.items) dens ∙ r.dens_length;
+      shares_length = ap (λ u. length u.items) shares ∙ r.shares_length;
+      sizes_length = ap (λ u. length u.items) sizes ∙ r.sizes_length;
+      numbers_size = e.own.kept_size;
+      dens_size = subst (λ u. AllWithin (2 ^ 62) u.items) (sym dens) r.dens_size;
+      shares_size = subst (λ u. AllWithin (2 ^ 62) u.items) (sym shares) r.shares_size;
+      sizes = λ i b.
+          subst (λ w. IsRowSize w (own_number new i) (size_of new i)) (sym width)
+          (subst (λ u. IsRowSize table.width (own_number new i) (number_at u.items i)) (sym sizes)
+          (IsRowSize-same table.width (own_number table i) (own_number new i) (size_of table i) (λ s c. same_number step table new i s h e b c) (r.sizes i b)));
+      least = λ i b.
+          subst (λ w. IsLeastRow w (own_den new i) (own_number new i)) (sym width)
+          (subst (λ u. IsLeastRow table.width (number_at u.items i) (own_number new i)) (sym dens)
+          (IsLeastRow-same table.width (own_den table i) (own_number table i) (own_number new i) (λ s c. same_number step table new i s h e b c) (r.least i b)));
+      shared = λ i b.
+          subst (λ u. number_at u.items i *ℤ own_den new i ≡ den) (sym shares)
+          (subst (λ u. share_of table i *ℤ number_at u.items i ≡ den) (sym dens) (r.shared i b));
+    }
 
 pub row_step : (v d : Condensed) (s : Step) (table : Rows) → v ≡ d → v.kept ≡ kept_of (v.rows + 2) table → HasRows v.rows v.columns v.den table → s ≡ step_of d s.row s.entering (pos 1) → IsExchange d s.row s.entering → IsRowStep s table
 row_step v d s table p k r e h = IsRowStep-for d s table e h (kept_for v d table p k) (rows_for v d table p r)

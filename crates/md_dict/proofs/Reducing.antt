@@ -3,15 +3,12 @@ use Rattle.std.proofs.Common.{◌≡◌, ◌≢◌, ℕ, max, ◌+◌, ◌-◌, 
 use Rattle.std.proofs.lemmas.Bool.{cases_lt, cases_eq}
 use Rattle.std.proofs.lemmas.Int.{ints, unsigned_abs-mul, fits_signed_from_abs}
 use Rattle.std.proofs.lemmas.Nat.{le_or_l, le_or_r}
-use Rattle.std.specs.Int.{IsGcd}
 use mir.Syntax.{w64}
-use Prim.Native.Nat.{◌∣◌}
 use Rattle.std.proofs.Math.Nat as NatL
 use Rattle.md_math.specs.Lists.{number_at}
 use Rattle.md_math.specs.Sizes.{IsWithin, AllWithin}
 use Rattle.md_math.specs.Divisors.{Divides, IsCommonDivisor, IsGcdOfTwo}
-use Rattle.md_math.proofs.Division.{Divides_cancel, Divides_refl, Divides_trans, Divides-int_div, one-Divides, *ℤ-Divides}
-use Rattle.md_math.proofs.Gcds.{IsGcdOfTwo-from_IsGcd}
+use Rattle.md_math.proofs.Division.{Divides_cancel, Divides_trans, Divides-int_div, one-Divides, *ℤ-Divides}
 use Rattle.md_math.proofs.Order.{positive-*ℤ, positive_from_*ℤ}
 use Rattle.md_math.proofs.Ring.{*ℤ-one}
 use Rattle.md_math.proofs.SizeLaws.{AllWithin-number_at, AllWithin-set, AllWithin-wider, IsWithin-sub, IsWithin-wider}
@@ -182,23 +179,7 @@ AreDivided-tested c own taken d new n wrong gap x inside h e t =
 
 -- ---- the divisor that is tried
 
--- it begins with the denominator
-pub IsAttempt-first : (c : Combination) (own taken : List ℤ) → IsCombination c own taken → IsAttempt c own taken (combined_den c)
-IsAttempt-first c own taken h = record {
-  positive = positive-*ℤ c.multiplier c.den h.multiplier_positive h.den_positive;
-  size = product_small c.multiplier c.den h.multiplier_size h.den_size;
-  of_den = Divides_refl (combined_den c);
-  greatest = λ x q. q.of_den;
-}
-
--- by its size
-IsAttempt-size : (c : Combination) (own taken : List ℤ) (n : ℕ) → IsCombination c own taken → n ≡ unsigned_abs (combined_den c) → IsAttempt c own taken (pos n)
-IsAttempt-size c own taken n h e =
-    let first = IsAttempt-first c own taken h in
-    let same : combined_den c ≡ pos n = omega (arith, ints, first.positive, e) in
-    subst (IsAttempt c own taken) same first
-
--- the next one divides one more number
+-- it may divide one more number
 pub IsAttempt-common : (c : Combination) (own taken : List ℤ) (d g : ℤ) (s : ℕ) → IsAttempt c own taken d → s < length own → IsGcdOfTwo d (combined c own taken s) g → unsigned_abs g < 2 ^ 126 → IsAttempt c own taken g
 IsAttempt-common c own taken d g s h b q l = record {
   positive = positive_divisor d g h.positive q.left q.nonneg;
@@ -206,25 +187,6 @@ IsAttempt-common c own taken d g s h b q l = record {
   of_den = Divides_trans g d (combined_den c) q.left h.of_den;
   greatest = λ x r. q.greatest x (h.greatest x r) (r.of_numbers.at s b);
 }
-
--- the same where the number is known by its size
-pub IsAttempt-sized : (c : Combination) (own taken : List ℤ) (d g : ℤ) (n s : ℕ) → IsAttempt c own taken d → s < length own → n ≡ unsigned_abs (combined c own taken s) → IsGcdOfTwo d (pos n) g → IsAttempt c own taken g
-IsAttempt-sized c own taken d g n s h b e q =
-    let number = combined c own taken s in
-    let above : 0 < unsigned_abs d = omega (arith, ints, h.positive) in
-    let le : unsigned_abs g ≤ unsigned_abs d = NatL.le_of_dvd above q.left.divides in
-    let gcd : IsGcdOfTwo d number g = record {
-      nonneg = q.nonneg;
-      left = q.left;
-      right = record { divides = subst (λ k. unsigned_abs g ∣ k) e q.right.divides };
-      greatest = λ x p r. q.greatest x p (record { divides = subst (λ k. unsigned_abs x ∣ k) (sym e) r.divides });
-    } in
-    IsAttempt-common c own taken d g s h b gcd (omega (arith, le, h.size))
-
--- the first divisor by sizes
-pub IsAttempt-sizes : (c : Combination) (own taken : List ℤ) (d n g s : ℕ) → IsCombination c own taken → d ≡ unsigned_abs (combined_den c) → s < length own → n ≡ unsigned_abs (combined c own taken s) → IsGcd d n g → IsAttempt c own taken (pos g)
-IsAttempt-sizes c own taken d n g s h a b e q =
-    IsAttempt-sized c own taken (pos d) (pos g) n s (IsAttempt-size c own taken d h a) b e (IsGcdOfTwo-from_IsGcd (pos d) (pos n) g q)
 
 pub IsAttempt-next : (c : Combination) (own taken : List ℤ) (d g : ℤ) (place : ℕ) (x : ℤ) → IsAttempt c own taken d → IsUndivided c own taken d place x → IsGcdOfTwo d x g → unsigned_abs g < 2 ^ 126 → IsAttempt c own taken g
 IsAttempt-next c own taken d g place x h u q l = IsAttempt-common c own taken d g place h u.place_in (subst (λ z. IsGcdOfTwo d z g) u.is q) l

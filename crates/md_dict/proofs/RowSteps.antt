@@ -75,7 +75,7 @@ old_number-pivot_here step rows h =
 pivot_own : (step : Step) (rows : Rows) → IsRowStep step rows → step.pivot ≡ share_of rows step.row *ℤ own_number rows step.row step.place
 pivot_own step rows h = h.pivot.pivot_is ∙ number_in-rows step rows step.row step.place h (pivot_row_in step rows h) (place_in_row step rows h)
 
-pivot_own_positive : (step : Step) (rows : Rows) → IsRowStep step rows → pos 0 <ℤ own_number rows step.row step.place
+pub pivot_own_positive : (step : Step) (rows : Rows) → IsRowStep step rows → pos 0 <ℤ own_number rows step.row step.place
 pivot_own_positive step rows h =
     positive_from_*ℤ (share_of rows step.row) (own_number rows step.row step.place) (share_positive step rows step.row h (pivot_row_in step rows h))
     (subst (λ z. pos 0 <ℤ z) (pivot_own step rows h) h.pivot.table.pivot_positive)
@@ -175,7 +175,7 @@ IsNewRow-stays step rows i f h a other not_face zero same = record {
 combined_here : (c : Combination) (own taken : List ℤ) (s : ℕ) → s ≡ c.place → combined c own taken s ≡ c.multiplier *ℤ c.leaving -ℤ c.factor *ℤ c.pivot_den
 combined_here c own taken s e = rw (eq-eqb s c.place e) refl
 
-combined_beside : (c : Combination) (own taken : List ℤ) (s : ℕ) → s ≢ c.place → combined c own taken s ≡ c.multiplier *ℤ number_at own s -ℤ c.factor *ℤ number_at taken s
+pub combined_beside : (c : Combination) (own taken : List ℤ) (s : ℕ) → s ≢ c.place → combined c own taken s ≡ c.multiplier *ℤ number_at own s -ℤ c.factor *ℤ number_at taken s
 combined_beside c own taken s o = rw (ne_eqb s c.place o) refl
 
 -- what the combination is multiplied by to give the raw numbers
@@ -363,6 +363,10 @@ own_within step rows i own h o = record {
 own_den_within : (step : Step) (rows : Rows) (i : ℕ) → IsRowStep step rows → IsWithin (2 ^ 62) (own_den rows i)
 own_den_within step rows i h = AllWithin-number_at (2 ^ 62) rows.dens.items i h.table.dens_size
 
+-- what the leaving column holds has 62 bits
+pub leaving_within : (step : Step) (rows : Rows) (i : ℕ) (c : Combination) → IsRowStep step rows → IsCombinationOf step rows i c → IsWithin (2 ^ 62) c.leaving
+leaving_within step rows i c h of = subst (IsWithin (2 ^ 62)) (sym of.leaving) (basic_within (2 ^ 62) step.rows step.columns step.row step.leaving i (own_den rows i) (own_den_within step rows i h))
+
 -- what is combined has the sizes that a combination wants
 pub IsCombination-of : (step : Step) (rows : Rows) (i : ℕ) (c : Combination) (own taken : List ℤ) → IsRowStep step rows → i < step.rows + 2 → IsCombinationOf step rows i c → IsOwnRow rows i own → IsOwnRow rows step.row taken → IsWithin (2 ^ 62) c.multiplier → IsWithin (2 ^ 62) c.factor → IsCombination c own taken
 IsCombination-of step rows i c own taken h row_in of own_row taken_row p q = record {
@@ -377,5 +381,5 @@ IsCombination-of step rows i c own taken h row_in of own_row taken_row p q = rec
   den_positive = subst (λ z. pos 0 <ℤ z) (sym of.den) (h.table.least i row_in).positive;
   pivot_den_size = subst (IsWithin (2 ^ 62)) (sym of.pivot_den) (own_den_within step rows step.row h);
   pivot_den_positive = subst (λ z. pos 0 <ℤ z) (sym of.pivot_den) (h.table.least step.row (pivot_row_in step rows h)).positive;
-  leaving_size = subst (IsWithin (2 ^ 62)) (sym of.leaving) (basic_within (2 ^ 62) step.rows step.columns step.row step.leaving i (own_den rows i) (own_den_within step rows i h));
+  leaving_size = leaving_within step rows i c h of;
 }

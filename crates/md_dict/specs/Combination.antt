@@ -32,6 +32,15 @@ pub record IsCombination (c : Combination) (own taken : List ℤ) : Type 0 where
   pub pivot_den_positive : pos 0 <ℤ c.pivot_den
   pub leaving_size : IsWithin (2 ^ 62) c.leaving
 
+-- the two rows are in least terms. At the place of the pivot they have the factor and the multiplier, each times one number, and the leaving column holds a multiple of the row's denominator
+pub record AreLeastRows (c : Combination) (own taken : List ℤ) : Type 0 where
+  pub own_least : IsLeastRow (length own) c.den (number_at own)
+  pub taken_least : IsLeastRow (length own) c.pivot_den (number_at taken)
+  pub common : ℤ
+  pub own_at_place : number_at own c.place ≡ common *ℤ c.factor
+  pub taken_at_place : number_at taken c.place ≡ common *ℤ c.multiplier
+  pub leaving : Divides c.den c.leaving
+
 -- a divisor of the combination: of its denominator and of each number
 pub record DividesCombination (c : Combination) (own taken : List ℤ) (d : ℤ) : Type 0 where
   pub of_den : Divides d (combined_den c)

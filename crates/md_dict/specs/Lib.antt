@@ -6,6 +6,7 @@ pub mod Fill
 pub mod FirstRows
 pub mod FirstTable
 pub mod Halves
+pub mod Long
 pub mod Reduce
 pub mod Multiples
 pub mod Pivot

@@ -23,11 +23,6 @@ pub record IsDivided (c : Combination) (own taken : List ℤ) (d : ℤ) (new : L
 pub record AreShort (c : Combination) (own taken : List ℤ) : Type 0 where
   pub at : (s : ℕ) → s < length own → unsigned_abs c.multiplier * unsigned_abs (number_at own s) + unsigned_abs c.factor * unsigned_abs (number_at taken s) < 2 ^ 63
 
--- the denominator and what makes the number at the place of the pivot have 63 bits
-pub record HasShortEnds (c : Combination) : Type 0 where
-  pub den : unsigned_abs c.multiplier * unsigned_abs c.den < 2 ^ 63
-  pub leaving : unsigned_abs c.multiplier * unsigned_abs c.leaving + unsigned_abs c.factor * unsigned_abs c.pivot_den < 2 ^ 63
-
 -- all that is multiplied has 32 bits, of which the limit has no fewer
 pub record AreHalves (c : Combination) (xs ys : List ℤ) (most : ℕ) : Type 0 where
   pub multiplier : IsWithin (2 ^ 31 - 1) c.multiplier

@@ -1,5 +1,5 @@
 -- A pivot of a table whose rows stand over denominators of their own.
-use Rattle.std.specs.Prelude.{◌≡◌, ◌≢◌, ℕ, ◌+◌, ◌*◌, ◌^◌, ◌<◌, ◌==◌, ◌&&◌, not, Bool, if◌then◌else◌, ℤ, pos, ◌*ℤ◌, ◌<ℤ◌, List, length}
+use Rattle.std.specs.Prelude.{◌≡◌, ◌≢◌, ℕ, ◌+◌, ◌^◌, ◌<◌, ◌≤◌, ◌==◌, ◌&&◌, not, Bool, true, false, ℤ, pos, ◌-ℤ◌, ◌*ℤ◌, ◌<ℤ◌, List, length, replicate}
 use Rattle.md_math.specs.Sizes.{AllWithin, IsWithin}
 use Rattle.md_dict.specs.declared.combination.LeastRow.{LeastRow}
 use Rattle.md_dict.specs.Multiples.{IsNewRow}
@@ -8,6 +8,8 @@ use Rattle.md_math.specs.Lists.{number_at}
 use Rattle.md_dict.specs.Dictionary.{basic_value}
 use Rattle.md_dict.specs.declared.step.Step.{Step}
 use Rattle.md_dict.specs.declared.rows.Rows.{Rows}
+use Rattle.md_dict.specs.declared.draft.Draft.{Draft}
+use Rattle.md_dict.specs.declared.old_rows.OldRows.{OldRows}
 use Rattle.md_dict.specs.declared.combination.Combination.{Combination}
 use Rattle.md_dict.specs.Step.{IsStep, IsTable, number_in}
 use Rattle.md_dict.specs.Rows.{kept_of, own_den, own_number, AreRows, IsRowSize}
@@ -40,13 +42,9 @@ pub record IsCombinationOf (step : Step) (rows : Rows) (i : ℕ) (c : Combinatio
   pub pivot_den : c.pivot_den ≡ own_den rows step.row
   pub leaving : c.leaving ≡ basic_value step.rows step.columns (own_den rows i) step.row step.leaving i
 
--- whether a pivot leaves a row as it is: the pivot row is not taken from it, and it is not the face row, which may have another number in the leaving column
+-- whether a pivot leaves a row as it is, by the rows' numbers at the place of the pivot: the pivot row is not taken from it, and it is not the face row, which may have another number in the leaving column
 abbrev pub stays_in : Step → List ℤ → ℕ → Bool
-stays_in step numbers i = not (i == step.row) && not (i == step.rows) && int_eq (number_in step numbers i step.place) (pos 0)
-
--- the number of a row after the pivot: a row that stays keeps its own, another has those that are written
-abbrev pub made_number : Step → List ℤ → List ℤ → ℕ → ℕ → ℤ
-made_number step numbers fresh i s = if stays_in step numbers i then number_in step numbers i s else number_in step fresh i s
+stays_in step factors i = not (i == step.row) && not (i == step.rows) && int_eq (number_at factors i) (pos 0)
 
 -- a row after the pivot, in least terms, with its denominator and size
 pub record IsMadeRow (step : Step) (rows : Rows) (i : ℕ) (least : LeastRow) (f : ℕ → ℤ) : Type 0 where
@@ -54,21 +52,68 @@ pub record IsMadeRow (step : Step) (rows : Rows) (i : ℕ) (least : LeastRow) (f
   pub size : IsRowSize (step.columns + 1) f least.size
   pub den_size : IsWithin (2 ^ 62) least.den
 
--- the first n rows are made: they have their new denominators and sizes, and their numbers are new or stay
-pub record AreMade (step : Step) (rows : Rows) (numbers dens sizes : List ℤ) (n : ℕ) : Type 0 where
-  pub at : (i : ℕ) → i < n → IsMadeRow step rows i (record { den = number_at dens i; size = number_at sizes i }) (made_number step rows.numbers.items numbers i)
+-- the divisor times new numbers of a row is what the old ones were combined to, so that the pivot times an old number is known; the place of the pivot is left out
+pub record AreOldTimes (step : Step) (rows : Rows) (i : ℕ) (divisor : ℤ) (f : ℕ → ℤ) : Type 0 where
+  pub at : (s : ℕ) → s < step.columns + 1 → s ≢ step.place → divisor *ℤ f s ≡ own_number rows step.row step.place *ℤ own_number rows i s -ℤ own_number rows i step.place *ℤ own_number rows step.row s
 
--- room for rows after a pivot: n rows of one length, and no number is above the limit
-pub record IsRoom (n width limit : ℕ) (fresh : Rows) : Type 0 where
-  pub width_is : fresh.width ≡ width
-  pub numbers_length : length fresh.numbers.items ≡ n * width
-  pub dens_length : length fresh.dens.items ≡ n
-  pub shares_length : length fresh.shares.items ≡ n
-  pub sizes_length : length fresh.sizes.items ≡ n
-  pub numbers_size : AllWithin limit fresh.numbers.items
-  pub dens_size : AllWithin (2 ^ 62) fresh.dens.items
-  pub shares_size : AllWithin (2 ^ 62) fresh.shares.items
-  pub sizes_size : AllWithin (2 ^ 62) fresh.sizes.items
+-- a row that a pivot changed can be turned back: its divisor is known by its old and its new denominator
+pub record CanBeTurnedBack (step : Step) (rows : Rows) (i : ℕ) (den : ℤ) (f : ℕ → ℤ) : Type 0 where
+  pub divisor : ℤ
+  pub den_is : divisor *ℤ den ≡ own_number rows step.row step.place *ℤ own_den rows i
+  pub numbers : AreOldTimes step rows i divisor f
+
+-- the old numbers of a row other than the pivot row are known by the new ones: the row stayed, or can be turned back
+pub record CanBeRestored (step : Step) (rows : Rows) (factors : List ℤ) (i : ℕ) (den : ℤ) (f : ℕ → ℤ) : Type 0 where
+  pub positive : pos 0 <ℤ den
+  pub size : IsWithin (2 ^ 62) den
+  pub kept : stays_in step factors i ≡ true → (s : ℕ) → s < step.columns + 1 → f s ≡ own_number rows i s
+  pub back : stays_in step factors i ≡ false → i ≢ step.row → CanBeTurnedBack step rows i den f
+
+-- a row after the pivot, whose old numbers are known by the new ones
+pub record IsDoneRow (step : Step) (rows : Rows) (factors numbers : List ℤ) (i : ℕ) (least : LeastRow) : Type 0 where
+  pub made : IsMadeRow step rows i least (number_in step numbers i)
+  pub restorable : CanBeRestored step rows factors i least.den (number_in step numbers i)
+
+-- the first n rows are those after the pivot, with their new denominators and sizes
+pub record AreDone (step : Step) (rows : Rows) (factors numbers dens sizes : List ℤ) (n : ℕ) : Type 0 where
+  pub at : (i : ℕ) → i < n → IsDoneRow step rows factors numbers i (record { den = number_at dens i; size = number_at sizes i })
+
+-- the numbers of the rows from n on are those before the pivot
+pub record AreOldFrom (step : Step) (rows : Rows) (numbers : List ℤ) (n : ℕ) : Type 0 where
+  pub at : (i s : ℕ) → n ≤ i → i < step.rows + 2 → s < step.columns + 1 → number_in step numbers i s ≡ own_number rows i s
+
+-- the old numbers of the first n rows are known by the new ones, those of the others stand there
+pub record AreRestorable (step : Step) (rows : Rows) (factors numbers dens : List ℤ) (n : ℕ) : Type 0 where
+  pub written : (i : ℕ) → i < n → CanBeRestored step rows factors i (number_at dens i) (number_in step numbers i)
+  pub rest : AreOldFrom step rows numbers n
+
+-- what is read of the rows as they were before the pivot
+pub record AreOldRows (step : Step) (rows : Rows) (old : OldRows) : Type 0 where
+  pub step_is : IsRowStep step rows
+  pub dens : old.dens.now ≡ rows.dens.items
+  pub sizes : old.sizes.now ≡ rows.sizes.items
+  pub pivot_row : IsOwnRow rows step.row old.pivot_row.now
+  pub factors_length : length old.factors.now ≡ step.rows + 2
+  pub factors : (i : ℕ) → i < step.rows + 2 → number_at old.factors.now i ≡ own_number rows i step.place
+  pub zeros : old.zeros.now ≡ replicate (step.columns + 1) (pos 0)
+
+-- the notes of a pivot on the rows as they were
+pub record IsNoted (step : Step) (rows : Rows) (draft : Draft) : Type 0 where
+  pub pivot_row : IsOwnRow rows step.row draft.pivot_row.items
+  pub factors : (i : ℕ) → i < step.rows + 2 → number_at draft.factors.items i ≡ own_number rows i step.place
+
+-- room for what a pivot notes of n rows of one length
+pub record IsDraft (n width : ℕ) (draft : Draft) : Type 0 where
+  pub own_length : length draft.own.items ≡ width
+  pub pivot_row_length : length draft.pivot_row.items ≡ width
+  pub zeros : draft.zeros.items ≡ replicate width (pos 0)
+  pub factors_length : length draft.factors.items ≡ n
+  pub dens_length : length draft.dens.items ≡ n
+  pub shares_length : length draft.shares.items ≡ n
+  pub sizes_length : length draft.sizes.items ≡ n
+  pub dens_size : AllWithin (2 ^ 62) draft.dens.items
+  pub shares_size : AllWithin (2 ^ 62) draft.shares.items
+  pub sizes_size : AllWithin (2 ^ 62) draft.sizes.items
 
 -- the same for lists that are written: the numbers, the denominators and the sizes
 pub record AreParts (step : Step) (numbers dens sizes : List ℤ) : Type 0 where

@@ -1,16 +1,18 @@
-ghost use Rattle.std.specs.Prelude.{◌≡◌, ◌<◌, ◌^◌, ◌+◌, ◌*◌, pos, length, IsTrue, unsigned_abs};
+ghost use Rattle.std.specs.Prelude.{◌≡◌, ◌<◌, ◌^◌, ℤ, pos, ◌-ℤ◌, ◌*ℤ◌, List, length, unsigned_abs};
+ghost use Rattle.std.specs.Int.{IsGcd};
+ghost use Rattle.md_math.specs.Lists.{number_at};
 ghost use Rattle.md_math.specs.Divisors.{IsGcdOfTwo};
 ghost use Rattle.md_math.specs.Sizes.{IsWithin};
 
 use crate::binary::binary_gcd;
 use crate::combination::Combination;
-use crate::division::{Divider, common_divisor};
+use crate::division::Divider;
 use crate::short::LEAST_LONG;
 use crate::witnesses::Witnesses;
 
 impl Combination {
-    ghost use Rattle.md_dict.specs.Combination.{IsCombination, combined, combined_den};
-    ghost use Rattle.md_dict.specs.Reduce.{AreShort, HasShortEnds, IsAttempt};
+    ghost use Rattle.md_dict.specs.Combination.{AreLeastRows, IsCombination, combined};
+    ghost use Rattle.md_dict.specs.Reduce.{AreShort, IsAttempt};
 
     // The greatest common divisor of a divisor and of the number at a place.
     pub fn common_at(&self, own: &[i64], taken: &[i64], place: usize, divider: &Divider) -> Divider
@@ -23,13 +25,48 @@ impl Combination {
         divider.common(self.number(own, taken, place))
     }
 
-    // The greatest common divisor of the denominator, of the number at the place of the pivot, and of those at which divisors failed before.
-    pub fn long_divider(&self, own: &[i64], taken: &[i64], witnesses: &Witnesses) -> Divider
+    // What the multiplier and the factor have in common.
+    fn common_factor(&self) -> u64
+        requires multiplier { IsWithin (2 ^ 62) self.now.multiplier }
+        requires factor { IsWithin (2 ^ 62) self.now.factor }
+        ensures { IsGcd (unsigned_abs self.now.multiplier) (unsigned_abs self.now.factor) result }
+    {
+        binary_gcd(self.multiplier.unsigned_abs(), self.factor.unsigned_abs())
+    }
+
+    // What the denominators of the two rows have in common.
+    fn common_den(&self) -> u64
+        requires den { IsWithin (2 ^ 62) self.now.den }
+        requires pivot_den { IsWithin (2 ^ 62) self.now.pivot_den }
+        ensures { IsGcd (unsigned_abs self.now.den) (unsigned_abs self.now.pivot_den) result }
+    {
+        binary_gcd(self.den.unsigned_abs(), self.pivot_den.unsigned_abs())
+    }
+
+    // What the multiplier and the factor have in common, times what the two denominators have in common. Since both rows are in least terms, every common divisor of the combination divides it.
+    fn candidate(&self) -> u128
+        requires multiplier { IsWithin (2 ^ 62) self.now.multiplier }
+        requires factor { IsWithin (2 ^ 62) self.now.factor }
+        requires den { IsWithin (2 ^ 62) self.now.den }
+        requires pivot_den { IsWithin (2 ^ 62) self.now.pivot_den }
+        ensures { (own taken : List ℤ) → IsCombination self.now own taken → AreLeastRows self.now own taken → IsAttempt self.now own taken (pos result) }
+    {
+        u128::from(self.common_factor()) * u128::from(self.common_den())
+    }
+
+    // The greatest common divisor of a candidate and of the numbers at the places at which divisors failed before.
+    fn common_at_witnesses(
+        &self,
+        own: &[i64],
+        taken: &[i64],
+        candidate: i128,
+        witnesses: &Witnesses,
+    ) -> Divider
         requires combination { IsCombination self.now own.now taken.now }
+        requires attempt { IsAttempt self.now own.now taken.now candidate }
         ensures { IsAttempt self.now own.now taken.now result.value }
     {
-        let pivotal = self.number(own, taken, self.place);
-        let mut divider = Divider::new(common_divisor(self.whole_den(), pivotal));
+        let mut divider = Divider::new(candidate);
         for place in witnesses.places {
             if divider.value == 1 {
                 return divider;
@@ -41,58 +78,31 @@ impl Combination {
         divider
     }
 
-    // Whether the denominator and what makes the number at the place of the pivot have 63 bits.
-    fn has_short_ends(&self) -> bool
-        requires multiplier { IsWithin (2 ^ 62) self.now.multiplier }
-        requires factor { IsWithin (2 ^ 62) self.now.factor }
-        requires den { IsWithin (2 ^ 62) self.now.den }
-        requires leaving { IsWithin (2 ^ 62) self.now.leaving }
-        requires pivot_den { IsWithin (2 ^ 62) self.now.pivot_den }
-        ensures { IsTrue result → HasShortEnds self.now }
-    {
-        let multiplier = u128::from(self.multiplier.unsigned_abs());
-        let factor = u128::from(self.factor.unsigned_abs());
-        let leaving = multiplier * u128::from(self.leaving.unsigned_abs());
-        let taken = factor * u128::from(self.pivot_den.unsigned_abs());
-        let den = multiplier * u128::from(self.den.unsigned_abs());
-        den < LEAST_LONG && leaving + taken < LEAST_LONG
-    }
-
-    // The size of the denominator, where it has 63 bits.
-    fn short_den(&self) -> u64
-        requires multiplier { IsWithin (2 ^ 62) self.now.multiplier }
-        requires den { IsWithin (2 ^ 62) self.now.den }
-        requires ends { HasShortEnds self.now }
-        ensures { result ≡ unsigned_abs (combined_den self.now) }
-    {
-        (self.multiplier * self.den).unsigned_abs()
-    }
-
-    // The size of the number at a place, where all has 63 bits.
+    // The size of what the numbers of the two rows at a place give, where all has 63 bits. At the place of the pivot that is 0, which every divisor divides.
     fn short_size(&self, own: &[i64], taken: &[i64], place: usize) -> u64
         requires combination { IsCombination self.now own.now taken.now }
         requires short { AreShort self.now own.now taken.now }
-        requires ends { HasShortEnds self.now }
         requires place { place < length own.now }
-        ensures { result ≡ unsigned_abs (combined self.now own.now taken.now place) }
+        ensures { result ≡ unsigned_abs (self.now.multiplier *ℤ number_at own.now place -ℤ self.now.factor *ℤ number_at taken.now place) }
     {
-        if place == self.place {
-            self.short_mixed(self.leaving, self.pivot_den)
-                .unsigned_abs()
-        } else {
-            self.short_mixed(own[place], taken[place]).unsigned_abs()
-        }
+        self.short_mixed(own[place], taken[place]).unsigned_abs()
     }
 
-    // The divisor that `long_divider` finds, where all has 63 bits.
-    fn short_divisor(&self, own: &[i64], taken: &[i64], witnesses: &Witnesses) -> Divider
+    // The divisor that `common_at_witnesses` finds, where all has 63 bits.
+    fn short_common_at_witnesses(
+        &self,
+        own: &[i64],
+        taken: &[i64],
+        candidate: u64,
+        witnesses: &Witnesses,
+    ) -> Divider
         requires combination { IsCombination self.now own.now taken.now }
+        requires rows { AreLeastRows self.now own.now taken.now }
         requires short { AreShort self.now own.now taken.now }
-        requires ends { HasShortEnds self.now }
+        requires attempt { IsAttempt self.now own.now taken.now (pos candidate) }
         ensures { IsAttempt self.now own.now taken.now result.value }
     {
-        let pivotal = self.short_size(own, taken, self.place);
-        let mut divider = Divider::short(binary_gcd(self.short_den(), pivotal));
+        let mut divider = Divider::short(candidate);
         for place in witnesses.places {
             if divider.low == 1 {
                 return divider;
@@ -104,7 +114,7 @@ impl Combination {
         divider
     }
 
-    // The greatest common divisor of the denominator and of a few numbers. Most often that is the divisor of all, so that few rows are written in vain. No number is above the bound.
+    // A number that every common divisor of the combination divides, found from its factors and from the numbers at a few places. Most often it divides all others too, so that few rows are written in vain. No number is above the bound.
     pub fn first_divider(
         &self,
         own: &[i64],
@@ -113,13 +123,24 @@ impl Combination {
         witnesses: &Witnesses,
     ) -> Divider
         requires combination { IsCombination self.now own.now taken.now }
+        requires rows { AreLeastRows self.now own.now taken.now }
         requires short { bound < 2 ^ 63 → AreShort self.now own.now taken.now }
         ensures { IsAttempt self.now own.now taken.now result.value }
     {
-        if bound < LEAST_LONG && self.has_short_ends() {
-            self.short_divisor(own, taken, witnesses)
+        let candidate = self.candidate();
+        if bound < LEAST_LONG && candidate < LEAST_LONG {
+            self.short_common_at_witnesses(own, taken, candidate as u64, witnesses)
         } else {
-            self.long_divider(own, taken, witnesses)
+            self.common_at_witnesses(own, taken, candidate as i128, witnesses)
         }
+    }
+
+    // The same for numbers of any size.
+    pub fn long_divider(&self, own: &[i64], taken: &[i64], witnesses: &Witnesses) -> Divider
+        requires combination { IsCombination self.now own.now taken.now }
+        requires rows { AreLeastRows self.now own.now taken.now }
+        ensures { IsAttempt self.now own.now taken.now result.value }
+    {
+        self.common_at_witnesses(own, taken, self.candidate() as i128, witnesses)
     }
 }

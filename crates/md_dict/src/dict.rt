@@ -1,4 +1,4 @@
-ghost use Rattle.std.specs.Prelude.{◌≡◌, ℕ, ◌+◌, ◌*◌, ◌^◌, ◌<◌, ◌≤◌, ℤ, pos, ◌<ℤ◌, ◌≤ℤ◌, ◌*ℤ◌, ◌⊎◌, length, replicate, ◌↔◌, int_div, IfErr, IfNone, IfOk, IfSome, IsTrue, OnOk, OnErr, slice_index, ◌==◌, if◌then◌else◌, unsigned_abs};
+ghost use Rattle.std.specs.Prelude.{◌≡◌, ℕ, ◌+◌, ◌*◌, ◌^◌, ◌<◌, ◌≤◌, ℤ, pos, ◌<ℤ◌, ◌≤ℤ◌, ◌*ℤ◌, ◌⊎◌, length, ◌↔◌, int_div, IfErr, IfNone, IfOk, IfSome, IsTrue, OnOk, OnErr, slice_index, ◌==◌, if◌then◌else◌, unsigned_abs};
 ghost use Rattle.md_num.specs.Limits.{limit_of};
 ghost use Rattle.md_math.specs.Lists.{number_at};
 ghost use Rattle.md_math.specs.Sizes.{AllWithin, IsWithin};
@@ -7,17 +7,17 @@ ghost use Rattle.md_dict.specs.Dictionary.{IsDictionary};
 ghost use Rattle.md_dict.specs.Pivot.{with_column};
 ghost use Rattle.md_dict.specs.Wide.{IsFirstWide, IsNarrow, IsWideBasis};
 ghost use Rattle.md_dict.specs.FirstTable.{first_entry};
-ghost use Rattle.md_dict.specs.RowStep.{IsRoom};
 
+use crate::draft::Draft;
 use crate::first::{first_columns, first_numbers, numbers_to, wide_first};
 use crate::refusals::{StartRefusal, TooWide};
-use crate::rows::{Rows, filled};
+use crate::rows::Rows;
 use crate::sizes::greatest_product;
 use crate::step::{Step, basic_number};
 use crate::wide::first_wide;
 use crate::witnesses::Witnesses;
 use md_lp::{Entry, Lp};
-use md_num::{NoMemory, Width};
+use md_num::Width;
 use std::alloc::Global;
 use std::marker::Model;
 
@@ -33,24 +33,23 @@ pub struct Dict {
     order: Vec<u32>,
     seat: Vec<u32>,
     table: Rows,
-    fresh: Rows,
-    zeros: Vec<i64>,
+    draft: Draft,
     witnesses: Witnesses,
 }
 
-// A dictionary is seen by its basis and the numbers that it keeps over its denominator, which is the least common multiple of its rows' denominators. In the second table, of the same length, the next pivot writes the rows that change, until it is known that none is too wide. The zeros are as many as a row has numbers. The witnesses are where the next pivot looks for divisors first.
+// A dictionary is seen by its basis and the numbers that it keeps over its denominator, which is the least common multiple of its rows' denominators. The draft is where a pivot notes what it needs of the rows as they were. The witnesses are where the next pivot looks for divisors first.
 impl Model for Dict {
-    ghost use Rattle.std.specs.Prelude.{◌≡◌, ◌+◌, pos, replicate};
+    ghost use Rattle.std.specs.Prelude.{◌≡◌, ◌+◌, pos};
     ghost use Rattle.md_num.specs.Limits.{limit_of};
     ghost use Rattle.md_dict.specs.Condensed.{Condensed, IsShapedDictionary};
     ghost use Rattle.md_dict.specs.Rows.{HasRows, kept_of};
-    ghost use Rattle.md_dict.specs.RowStep.{IsRoom};
+    ghost use Rattle.md_dict.specs.RowStep.{IsDraft};
 
     ghost Value = { Condensed };
 
     ghost view = { λ d. record { rows = d.rows; columns = d.columns; bits = d.width; den = d.den; order = d.order.items; seat = d.seat.items; kept = kept_of (d.rows + 2) d.table } };
 
-    ghost invariant = { λ d. IsShapedDictionary (record { rows = d.rows; columns = d.columns; bits = d.width; den = d.den; order = d.order.items; seat = d.seat.items; kept = kept_of (d.rows + 2) d.table }) × HasRows d.rows d.columns d.den d.table × IsRoom (d.rows + 2) (d.columns + 1) (limit_of d.width) d.fresh × d.zeros.items ≡ replicate (d.columns + 1) (pos 0) };
+    ghost invariant = { λ d. IsShapedDictionary (record { rows = d.rows; columns = d.columns; bits = d.width; den = d.den; order = d.order.items; seat = d.seat.items; kept = kept_of (d.rows + 2) d.table }) × HasRows d.rows d.columns d.den d.table × IsDraft (d.rows + 2) (d.columns + 1) d.draft };
 }
 
 impl Dict {
@@ -81,7 +80,7 @@ impl Dict {
             return Err(StartRefusal::Memory);
         };
         let stride = columns as usize + 1;
-        let Ok((fresh, zeros)) = empty_room(alloc, rows as usize + 2, stride) else {
+        let Ok(draft) = Draft::new(alloc, rows as usize + 2, stride) else {
             return Err(StartRefusal::Memory);
         };
         let Ok(table) = Rows::whole(alloc, rows as usize + 2, stride, numbers) else {
@@ -95,8 +94,7 @@ impl Dict {
             order,
             seat,
             table,
-            fresh,
-            zeros,
+            draft,
             witnesses: Witnesses::new(),
         })
     }
@@ -255,7 +253,7 @@ impl Dict {
         }
     }
 
-    // The first entry after a pivot that is above the limit, where there is one.
+    // The first entry after a pivot that is above the limit, where the new basis is wide.
     fn first_wide(&self, divided: &Step) -> Entry
         requires exchange { IsExchange self.now divided.now.row divided.now.entering }
         requires wide { IsWideStep self.now divided.now.row divided.now.entering divided.now }
@@ -273,20 +271,11 @@ impl Dict {
         ensures wide { IfErr result (λ divided. IsWideStep self.old step.now.row step.now.entering divided) }
         ensures stays { IfErr result (λ _. self.new ≡ self.old) }
     {
-        let filled = step.fill(
-            &self.table,
-            self.zeros.as_slice(),
-            &mut self.fresh,
-            &mut self.witnesses,
-        );
+        let filled = step.fill(&mut self.table, &mut self.draft, &mut self.witnesses);
         let divided = step.over(filled.den);
-        if !filled.is_narrow {
+        if !step.renew(&mut self.table, &mut self.draft, &filled) {
             return Err(divided);
         }
-        if !self.fresh.share_out(filled.den, step.limit) {
-            return Err(divided);
-        }
-        step.take_over(&mut self.table, &mut self.fresh);
         self.order[step.place] = step.leaving as u32;
         self.order[step.columns + step.row] = step.entering as u32;
         self.seat[step.entering] = (step.columns + step.row) as u32;
@@ -294,16 +283,6 @@ impl Dict {
         self.den = filled.den;
         Ok(divided.divisor)
     }
-}
-
-// Room for the rows after a pivot, and a row of zeros.
-fn empty_room(alloc: Global, count: usize, width: usize) -> Result<(Rows, Vec<i64>), NoMemory>
-    requires count { count ≤ 8194 }
-    requires width { width ≤ 73729 }
-    ensures room { IfOk result (λ made. (limit : ℕ) → IsRoom count width limit made.0) }
-    ensures zeros { IfOk result (λ made. made.1.items ≡ replicate width (pos 0)) }
-{
-    Ok((Rows::zero(alloc, count, width)?, filled(alloc, width, 0)?))
 }
 
 // The size that the basic columns have, if there are any.

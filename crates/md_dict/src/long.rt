@@ -1,54 +1,73 @@
-ghost use Rattle.std.specs.Prelude.{◌≡◌, ◌^◌, ◌<◌, pos, ◌<ℤ◌, ◌↔◌, IsTrue, unsigned_abs};
+ghost use Rattle.std.specs.Prelude.{◌≡◌, ℕ, ◌*◌, ◌^◌, ◌<◌, pos, ◌↔◌, bit_and, IsTrue, unsigned_abs};
 ghost use Rattle.md_math.specs.Divisors.{Divides};
+ghost use Rattle.md_dict.specs.Fill.{EndsInZeros};
+ghost use Rattle.md_dict.specs.Long.{FindsMultiples};
 
-use crate::division::{Divider, is_multiple, lowest_bits};
+use crate::division::{Divider, is_multiple};
 
-// A positive number, with what tells whether it divides numbers of 126 bits: how often 2 divides it, and what its odd part is multiplied by to give 1 in 128 bits. A quotient that is guessed counts only where it is right.
+// A positive number, with what finds its multiples by one multiplication: what its odd part is to be multiplied by to give 1 in 128 bits, and the bits that a product with that has none of where it is small enough and none of its bits is lost. A number that is not found so is divided.
 #[derive(Clone, Copy)]
 pub struct LongDivider {
     value: u128,
-    shift: u32,
     inverse: u128,
+    wrong: u128,
+    ghost finds: { FindsMultiples value inverse wrong },
+}
+
+// The bits of which a quotient by an odd number, times a power of 2, has none: the lowest ones, which are lost with that power, and the highest ones, without which its product with the odd number has 128 bits.
+fn wrong_bits(odd: u128, shift: u32) -> u128
+    requires odd { odd < 2 ^ 127 }
+    requires shift { shift < 64 }
+    ensures lost { (n : ℕ) → bit_and n result ≡ 0 → EndsInZeros shift n }
+    ensures large { (n : ℕ) → n < 2 ^ 128 → bit_and n result ≡ 0 → n * odd < 2 ^ 128 }
+{
+    let lost = (1u128 << shift) - 1;
+    let small = u128::MAX >> (128 - odd.leading_zeros());
+    lost | !small
+}
+
+// What an odd number is multiplied by to give 1 in 128 bits, where the same in 64 bits is known: one more step makes twice as many bits right.
+fn long_inverse(odd: u128, inverse: u64) -> u128 {
+    let half = u128::from(inverse);
+    half.wrapping_mul(2u128.wrapping_sub(odd.wrapping_mul(half)))
 }
 
 impl LongDivider {
-    // The divider by a number: one more step makes twice as many bits of what its odd part is multiplied by right.
+    // The divider by a number, where its inverse is right, and else one that finds no multiple but 0.
     pub fn new(divider: &Divider) -> LongDivider
         requires { unsigned_abs divider.now.value < 2 ^ 126 }
         ensures { result.value ≡ unsigned_abs divider.now.value }
     {
         let value = divider.value.unsigned_abs();
-        let odd = value >> (divider.shift % 128);
-        let inverse = u128::from(divider.inverse);
+        let shift = divider.shift % 64;
+        let odd = value >> shift;
+        let inverse = long_inverse(odd, divider.inverse);
+        if odd << shift != value || odd.wrapping_mul(inverse) != 1 {
+            return LongDivider::by_division(value);
+        }
         LongDivider {
             value,
-            shift: divider.shift,
-            inverse: inverse.wrapping_mul(2u128.wrapping_sub(odd.wrapping_mul(inverse))),
+            inverse,
+            wrong: wrong_bits(odd, shift),
         }
     }
 
-    // Whether a size is its product with a quotient that is guessed, where both have 64 bits.
-    fn has_short_quotient(&self, size: u128) -> bool
+    // The divider by a number that finds no multiple but 0.
+    fn by_division(value: u128) -> LongDivider
+        ensures { result.value ≡ value }
+    {
+        LongDivider {
+            value,
+            inverse: 1,
+            wrong: u128::MAX,
+        }
+    }
+
+    // Whether a size is found to be a multiple of it.
+    fn finds(&self, size: u128) -> bool
         ensures { IsTrue result → Divides (pos self.now.value) (pos size) }
     {
-        let low = lowest_bits(self.value);
-        let quotient = lowest_bits(size >> (self.shift % 128)).wrapping_mul(lowest_bits(
-            self.inverse,
-        ));
-        self.value == u128::from(low) && u128::from(low) * u128::from(quotient) == size
-    }
-
-    // Whether a size is a multiple of it, by a quotient of 128 bits that is guessed, or else by division.
-    #[inline(never)]
-    fn has_long_quotient(&self, size: u128) -> bool
-        requires { 0 < self.now.value }
-        ensures { IsTrue result ↔ Divides (pos self.now.value) (pos size) }
-    {
-        let quotient = (size >> (self.shift % 128)).wrapping_mul(self.inverse);
-        if quotient.checked_mul(self.value) == Some(size) {
-            return true;
-        }
-        is_multiple(size, self.value)
+        size.wrapping_mul(self.inverse) & self.wrong == 0
     }
 
     // Whether a size is a multiple of it.
@@ -56,7 +75,7 @@ impl LongDivider {
         requires { 0 < self.now.value }
         ensures { IsTrue result ↔ Divides (pos self.now.value) (pos size) }
     {
-        self.has_short_quotient(size) || self.has_long_quotient(size)
+        self.finds(size) || is_multiple(size, self.value)
     }
 
     // Whether it divides a number.

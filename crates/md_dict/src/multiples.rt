@@ -47,7 +47,7 @@ pub fn with_multiple(multiple: i128, den: i128) -> i128
     product(multiple, missing_factor(multiple, den))
 }
 
-// Writes what each number is multiplied by to give a multiple of all.
+// Writes what each number is multiplied by to give a multiple of all. A number that is the one before again has its share again, without a division.
 pub fn share_out(multiple: i64, dens: &[i64], shares: &mut [i64])
     requires length { length shares.old ≡ length dens.now }
     requires positive { (k : ℕ) → k < length dens.now → pos 0 <ℤ number_at dens.now k }
@@ -58,8 +58,14 @@ pub fn share_out(multiple: i64, dens: &[i64], shares: &mut [i64])
     ensures shared { (k : ℕ) → k < length dens.now → number_at shares.new k *ℤ number_at dens.now k ≡ multiple }
     ensures size { AllWithin (2 ^ 62) shares.new }
 {
+    let mut den = 1;
+    let mut share = multiple;
     for k in 0..dens.len() {
-        shares[k] = multiple / dens[k];
+        if dens[k] != den {
+            den = dens[k];
+            share = multiple / den;
+        }
+        shares[k] = share;
     }
 }
 

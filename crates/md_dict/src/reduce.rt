@@ -62,7 +62,7 @@ impl<'a> Attempt<'a> {
 }
 
 impl Combination {
-    ghost use Rattle.md_dict.specs.Combination.{DividesCombination, IsCombination, IsLeastDen, IsReducedTo, IsTooWideRow, combined};
+    ghost use Rattle.md_dict.specs.Combination.{AreLeastRows, DividesCombination, IsCombination, IsLeastDen, IsReducedTo, IsTooWideRow, combined};
     ghost use Rattle.md_dict.specs.Reduce.{AreDivided, IsAttempt, IsDivided, IsGreatestSize, IsObstacle, IsPrepared, IsReach, KeepsSizes};
 
     // The quotient of the number at a place.
@@ -275,6 +275,7 @@ impl Combination {
     // The greatest common divisor of the denominator and of all numbers. Most often the divider of a few numbers is the one of all.
     fn whole_divider(&self, own: &[i64], taken: &[i64], witnesses: &Witnesses) -> Divider
         requires combination { IsCombination self.now own.now taken.now }
+        requires rows { AreLeastRows self.now own.now taken.now }
         ensures attempt { IsAttempt self.now own.now taken.now result.value }
         ensures divides { DividesCombination self.now own.now taken.now result.value }
     {
@@ -296,6 +297,7 @@ impl Combination {
     // The denominator of the row in least terms, however wide the row is.
     pub fn exact_den(&self, own: &[i64], taken: &[i64], witnesses: &Witnesses) -> i128
         requires combination { IsCombination self.now own.now taken.now }
+        requires rows { AreLeastRows self.now own.now taken.now }
         ensures { IsLeastDen self.now own.now taken.now result }
     {
         self.whole_divider(own, taken, witnesses)
@@ -347,6 +349,7 @@ impl Combination {
         witnesses: &mut Witnesses,
     ) -> Option<LeastRow>
         requires combination { IsCombination self.now own.now taken.now }
+        requires rows { AreLeastRows self.now own.now taken.now }
         requires own_size { AllWithin own_size own.now }
         requires taken_size { AllWithin taken_size taken.now }
         requires zeros { zeros.now ≡ replicate (length own.now) (pos 0) }

@@ -4,9 +4,7 @@ ghost use Rattle.md_math.specs.Lists.{number_at};
 ghost use Rattle.md_math.specs.Divisors.{Divides};
 ghost use Rattle.md_dict.specs.Rows.{IsRowSize};
 
-use crate::multiples::{are_sizes_within, share_out};
 use crate::sizes::row_size;
-use crate::wide::is_within;
 use md_num::NoMemory;
 use std::alloc::Global;
 
@@ -21,8 +19,7 @@ pub struct Rows {
 }
 
 impl Rows {
-    ghost use Rattle.md_dict.specs.Rows.{AreRows, kept_of, own_den, own_number, share_of, size_of};
-    ghost use Rattle.md_dict.specs.RowStep.{IsRoom};
+    ghost use Rattle.md_dict.specs.Rows.{AreRows, kept_of, own_number, share_of, size_of};
 
     // The number of a row at a place, over the row's denominator.
     pub fn own(&self, row: usize, place: usize) -> i64
@@ -86,43 +83,6 @@ impl Rows {
             shares,
             sizes,
         })
-    }
-
-    // Rows of zeros, which have no denominators yet.
-    pub fn zero(alloc: Global, count: usize, width: usize) -> Result<Rows, NoMemory>
-        requires count { count ≤ 8194 }
-        requires width { width ≤ 73729 }
-        ensures { IfOk result (λ rows. (limit : ℕ) → IsRoom count width limit rows) }
-    {
-        Ok(Rows {
-            width,
-            numbers: filled(alloc, count * width, 0)?,
-            dens: filled(alloc, count, 0)?,
-            shares: filled(alloc, count, 0)?,
-            sizes: filled(alloc, count, 0)?,
-        })
-    }
-
-    // Writes the shares of the rows in a denominator, and answers whether it and all numbers over it are within a limit.
-    pub fn share_out(&mut self, den: i128, limit: u128) -> bool
-        requires limit { limit ≤ 2 ^ 62 }
-        requires positive { pos 0 <ℤ den }
-        requires dens { (k : ℕ) → k < length self.old.dens.items → (pos 0 <ℤ own_den self.old k) × Divides (own_den self.old k) den }
-        requires shares_length { length self.old.shares.items ≡ length self.old.dens.items }
-        requires sizes_length { length self.old.sizes.items ≡ length self.old.dens.items }
-        requires sizes { AllWithin (2 ^ 62) self.old.sizes.items }
-        requires shares { AllWithin (2 ^ 62) self.old.shares.items }
-        ensures rest { self.new ≡ record self.old { shares = self.new.shares } }
-        ensures length { length self.new.shares.items ≡ length self.old.shares.items }
-        ensures size { AllWithin (2 ^ 62) self.new.shares.items }
-        ensures narrow { IsTrue result → IsWithin limit den × ((k : ℕ) → k < length self.old.dens.items → (share_of self.new k *ℤ own_den self.old k ≡ den) × IsWithin limit (share_of self.new k *ℤ size_of self.old k)) }
-        ensures wide { IsFalse result → ¬ (IsWithin limit den × ((k : ℕ) → (share : ℤ) → k < length self.old.dens.items → share *ℤ own_den self.old k ≡ den → IsWithin limit (share *ℤ size_of self.old k))) }
-    {
-        if !is_within(den, limit) {
-            return false;
-        }
-        share_out(den as i64, self.dens.as_slice(), self.shares.as_mut_slice());
-        are_sizes_within(self.sizes.as_slice(), self.shares.as_slice(), limit)
     }
 }
 

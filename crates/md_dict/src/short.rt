@@ -1,4 +1,5 @@
 ghost use Rattle.std.specs.Prelude.{◌≡◌, ◌+◌, ◌-◌, ◌*◌, ◌^◌, ◌<◌, ◌≤◌, pos, ◌-ℤ◌, ◌*ℤ◌, ◌<ℤ◌, length, IfSome, unsigned_abs};
+ghost use Rattle.std.specs.Int.{cast_signed, int_wrap, w64};
 ghost use Rattle.md_math.specs.Sizes.{AllWithin, IsWithin};
 
 use crate::combination::Combination;
@@ -15,6 +16,15 @@ pub fn clear(numbers: &mut [i64])
     for place in 0..numbers.len() {
         numbers[place] = 0;
     }
+}
+
+// The difference of two products, `multiplier * own - factor * taken`, in 64 bits.
+fn mixed_bits(multiplier: u64, own: i64, factor: u64, taken: i64) -> u64
+    ensures { cast_signed w64 result ≡ int_wrap w64 (cast_signed w64 multiplier *ℤ own -ℤ cast_signed w64 factor *ℤ taken) }
+{
+    let first = multiplier.wrapping_mul(own.cast_unsigned());
+    let second = factor.wrapping_mul(taken.cast_unsigned());
+    first.wrapping_sub(second)
 }
 
 impl Combination {
@@ -34,6 +44,7 @@ impl Combination {
 
     // Writes quotients at all places alike, and answers their greatest size where they are right, but that at the place of the pivot. It never ends early, so that several places can be taken at a time.
     // A quotient is right where it is small enough and no bit of it is lost.
+    // In 64 bits, the difference of two products is multiplied by the inverse where their first factors are, which stay the same at all places.
     #[inline(never)]
     pub fn write_shortly(
         &self,
@@ -54,10 +65,12 @@ impl Combination {
         ensures length { length fresh.new ≡ length fresh.old }
     {
         let guess = quick.guess;
+        let multiplier = guess.bits(self.multiplier);
+        let factor = guess.bits(self.factor);
         let mut lost = 0;
         let mut greatest = 0u64;
         for place in 0..fresh.len() {
-            let bits = guess.bits(self.short_mixed(own[place], taken[place]));
+            let bits = mixed_bits(multiplier, own[place], factor, taken[place]);
             let quotient = guess.of_bits(bits);
             lost |= bits;
             greatest = greatest.max(quotient.unsigned_abs());

@@ -128,7 +128,7 @@ fn wide_in_row(
     None
 }
 
-// The first entry after the pivot that is above the limit, by row, then by column, where there is one.
+// The first entry after the pivot that is above the limit, by row, then by column. There is one.
 pub fn first_wide(step: &Step, rows: &Rows, seat: &[u32]) -> Entry
     requires step { IsRowStep step.now rows.now }
     requires seated { IsSeated step.now seat.now }

@@ -1,8 +1,10 @@
 use Rattle.std.proofs.Common.{◌≡◌, ◌<◌, ◌≤◌, ◌+◌, length, slice_index, ◌∙◌, sym, ap, subst, arith}
 use Rattle.std.proofs.lemmas.List.{get_or_read}
-use Rattle.md_dict.specs.Condensed.{kept_number}
+use Rattle.md_dict.specs.contracts.dict.Dict.{the_view}
+use Rattle.md_dict.specs.Condensed.{entry_at, kept_number}
 use Rattle.md_dict.proofs.Reading.{read_result}
-use Rattle.md_dict.proofs.Exchange.{entry-right, entry-kept}
+use Rattle.md_dict.proofs.Exchange.{entry-basic, entry-kept, entry-right}
+use Rattle.md_dict.proofs.Values.{read_den}
 use Rattle.md_dict.proofs.Readers.{only_entry}
 use Rattle.md_dict.proofs.dict.Dict.entry.Goals as goal
 
@@ -32,3 +34,13 @@ returns-then-place-self-clause-only c = λ p den e h q. only_entry p c.args.self
 
 pub returns-clause-only : goal.returns-clause-only
 returns-clause-only c = λ p den e h q. only_entry p c.args.self.now h den e q c.args.row c.args.column c.requires.row_in c.requires.column_in
+
+pub returns-clause-value : goal.returns-clause-value
+returns-clause-value c =
+    let seats : length c.self.inside.seat.items ≡ c.self.inside.columns + c.self.inside.rows = c.self.invariant.0.places.seat_length in
+    let read : c.index-place.result.now ≡ slice_index c.self.inside.seat.items c.args.column = get_or_read c.self.inside.seat.items c.args.column c.index-place.result.now (omega arith) c.index-place.ensures 0 in
+    let basic : c.self.inside.columns ≤ slice_index c.self.inside.seat.items c.args.column = subst (λ s. c.self.inside.columns ≤ s) read c.if-place-self.false in
+    rw (read_result c.basic_number.result c.basic_number.type_inv)
+    ((rw (read_den (the_view c.self.inside) c.self.invariant.0, read) at c.basic_number.ensures.value)
+    ∙ sym (entry-basic (the_view c.self.inside) c.args.row c.args.column c.if-column-self.false basic)
+    ∙ ap (λ d. entry_at d c.args.row c.args.column) c.self.view_is)

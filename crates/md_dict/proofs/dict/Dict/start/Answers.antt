@@ -43,8 +43,7 @@ invariant_of-result c =
           (sym (first_value_by c.args.lp.now c.args.width c.rows-rows.result c.first_columns-columns.result c.in-Ok-numbers_to.order.items c.in-Ok-numbers_to-2.seat.items (kept_of (c.rows-rows.result + 2) c.in-Ok-whole.table) c.in-Ok.numbers.items c.in-Ok-whole.ensures.kept c.rows-rows.ensures.value c.first_columns-columns.ensures.value c.in-Ok-numbers_to.ensures c.in-Ok-numbers_to-2.ensures))
           (IsShaped-first_value c.args.lp.now c.args.width c.in-Ok.numbers.items c.rows-rows.ensures.shaped.count columns c.limit.ensures.range.0 c.limit.ensures.range.1 whole narrow),
       record { width = c.in-Ok-whole.ensures.width; table = c.in-Ok-whole.ensures.rows },
-      c.in-Ok-empty_room.ensures.room (limit_of c.args.width),
-      c.in-Ok-empty_room.ensures.zeros,
+      c.in-Ok-new.ensures,
     )
 
 pub returns-clause-ok : goal.returns-clause-ok

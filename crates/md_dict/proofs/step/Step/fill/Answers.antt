@@ -1,47 +1,125 @@
-use Rattle.std.proofs.Common.{◌≡◌, ℕ, ◌^◌, ◌++◌, List, length, take, drop, ℤ, sym, ap, ◌∙◌, subst, arith}
-use Rattle.std.proofs.Math.Seq.{take-append_seam}
+use Rattle.std.proofs.Common.{◌≡◌, ◌^◌, length, drop, refl, sym, ap, ◌∙◌, subst, arith}
+use Rattle.std.proofs.lemmas.List.{with_items_is}
+use Rattle.md_math.specs.Lists.{number_at}
 use Rattle.md_math.specs.Sizes.{AllWithin}
-use Rattle.md_dict.proofs.Filling.{IsTable-room}
+use Rattle.md_dict.specs.Multiples.{IsLeastMultiple}
+use Rattle.md_dict.specs.RowStep.{AreOldFrom, CanBeRestored}
+use Rattle.md_dict.specs.Step.{number_in}
+use Rattle.md_dict.proofs.Reading.{read_wide}
+use Rattle.md_dict.proofs.Filling.{IsRowsMultiple-filled, IsTable-own}
+use Rattle.md_dict.proofs.OldRows.{first_part, old_rows_of, AreOldFrom-all}
 use Rattle.md_dict.proofs.step.Step.fill.Goals as goal
 
--- the first part of two, by its length
-taken : (xs ys : List ℤ) (n : ℕ) → n ≡ length xs → take n (xs ++ ys) ≡ xs
-taken xs ys n e = rw e (take-append_seam xs ys)
+pub write_rows-filled-requires-clause-old : goal.write_rows-filled-requires-clause-old
+write_rows-filled-requires-clause-old c =
+    let old = old_rows_of c.args.self.now c.args.rows.now c.args.rows.now c.note.new.draft _ c.requires.step c.note.ensures.noted c.note.ensures.draft refl c.as_slice.ensures.value c.as_slice-2.ensures.value c.as_slice-3.ensures.value c.as_slice-4.ensures.value c.as_slice-5.ensures.value in
+    let all : AreOldFrom c.args.self.now c.args.rows.now c.as_mut_slice-2.result.now 0 = rw c.as_mut_slice-2.ensures.value (AreOldFrom-all c.args.self.now c.args.rows.now c.requires.step) in
+    (c.args.rows.now, old, all)
 
-pub fill_rows-requires-clause-room : goal.fill_rows-requires-clause-room
-fill_rows-requires-clause-room c =
-    rw (c.as_mut_slice.ensures.value, c.as_mut_slice-2.ensures.value, c.as_mut_slice-3.ensures.value) (record {
-      table = IsTable-room c.args.self.now c.args.rows.now c.args.fresh.now c.requires.step c.requires.room;
-      dens_length = c.requires.room.dens_length;
-      sizes_length = c.requires.room.sizes_length;
-      dens_size = c.requires.room.dens_size;
-      sizes_size = c.requires.room.sizes_size;
+pub write_rows-filled-requires-clause-room : goal.write_rows-filled-requires-clause-room
+write_rows-filled-requires-clause-room c =
+    rw (c.as_mut_slice-2.ensures.value, c.as_mut_slice-3.ensures.value, c.as_mut_slice-4.ensures.value) (record {
+      table = IsTable-own c.args.self.now c.args.rows.now c.requires.step;
+      dens_length = c.note.ensures.draft.dens_length;
+      sizes_length = c.note.ensures.draft.sizes_length;
+      dens_size = c.note.ensures.draft.dens_size;
+      sizes_size = c.note.ensures.draft.sizes_size;
     })
 
-pub returns-clause-filled : goal.returns-clause-filled
-returns-clause-filled c =
-    let numbers : c.args.fresh.now.numbers.len ≡ length c.fill_rows.new.numbers = omega (arith, c.fill_rows.auto.numbers, c.as_mut_slice.ensures.len, c.args.fresh.now.numbers.ok) in
-    let dens : c.args.fresh.now.dens.len ≡ length c.fill_rows.new.dens = omega (arith, c.fill_rows.auto.dens, c.as_mut_slice-2.ensures.len, c.args.fresh.now.dens.ok) in
-    let sizes : c.args.fresh.now.sizes.len ≡ length c.fill_rows.new.sizes = omega (arith, c.fill_rows.auto.sizes, c.as_mut_slice-3.ensures.len, c.args.fresh.now.sizes.ok) in
-    rw (taken c.fill_rows.new.numbers _ c.args.fresh.now.numbers.len numbers, taken c.fill_rows.new.dens _ c.args.fresh.now.dens.len dens, taken c.fill_rows.new.sizes _ c.args.fresh.now.sizes.len sizes) c.fill_rows.ensures.filled
+pub whole_den-requires-clause-old : goal.whole_den-requires-clause-old
+whole_den-requires-clause-old c =
+    let numbers_long : c.args.rows.now.numbers.len ≡ length c.write_rows-filled.new.numbers = omega (arith, c.write_rows-filled.auto.numbers, c.as_mut_slice-2.ensures.len, c.args.rows.now.numbers.ok) in
+    let numbers = first_part c.write_rows-filled.new.numbers (drop (length c.write_rows-filled.new.numbers) c.args.rows.now.numbers.items) c.args.rows.now.numbers.len numbers_long in
+    let old = old_rows_of c.args.self.now c.args.rows.now c.args.rows.now c.note.new.draft _ c.requires.step c.note.ensures.noted c.note.ensures.draft refl c.as_slice.ensures.value c.as_slice-2.ensures.value c.as_slice-3.ensures.value c.as_slice-4.ensures.value c.as_slice-5.ensures.value in
+    let all : AreOldFrom c.args.self.now c.args.rows.now c.as_mut_slice-2.result.now 0 = rw c.as_mut_slice-2.ensures.value (AreOldFrom-all c.args.self.now c.args.rows.now c.requires.step) in
+    let filled = c.write_rows-filled.ensures.filled c.args.rows.now old all in
+    let rest = c.write_rows-filled.ensures.rest c.args.rows.now old all in
+    let some = IsRowsMultiple-filled c.args.self.now c.args.rows.now _ _ _ _ c.write_rows-filled.result.written c.write_rows-filled.result.den filled c.write_rows-filled.ensures.size in
+    (c.args.rows.now, old, rw (c.as_slice-6.ensures.value, numbers) rest, some)
 
-pub returns-clause-room : goal.returns-clause-room
-returns-clause-room c =
-    let numbers : c.args.fresh.now.numbers.len ≡ length c.fill_rows.new.numbers = omega (arith, c.fill_rows.auto.numbers, c.as_mut_slice.ensures.len, c.args.fresh.now.numbers.ok) in
-    let dens : c.args.fresh.now.dens.len ≡ length c.fill_rows.new.dens = omega (arith, c.fill_rows.auto.dens, c.as_mut_slice-2.ensures.len, c.args.fresh.now.dens.ok) in
-    let sizes : c.args.fresh.now.sizes.len ≡ length c.fill_rows.new.sizes = omega (arith, c.fill_rows.auto.sizes, c.as_mut_slice-3.ensures.len, c.args.fresh.now.sizes.ok) in
-    let room = c.fill_rows.ensures.room in
-    let numbers_are = taken c.fill_rows.new.numbers (drop (length c.fill_rows.new.numbers) c.args.fresh.now.numbers.items) c.args.fresh.now.numbers.len numbers in
-    let dens_are = taken c.fill_rows.new.dens (drop (length c.fill_rows.new.dens) c.args.fresh.now.dens.items) c.args.fresh.now.dens.len dens in
-    let sizes_are = taken c.fill_rows.new.sizes (drop (length c.fill_rows.new.sizes) c.args.fresh.now.sizes.items) c.args.fresh.now.sizes.len sizes in
+pub returns-clause-den : goal.returns-clause-den
+returns-clause-den c =
+    let numbers_long : c.args.rows.now.numbers.len ≡ length c.write_rows-filled.new.numbers = omega (arith, c.write_rows-filled.auto.numbers, c.as_mut_slice-2.ensures.len, c.args.rows.now.numbers.ok) in
+    let numbers = first_part c.write_rows-filled.new.numbers (drop (length c.write_rows-filled.new.numbers) c.args.rows.now.numbers.items) c.args.rows.now.numbers.len numbers_long in
+    let old = old_rows_of c.args.self.now c.args.rows.now c.args.rows.now c.note.new.draft _ c.requires.step c.note.ensures.noted c.note.ensures.draft refl c.as_slice.ensures.value c.as_slice-2.ensures.value c.as_slice-3.ensures.value c.as_slice-4.ensures.value c.as_slice-5.ensures.value in
+    let all : AreOldFrom c.args.self.now c.args.rows.now c.as_mut_slice-2.result.now 0 = rw c.as_mut_slice-2.ensures.value (AreOldFrom-all c.args.self.now c.args.rows.now c.requires.step) in
+    let filled = c.write_rows-filled.ensures.filled c.args.rows.now old all in
+    let rest = c.write_rows-filled.ensures.rest c.args.rows.now old all in
+    let some = IsRowsMultiple-filled c.args.self.now c.args.rows.now _ _ _ _ c.write_rows-filled.result.written c.write_rows-filled.result.den filled c.write_rows-filled.ensures.size in
+    let rest_there : AreOldFrom c.args.self.now c.args.rows.now c.as_slice-6.result.now c.write_rows-filled.result.written = rw (c.as_slice-6.ensures.value, numbers) rest in
+    let multiple = c.whole_den.ensures.multiple c.args.rows.now old rest_there some in
+    rw (read_wide c.whole_den.result multiple.size) multiple
+
+pub returns-clause-filled : goal.returns-clause-filled
+returns-clause-filled c = λ e.
+    let numbers_long : c.args.rows.now.numbers.len ≡ length c.write_rows-filled.new.numbers = omega (arith, c.write_rows-filled.auto.numbers, c.as_mut_slice-2.ensures.len, c.args.rows.now.numbers.ok) in
+    let numbers = first_part c.write_rows-filled.new.numbers (drop (length c.write_rows-filled.new.numbers) c.args.rows.now.numbers.items) c.args.rows.now.numbers.len numbers_long in
+    let own_long : c.note.new.draft.own.len ≡ length c.write_rows-filled.new.own = omega (arith, c.write_rows-filled.auto.own, c.as_mut_slice.ensures.len, c.note.new.draft.own.ok) in
+    let dens_long : c.note.new.draft.dens.len ≡ length c.write_rows-filled.new.dens = omega (arith, c.write_rows-filled.auto.dens, c.as_mut_slice-3.ensures.len, c.note.new.draft.dens.ok) in
+    let sizes_long : c.note.new.draft.sizes.len ≡ length c.write_rows-filled.new.sizes = omega (arith, c.write_rows-filled.auto.sizes, c.as_mut_slice-4.ensures.len, c.note.new.draft.sizes.ok) in
+    let dens = first_part c.write_rows-filled.new.dens (drop (length c.write_rows-filled.new.dens) c.note.new.draft.dens.items) c.note.new.draft.dens.len dens_long in
+    let sizes = first_part c.write_rows-filled.new.sizes (drop (length c.write_rows-filled.new.sizes) c.note.new.draft.sizes.items) c.note.new.draft.sizes.len sizes_long in
+    let old = old_rows_of c.args.self.now c.args.rows.now c.args.rows.now c.note.new.draft _ c.requires.step c.note.ensures.noted c.note.ensures.draft refl c.as_slice.ensures.value c.as_slice-2.ensures.value c.as_slice-3.ensures.value c.as_slice-4.ensures.value c.as_slice-5.ensures.value in
+    let all : AreOldFrom c.args.self.now c.args.rows.now c.as_mut_slice-2.result.now 0 = rw c.as_mut_slice-2.ensures.value (AreOldFrom-all c.args.self.now c.args.rows.now c.requires.step) in
+    let filled = c.write_rows-filled.ensures.filled c.args.rows.now old all in
+    let rest = c.write_rows-filled.ensures.rest c.args.rows.now old all in
+    let some = IsRowsMultiple-filled c.args.self.now c.args.rows.now _ _ _ _ c.write_rows-filled.result.written c.write_rows-filled.result.den filled c.write_rows-filled.ensures.size in
+    let rest_there : AreOldFrom c.args.self.now c.args.rows.now c.as_slice-6.result.now c.write_rows-filled.result.written = rw (c.as_slice-6.ensures.value, numbers) rest in
+    let multiple = c.whole_den.ensures.multiple c.args.rows.now old rest_there some in
+    rw (numbers, dens, sizes, read_wide c.whole_den.result multiple.size, c.whole_den.ensures.same e) (record {
+      made = λ i b. (filled.done.at i (omega (arith, b, e))).made;
+      multiple = subst (λ n. IsLeastMultiple n (number_at c.write_rows-filled.new.dens) c.write_rows-filled.result.den) e filled.multiple;
+    })
+
+pub returns-clause-wide : goal.returns-clause-wide
+returns-clause-wide c = λ l.
+    let old = old_rows_of c.args.self.now c.args.rows.now c.args.rows.now c.note.new.draft _ c.requires.step c.note.ensures.noted c.note.ensures.draft refl c.as_slice.ensures.value c.as_slice-2.ensures.value c.as_slice-3.ensures.value c.as_slice-4.ensures.value c.as_slice-5.ensures.value in
+    let all : AreOldFrom c.args.self.now c.args.rows.now c.as_mut_slice-2.result.now 0 = rw c.as_mut_slice-2.ensures.value (AreOldFrom-all c.args.self.now c.args.rows.now c.requires.step) in
+    c.write_rows-filled.ensures.wide c.args.rows.now old all l
+
+pub returns-clause-restorable : goal.returns-clause-restorable
+returns-clause-restorable c =
+    let numbers_long : c.args.rows.now.numbers.len ≡ length c.write_rows-filled.new.numbers = omega (arith, c.write_rows-filled.auto.numbers, c.as_mut_slice-2.ensures.len, c.args.rows.now.numbers.ok) in
+    let numbers = first_part c.write_rows-filled.new.numbers (drop (length c.write_rows-filled.new.numbers) c.args.rows.now.numbers.items) c.args.rows.now.numbers.len numbers_long in
+    let own_long : c.note.new.draft.own.len ≡ length c.write_rows-filled.new.own = omega (arith, c.write_rows-filled.auto.own, c.as_mut_slice.ensures.len, c.note.new.draft.own.ok) in
+    let dens_long : c.note.new.draft.dens.len ≡ length c.write_rows-filled.new.dens = omega (arith, c.write_rows-filled.auto.dens, c.as_mut_slice-3.ensures.len, c.note.new.draft.dens.ok) in
+    let sizes_long : c.note.new.draft.sizes.len ≡ length c.write_rows-filled.new.sizes = omega (arith, c.write_rows-filled.auto.sizes, c.as_mut_slice-4.ensures.len, c.note.new.draft.sizes.ok) in
+    let dens = first_part c.write_rows-filled.new.dens (drop (length c.write_rows-filled.new.dens) c.note.new.draft.dens.items) c.note.new.draft.dens.len dens_long in
+    let sizes = first_part c.write_rows-filled.new.sizes (drop (length c.write_rows-filled.new.sizes) c.note.new.draft.sizes.items) c.note.new.draft.sizes.len sizes_long in
+    let old = old_rows_of c.args.self.now c.args.rows.now c.args.rows.now c.note.new.draft _ c.requires.step c.note.ensures.noted c.note.ensures.draft refl c.as_slice.ensures.value c.as_slice-2.ensures.value c.as_slice-3.ensures.value c.as_slice-4.ensures.value c.as_slice-5.ensures.value in
+    let all : AreOldFrom c.args.self.now c.args.rows.now c.as_mut_slice-2.result.now 0 = rw c.as_mut_slice-2.ensures.value (AreOldFrom-all c.args.self.now c.args.rows.now c.requires.step) in
+    let filled = c.write_rows-filled.ensures.filled c.args.rows.now old all in
+    let rest = c.write_rows-filled.ensures.rest c.args.rows.now old all in
+    let some = IsRowsMultiple-filled c.args.self.now c.args.rows.now _ _ _ _ c.write_rows-filled.result.written c.write_rows-filled.result.den filled c.write_rows-filled.ensures.size in
+    rw (numbers, dens) (record {
+      written = λ i b. subst (λ xs. CanBeRestored c.args.self.now c.args.rows.now xs i (number_at c.write_rows-filled.new.dens i) (number_in c.args.self.now c.write_rows-filled.new.numbers i)) c.as_slice-4.ensures.value (filled.done.at i b).restorable;
+      rest = rest;
+    })
+
+pub returns-clause-noted : goal.returns-clause-noted
+returns-clause-noted c = record { pivot_row = c.note.ensures.noted.pivot_row; factors = c.note.ensures.noted.factors }
+
+pub returns-clause-draft : goal.returns-clause-draft
+returns-clause-draft c =
+    let own_long : c.note.new.draft.own.len ≡ length c.write_rows-filled.new.own = omega (arith, c.write_rows-filled.auto.own, c.as_mut_slice.ensures.len, c.note.new.draft.own.ok) in
+    let dens_long : c.note.new.draft.dens.len ≡ length c.write_rows-filled.new.dens = omega (arith, c.write_rows-filled.auto.dens, c.as_mut_slice-3.ensures.len, c.note.new.draft.dens.ok) in
+    let sizes_long : c.note.new.draft.sizes.len ≡ length c.write_rows-filled.new.sizes = omega (arith, c.write_rows-filled.auto.sizes, c.as_mut_slice-4.ensures.len, c.note.new.draft.sizes.ok) in
+    let dens = first_part c.write_rows-filled.new.dens (drop (length c.write_rows-filled.new.dens) c.note.new.draft.dens.items) c.note.new.draft.dens.len dens_long in
+    let sizes = first_part c.write_rows-filled.new.sizes (drop (length c.write_rows-filled.new.sizes) c.note.new.draft.sizes.items) c.note.new.draft.sizes.len sizes_long in
+    let own_items = with_items_is c.note.new.draft.own c.write_rows-filled.new.own (sym own_long) in
+    let dens_items = with_items_is c.note.new.draft.dens c.write_rows-filled.new.dens (sym dens_long) in
+    let sizes_items = with_items_is c.note.new.draft.sizes c.write_rows-filled.new.sizes (sym sizes_long) in
+    let room = c.write_rows-filled.ensures.room in
+    let draft = c.note.ensures.draft in
     record {
-      width_is = c.requires.room.width_is;
-      numbers_length = ap length numbers_are ∙ room.table.kept_length;
-      dens_length = ap length dens_are ∙ room.dens_length;
-      shares_length = c.requires.room.shares_length;
-      sizes_length = ap length sizes_are ∙ room.sizes_length;
-      numbers_size = subst (AllWithin c.args.self.now.limit) (sym numbers_are) room.table.kept_limit;
-      dens_size = subst (AllWithin (2 ^ 62)) (sym dens_are) room.dens_size;
-      shares_size = c.requires.room.shares_size;
-      sizes_size = subst (AllWithin (2 ^ 62)) (sym sizes_are) room.sizes_size;
+      own_length = ap length own_items ∙ c.write_rows-filled.ensures.length;
+      pivot_row_length = draft.pivot_row_length;
+      zeros = draft.zeros;
+      factors_length = draft.factors_length;
+      dens_length = ap length dens_items ∙ room.dens_length;
+      shares_length = draft.shares_length;
+      sizes_length = ap length sizes_items ∙ room.sizes_length;
+      dens_size = subst (AllWithin (2 ^ 62)) (sym dens_items) room.dens_size;
+      shares_size = draft.shares_size;
+      sizes_size = subst (AllWithin (2 ^ 62)) (sym sizes_items) room.sizes_size;
     }
