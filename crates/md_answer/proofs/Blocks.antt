@@ -1,8 +1,9 @@
 -- Lists of numbers that are read block by block, one block for each profile.
 use Rattle.std.proofs.Common.{◌≡◌, ℕ, zero, suc, ◌+◌, ◌*◌, ◌<◌, ℤ, pos, List, [], ◌∷◌, ◌++◌, length, Result, Ok, Err, refl, ap, subst, ◌∙◌, arith, All, length-append}
-use Rattle.std.proofs.lemmas.List.{get_or_append_left, get_or-append_right}
+use Rattle.std.proofs.lemmas.List.{get_or_append_left}
 use Rattle.std.proofs.lemmas.List.Elements.{All-nil, All-append, All-head, All-tail}
 use Rattle.md_math.specs.Lists.{number_at}
+use Rattle.md_math.proofs.Builders.{number_at-behind}
 use Rattle.md_answer.specs.declared.answer.AnswerRefusal.{AnswerRefusal}
 use Rattle.md_answer.specs.Reading.{Rest, Reading, then_read}
 use Rattle.md_answer.specs.Table.{each_profile}
@@ -26,15 +27,12 @@ next-place r width o = grind arith
 zero-place : (width o : ℕ) → (zero * width + o) ≡ o
 zero-place width o = grind arith
 
-after-first : (first rest : List ℤ) (width k : ℕ) → length first ≡ width → number_at (first ++ rest) (width + k) ≡ number_at rest k
-after-first first rest width k long = get_or-append_right first rest width (width + k) (pos 0) long (omega arith) ∙ ap (λ i. number_at rest i) (omega arith)
-
 block-cons : (first rest : List ℤ) (count width place : ℕ) (Q : List ℤ → Type 0) (R : ℤ → Type 0) → length first ≡ width → Q first → AreBlocks rest count width Q R → place < suc count → IsBlockAt (first ++ rest) width place Q
 block-cons first rest count width zero Q R long has h l =
     record { block = first; long = long; has = has; at = λ o m. ap (λ k. number_at (first ++ rest) k) (zero-place width o) ∙ get_or_append_left first rest (pos 0) o (omega arith) }
 block-cons first rest count width (suc place) Q R long has h l =
     let b = h.block place (omega arith) in
-    record { block = b.block; long = b.long; has = b.has; at = λ o m. ap (λ k. number_at (first ++ rest) k) (next-place place width o) ∙ after-first first rest width (place * width + o) long ∙ b.at o m }
+    record { block = b.block; long = b.long; has = b.has; at = λ o m. ap (λ k. number_at (first ++ rest) k) (next-place place width o) ∙ number_at-behind first rest width (place * width + o) long ∙ b.at o m }
 
 blocks-cons : (first rest : List ℤ) (count width : ℕ) (Q : List ℤ → Type 0) (R : ℤ → Type 0) → length first ≡ width → Q first → All R first → AreBlocks rest count width Q R → AreBlocks (first ++ rest) (suc count) width Q R
 blocks-cons first rest count width Q R long has each h = record {

@@ -12,7 +12,6 @@ pub mod NumbersRead
 pub mod Blocks
 pub mod MechanismRead
 pub mod AnswerRead
-pub mod NumberTexts
 pub mod WrittenRecords
 pub mod WrittenRows
 pub mod WrittenTables

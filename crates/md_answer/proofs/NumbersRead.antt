@@ -1,5 +1,5 @@
 -- What is known of numbers that were read.
-use Rattle.std.proofs.Common.{◌≡◌, ℕ, zero, suc, ◌+◌, ◌≤◌, ℤ, pos, Bool, true, false, ◌&&◌, ◌==◌, List, [], ◌∷◌, ◌++◌, drop, length, replicate, Option, Some, None, Result, Ok, Err, if◌then◌else◌, refl, sym, ap, ◌∙◌, arith, All, unsigned_abs, nat_lt, neg_ℤ}
+use Rattle.std.proofs.Common.{◌≡◌, ℕ, zero, suc, ◌+◌, ◌≤◌, ℤ, Bool, true, false, ◌&&◌, ◌==◌, List, [], ◌∷◌, ◌++◌, drop, length, replicate, Option, Some, None, Result, Ok, Err, if◌then◌else◌, refl, sym, ap, ◌∙◌, arith, All}
 use Rattle.std.proofs.lemmas.List.Elements.{All-nil, All-cons}
 use Rattle.std.specs.Ordering.{int_eq}
 use Rattle.std.proofs.lemmas.Bool.Decides.{Decides-int_eq, nat_tests}
@@ -7,13 +7,14 @@ use Rattle.std.specs.Str.{bytes_eq}
 use Rattle.md_math.specs.Sizes.{IsWithin}
 use Rattle.md_math.specs.Sums.{total}
 use Rattle.md_num.specs.Limits.{limit_of}
-use Rattle.md_num.specs.WholeText.{whole_of, size_of, number_of, has_minus, form_fault}
+use Rattle.md_num.specs.WholeText.{whole_of}
 use Rattle.md_num.specs.declared.whole.NumRefusal.{NumRefusal}
-use Rattle.md_num.specs.declared.whole.NumRefusal.TheVariants.{TooLong}
+use Rattle.md_num.proofs.Texts.{size_from_whole_of}
 use Rattle.md_answer.specs.declared.answer.AnswerRefusal.{AnswerRefusal}
 use Rattle.md_answer.specs.declared.answer.AnswerRefusal.TheVariants.{Line, Cell, Sum, End}
 use Rattle.md_answer.specs.Fields.{Field, numbers_of, number_field}
 use Rattle.md_answer.specs.Reading.{Rest, is_record, read_record, fields_after_word, adding_to}
+use Rattle.md_answer.proofs.Repeats.{not_both}
 
 -- a number in a field passes the field's test, and is small
 pub record IsInField (bits : ℕ) (test : ℤ → Bool) (number : ℤ) : Type 0 where
@@ -24,26 +25,11 @@ number_field-if : (b : Bool) (number z : ℤ) → if◌then◌else◌ {A = Optio
 number_field-if true number z h = (refl, cc)
 number_field-if false number z h = absurd (let e : None ≡ Some z = h in cc)
 
--- a number that is read is small
-abs_number : (minus : Bool) (n : ℕ) → unsigned_abs (if minus then neg_ℤ (pos n) else pos n) ≡ n
-abs_number true zero = refl
-abs_number true (suc n) = refl
-abs_number false n = refl
-
-sized-small : (b : Bool) (limit size : ℕ) (number z : ℤ) → nat_lt limit size ≡ b → unsigned_abs number ≡ size → if◌then◌else◌ {A = Result ℤ NumRefusal} b (Err TooLong) (Ok number) ≡ Ok z → unsigned_abs z ≤ limit
-sized-small true limit size number z t e h = absurd (let w : Err TooLong ≡ Ok z = h in cc)
-sized-small false limit size number z t e h = let same : number ≡ z = cc in rw (← same, e) (grind (arith, nat_tests))
-
-small_number : (bits : ℕ) (text : List ℕ) (o : Option NumRefusal) (z : ℤ) → form_fault text ≡ o → whole_of bits text ≡ Ok z → unsigned_abs z ≤ limit_of bits
-small_number bits text None z e h =
-    let s = rw e at h in sized-small (nat_lt (limit_of bits) (size_of text)) (limit_of bits) (size_of text) (number_of text) z refl (abs_number (has_minus text) (size_of text)) s
-small_number bits text (Some refusal) z e h = let s = rw e at h in absurd (let w : Err refusal ≡ Ok z = s in cc)
-
 number_field-in : (bits : ℕ) (test : ℤ → Bool) (text : List ℕ) (r : Result ℤ NumRefusal) (z : ℤ) → bits ≤ 126 → whole_of bits text ≡ r
     → elim r as (λ _. Option ℤ) [ Ok number ↦ if test number then Some number else None | Err _ ↦ None ] ≡ Some z → IsInField bits test z
 number_field-in bits test text (Ok number) z l e h =
     let p = number_field-if (test number) number z h in
-    rw (← p.1) (record { passes = p.0; small = record { within = small_number bits text (form_fault text) number refl e } })
+    rw (← p.1) (record { passes = p.0; small = record { within = size_from_whole_of bits text l number e } })
 number_field-in bits test text (Err refusal) z l e h = absurd (let e : None ≡ Some z = h in cc)
 
 pub number_field-is : (bits : ℕ) (test : ℤ → Bool) (text : List ℕ) (z : ℤ) → bits ≤ 126 → number_field bits test text ≡ Some z → IsInField bits test z
@@ -102,16 +88,13 @@ pub record RecordRead (fields : List Field) (numbers : List ℤ) : Type 0 where
   pub long : length texts ≡ length fields
   pub read : numbers_of 2 fields texts ≡ Ok numbers
 
-is_record-length : (word : List ℕ) (count : ℕ) (next : List (List ℕ)) → is_record word count next ≡ true → length (fields_after_word next) ≡ count
+pub is_record-length : (word : List ℕ) (count : ℕ) (next : List (List ℕ)) → is_record word count next ≡ true → length (fields_after_word next) ≡ count
 is_record-length word count [] h = cc
 is_record-length word count (first ∷ fields) h = let e = both (bytes_eq first word) (length fields == count) h in grind (arith, nat_tests)
   where
     both : (a b : Bool) → (a && b) ≡ true → b ≡ true
     both true b h = h
     both false b h = cc
-
-not_both : (refusal : AnswerRefusal) (value : List ℤ × Rest) → Err refusal ≡ Ok value → ⊥
-not_both refusal value e = cc
 
 record-in : (word : List ℕ) (fields : List Field) (read : ℕ) (next : List (List ℕ)) (others : List (List (List ℕ))) (numbers : List ℤ) (after : Rest) (b : Bool) (r : Result (List ℤ) ℕ)
     → is_record word (length fields) next ≡ b → numbers_of 2 fields (fields_after_word next) ≡ r

@@ -1,7 +1,5 @@
 -- Whole records, by the steps over their fields.
-use Rattle.std.proofs.Common.{◌≡◌, ℕ, ◌+◌, ℤ, Bool, true, false, ◌&&◌, ◌==◌, List, [], ◌∷◌, ◌++◌, length, Result, Ok, Err, if◌then◌else◌, refl, sym, ap, ◌∙◌, arith, append-nil, length-append}
-use Rattle.std.proofs.lemmas.Bool.Decides.{nat_tests}
-use Rattle.std.specs.Str.{bytes_eq}
+use Rattle.std.proofs.Common.{◌≡◌, ℕ, ◌+◌, ℤ, Bool, true, false, List, [], ◌∷◌, ◌++◌, length, Result, Ok, Err, if◌then◌else◌, refl, sym, ap, ◌∙◌, append-nil, length-append}
 use Rattle.md_answer.specs.declared.answer.AnswerRefusal.{AnswerRefusal}
 use Rattle.md_answer.specs.declared.answer.AnswerRefusal.TheVariants.{Line, Cell, End}
 use Rattle.md_answer.specs.Fields.{Field, numbers_of}
@@ -10,6 +8,7 @@ use Rattle.md_answer.specs.Reading.{Rest, is_record, read_record, fields_after_w
 use Rattle.md_answer.specs.Records.{record_with}
 use Rattle.md_answer.specs.FieldsRead.{Reads, FailsIn}
 use Rattle.md_answer.proofs.FieldSteps.{reads-then, fails-then, fails-before}
+use Rattle.md_answer.proofs.NumbersRead.{is_record-length}
 
 -- the record that was taken
 pub record Taken (word : List ℕ) (count : ℕ) (rest : Rest) (fields : Left) (after : Rest) : Type 0 where
@@ -112,12 +111,4 @@ named-missing word names fields count rest refusal long h = record-missing word 
 pub taken-length : (word : List ℕ) (count : ℕ) (rest after : Rest) (left : Left) → record_with word count rest ≡ Ok (left, after) → length left.texts ≡ count
 taken-length word count rest after left h =
     let t = taken word count rest left after h in
-    ap (λ (l : Left). length l.texts) t.fields_are ∙ length-after word count t.next t.is_it
-  where
-    both : (a b : Bool) → (a && b) ≡ true → b ≡ true
-    both true b h = h
-    both false b h = cc
-
-    length-after : (word : List ℕ) (count : ℕ) (next : List (List ℕ)) → is_record word count next ≡ true → length (fields_after_word next) ≡ count
-    length-after word count [] h = cc
-    length-after word count (first ∷ fields) h = let e = both (bytes_eq first word) (length fields == count) h in grind (arith, nat_tests)
+    ap (λ (l : Left). length l.texts) t.fields_are ∙ is_record-length word count t.next t.is_it

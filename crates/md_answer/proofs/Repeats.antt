@@ -29,7 +29,7 @@ pub record WasFirst (rest : Rest) (after : Rest) : Type 0 where
   pub left : rest.left ≡ next ∷ after.left
   pub read : after.read ≡ rest.read + 1
 
-not_both : (refusal : AnswerRefusal) (value : List ℤ × Rest) → Err refusal ≡ Ok value → ⊥
+pub not_both : (refusal : AnswerRefusal) (value : List ℤ × Rest) → Err refusal ≡ Ok value → ⊥
 not_both refusal value e = cc
 
 first-in : (read : ℕ) (next : List (List ℕ)) (others : List (List (List ℕ))) (numbers : List ℤ) (after : Rest) (b : Bool) (r : Result (List ℤ) ℕ)

@@ -5,7 +5,7 @@ use Rattle.std.proofs.lemmas.Slice.Eq.{bytes_eq-Decides}
 use Rattle.std.specs.Str.{bytes_eq}
 use Rattle.md_num.specs.declared.whole.NumRefusal.{NumRefusal}
 use Rattle.md_num.specs.WholeText.{text_of, whole_of}
-use Rattle.md_answer.proofs.NumberTexts.{whole_of-text_of}
+use Rattle.md_num.proofs.Texts.{whole_of-text_of}
 use Rattle.md_answer.specs.Fields.{Field, word_field, number_field, numbers_of}
 use Rattle.md_answer.specs.Reading.{read_record}
 use Rattle.md_answer.proofs.NumbersRead.{IsInField}

@@ -1,4 +1,4 @@
-pub mod Bits
 pub mod Duality
 pub mod Fractions
 mod Rows
+pub mod SameCertificates

@@ -19,6 +19,7 @@ use Rattle.md_cert.specs.Certified.{Certified, PairHolds, ColumnHolds, FaceHolds
 use Rattle.md_cert.proofs.Duality.{optimal-claim, infeasible-claim}
 use Rattle.md_rows.specs.Points.{point_of}
 use Rattle.md_rows.specs.ProgramOf.{IsProgramOf}
+use Rattle.md_rows.proofs.OneProgram.{same_program}
 use Rattle.md_claims.specs.Laws.{IsProgramWithLaws}
 use Rattle.md_claims.proofs.SettingClaims.{optimal_mechanism, infeasible, grows_mechanism}
 use Rattle.md_answer.specs.declared.answer.Answer.{Answer}
@@ -30,13 +31,12 @@ use Rattle.md_check.specs.declared.verdict.Verdict.TheVariants.{Valid, Undecided
 use Rattle.md_check.specs.Values.{HasValue}
 use Rattle.md_check.specs.Certificates.{optimal_certificate, unbounded_certificate, TellsFault, Judges, IsJudged}
 use Rattle.md_check.specs.Verdicts.{IsSound, IsSoundOptimal, IsSoundUnbounded, IsOptimalVerdict, IsUnboundedVerdict, IsVerdict, ClaimsNothing}
-use Rattle.md_check.proofs.SameProgram.{same_program}
 use Rattle.md_check.proofs.SameVerdict.{judges-to}
 
 -- ---- the program of the setting is one
 
 pub judged-on_all : (s : GeneralSetting) (p : Program) (c : Certificate) (v : Verdict) → IsProgramOf s p → Judges p c v → IsJudged s c v
-judged-on_all s p c v here j = record { program = p; is_program = here; judged = λ q there. judges-to p q c v (same_program s p q here there) j }
+judged-on_all s p c v here j = record { program = p; is_program = here; judged = λ q there. judges-to p q c v (same_program s q p there here) j }
 
 -- ---- what is claimed
 

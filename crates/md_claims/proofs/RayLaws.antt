@@ -1,12 +1,12 @@
 -- What a mechanism becomes when a ray of its setting's program is added again and again.
-use Rattle.std.proofs.Common.{◌≡◌, ℕ, ◌+◌, ◌-◌, ◌*◌, ◌/◌, ◌%◌, ◌<◌, Bool, true, false, ℤ, pos, negsuc, ◌+ℤ◌, ◌-ℤ◌, ◌*ℤ◌, neg_ℤ, ◌≤ℤ◌, inl, inr, List, ◌++◌, length, sym, ap, ◌∙◌, subst, arith}
+use Rattle.std.proofs.Common.{◌≡◌, ℕ, ◌+◌, ◌*◌, ◌/◌, ◌%◌, ◌<◌, Bool, true, false, ℤ, pos, negsuc, ◌+ℤ◌, ◌-ℤ◌, ◌*ℤ◌, neg_ℤ, ◌≤ℤ◌, inl, inr, List, ◌++◌, length, sym, ap, ◌∙◌, subst, arith}
 use Rattle.std.proofs.lemmas.Int.{ints}
-use Rattle.std.proofs.lemmas.List.{get_or_append_left, get_or-append_right, append-nil, get_or_past}
+use Rattle.std.proofs.lemmas.List.{get_or_append_left, append-nil, get_or_past}
 use Rattle.std.proofs.lemmas.Bool.{cases_lt}
 use Rattle.std.proofs.lemmas.Nat.{div_below, mod_below, div-add-mod'}
 use Rattle.md_math.specs.Lists.{number_at, list_to, up_to}
 use Rattle.md_math.specs.Sums.{sum_to}
-use Rattle.md_math.proofs.Builders.{length-list_to, list_to-same, get_or-list_to, same_list_to, length-up_to, get_or-up_to}
+use Rattle.md_math.proofs.Builders.{length-list_to, list_to-same, get_or-list_to, same_list_to, length-up_to, get_or-up_to, number_at-behind}
 use Rattle.md_math.proofs.Ring.{linear, ring, *ℤ-zero, *ℤ-+ℤ, *ℤ-neg_ℤ}
 use Rattle.md_math.proofs.SumLaws.{sum_to-+ℤ, sum_to-same, sum_to-all_zero}
 use Rattle.md_space.specs.Profiles.{IsProfile, profile_count, profile_at, rank_of}
@@ -122,10 +122,6 @@ raised-same m k ps qs h =
 
 -- ---- the ray of some payments
 
--- the number behind a list of this length
-behind : (xs ys : List ℤ) (n k : ℕ) → length xs ≡ n → number_at (xs ++ ys) (n + k) ≡ number_at ys k
-behind xs ys n k e = get_or-append_right xs ys n (n + k) (pos 0) e (omega arith) ∙ ap (number_at ys) (let f : n + k - n ≡ k = omega arith in f)
-
 parts-at : (part : ℤ → ℤ) (s : GeneralSetting) (m : Mechanism) (i r : ℕ) → i < agent_count s → r < profile_count (sizes_of s)
     → number_at (parts part s m) (i * profile_count (sizes_of s) + r) ≡ part (pay_of s m i (profile_at (sizes_of s) r))
 parts-at part s m i r l b =
@@ -155,14 +151,14 @@ ray-pay s ps on i r l b =
     let inside : place < agent_count s * profile_count (sizes_of s) = place-below i (agent_count s) (profile_count (sizes_of s)) r l b in
     let here : pay_of s m i (profile_at (sizes_of s) r) ≡ number_at ps (r * agent_count s + i) = ap (λ q. number_at ps (q * agent_count s + i)) rank in
     let plus : number_at (zeros s ++ (parts plus_part s m ++ parts minus_part s m)) (first_plus s + place) ≡ plus_part (pay_of s m i (profile_at (sizes_of s) r)) =
-    behind (zeros s) (parts plus_part s m ++ parts minus_part s m) (first_plus s) place size
+    number_at-behind (zeros s) (parts plus_part s m ++ parts minus_part s m) (first_plus s) place size
     ∙ get_or_append_left (parts plus_part s m) (parts minus_part s m) (pos 0) place (rw (parts-length plus_part s m) inside)
     ∙ parts-at plus_part s m i r l b in
     let apart : first_minus s + place ≡ first_plus s + (agent_count s * profile_count (sizes_of s) + place) = omega arith in
     let minus : number_at (zeros s ++ (parts plus_part s m ++ parts minus_part s m)) (first_minus s + place) ≡ minus_part (pay_of s m i (profile_at (sizes_of s) r)) =
     ap (number_at (zeros s ++ (parts plus_part s m ++ parts minus_part s m))) apart
-    ∙ behind (zeros s) (parts plus_part s m ++ parts minus_part s m) (first_plus s) (agent_count s * profile_count (sizes_of s) + place) size
-    ∙ behind (parts plus_part s m) (parts minus_part s m) (agent_count s * profile_count (sizes_of s)) place (parts-length plus_part s m)
+    ∙ number_at-behind (zeros s) (parts plus_part s m ++ parts minus_part s m) (first_plus s) (agent_count s * profile_count (sizes_of s) + place) size
+    ∙ number_at-behind (parts plus_part s m) (parts minus_part s m) (agent_count s * profile_count (sizes_of s)) place (parts-length plus_part s m)
     ∙ parts-at minus_part s m i r l b in
     rw (on, rank, plus, minus) (part-difference (pay_of s m i (profile_at (sizes_of s) r)) ∙ here)
 

@@ -1,5 +1,5 @@
 -- A common factor of all entries and the denominator may be taken away, and the greatest one leaves least terms.
-use Rattle.std.proofs.Common.{◌≡◌, ℕ, ◌+◌, ◌<◌, ℤ, pos, ◌+ℤ◌, ◌*ℤ◌, ◌<ℤ◌, unsigned_abs, sym, ap, ap₂, ◌∙◌, subst, arith}
+use Rattle.std.proofs.Common.{◌≡◌, ℕ, ◌+◌, ◌<◌, ℤ, pos, ◌+ℤ◌, ◌*ℤ◌, ◌<ℤ◌, unsigned_abs, sym, ap, ap₂, ◌∙◌, subst, arith, ◌==◌, if◌then◌else◌}
 use Rattle.std.proofs.Math.Nat as NatL
 use Rattle.md_math.specs.Sums.{sum_to}
 use Rattle.md_math.specs.Divisors.{Divides, DividesTable}
@@ -7,7 +7,10 @@ use Rattle.md_math.proofs.Ring.{linear, *ℤ_assoc, *ℤ_left_comm, *ℤ-+ℤ, *
 use Rattle.md_math.proofs.Order.{positive_from_*ℤ, *ℤ_cancel}
 use Rattle.md_math.proofs.SumLaws.{sum_to-same, sum_to-*ℤ}
 use Rattle.md_math.proofs.Division.{*ℤ-Divides, Divides_cancel}
+use Rattle.md_lp.specs.declared.entry.Entry.{Entry}
 use Rattle.md_dict.specs.Dictionary.{basic_value, IsScaledDictionary, IsReducedTable, IsDictionary}
+use Rattle.md_dict.specs.Pivot.{with_column}
+use Rattle.md_dict.specs.Wide.{IsWideBasis}
 use Rattle.md_dict.proofs.RawPivot.{scaled_basic}
 
 -- the entries f over d are g times the entries e over den
@@ -95,3 +98,15 @@ IsDictionary-same_basis m n t b c den e s p = record {
   };
   reduced = p.reduced;
 }
+
+-- the same of a wide basis, and of a basis that took a column
+pub IsWideBasis-same_basis : (m n : ℕ) (t : ℕ → ℕ → ℤ) (limit : ℕ) (b c : ℕ → ℕ) (entry : Entry) → ((i : ℕ) → i < m → b i ≡ c i) → IsWideBasis m n t b limit entry → IsWideBasis m n t c limit entry
+IsWideBasis-same_basis m n t limit b c entry same h = record {
+  den = h.den;
+  table = h.table;
+  dictionary = IsDictionary-same_basis m n t b c h.den h.table same h.dictionary;
+  first = h.first;
+}
+
+pub with_column-same : (b c : ℕ → ℕ) (row column i : ℕ) → b i ≡ c i → with_column b row column i ≡ with_column c row column i
+with_column-same b c row column i e = ap (λ z. if i == row then column else z) e

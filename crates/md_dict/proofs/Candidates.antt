@@ -1,5 +1,5 @@
 -- Where the search for the greatest common divisor of a combination begins: at a number that all its divisors divide, since both rows are in least terms.
-use Rattle.std.proofs.Common.{◌≡◌, ◌≢◌, ℕ, ◌*◌, ◌<◌, ◌≤◌, List, length, ℤ, pos, ◌+ℤ◌, ◌-ℤ◌, ◌*ℤ◌, neg_ℤ, ◌<ℤ◌, unsigned_abs, sym, ap, ap₂, ◌∙◌, subst, inl, inr, arith, mul-le-mul}
+use Rattle.std.proofs.Common.{◌≡◌, ◌≢◌, ℕ, ◌*◌, ◌<◌, ◌≤◌, List, length, ℤ, pos, ◌+ℤ◌, ◌-ℤ◌, ◌*ℤ◌, neg_ℤ, ◌<ℤ◌, unsigned_abs, sym, ap, ap₂, ◌∙◌, subst, inl, inr, arith, mul-le-mul, refl}
 use Rattle.std.proofs.lemmas.Bool.{cases_eq}
 use Rattle.std.proofs.lemmas.Int.{ints, unsigned_abs-mul}
 use Rattle.std.proofs.Math.Nat as NatL
@@ -8,37 +8,24 @@ use lib.IntN.{*ℤ_comm}
 use Rattle.std.specs.Int.{IsGcd}
 use Rattle.md_math.specs.Lists.{number_at}
 use Rattle.md_math.specs.Divisors.{Divides, IsGcdOfTwo}
-use Rattle.md_math.proofs.Division.{quotient, Divides_trans, Divides-from_product, Divides-zero, Divides-+ℤ, Divides-sub, Divides-neg_ℤ, Divides-*ℤ_left, Divides-*ℤ_right, *ℤ-Divides}
-use Rattle.md_math.proofs.Gcds.{gcd_of_two, family_gcd, same_from_IsGcdOfTwo, IsGcdOfTwo-from_IsGcd}
+use Rattle.md_math.proofs.Division.{quotient, Divides_trans, Divides-from_product, Divides-zero, Divides-+ℤ, Divides-sub, Divides-neg_ℤ, Divides-*ℤ_left, Divides-*ℤ_right, *ℤ-Divides, positive_divisor}
+use Rattle.md_math.proofs.Gcds.{gcd_of_two, same_from_IsGcdOfTwo, IsGcdOfTwo-from_IsGcd}
 use Rattle.md_math.proofs.Order.{positive_pos, positive-*ℤ}
-use Rattle.md_math.proofs.Ring.{linear, ring, *ℤ_assoc, *ℤ-one}
+use Rattle.md_math.proofs.Ring.{linear, ring, *ℤ_assoc}
 use Rattle.md_dict.specs.declared.combination.Combination.{Combination}
 use Rattle.md_dict.specs.Rows.{IsLeastRow}
 use Rattle.md_dict.specs.Combination.{combined_den, AreLeastRows, DividesCombination, IsCombination}
 use Rattle.md_dict.specs.Reduce.{IsAttempt}
 use Rattle.md_dict.proofs.Reading.{sizes_small}
 use Rattle.md_dict.proofs.Reducing.{combined_beside, combined_here}
-use Rattle.md_dict.proofs.StepDivisor.{positive_divisor}
-
--- ---- a row in least terms
-
--- what divides e times all of a row divides e
-Divides-from_least : (n : ℕ) (den : ℤ) (f : ℕ → ℤ) (d e : ℤ) → IsLeastRow n den f → Divides d (e *ℤ den) → ((s : ℕ) → s < n → Divides d (e *ℤ f s)) → Divides d e
-Divides-from_least n den f d e h p q =
-    let (g, family) = family_gcd n f in
-    let (u, two) = gcd_of_two den g in
-    let unit : unsigned_abs u ≡ 1 = h.only_one u two.is_gcd.left (record { at = λ s b. Divides_trans u g (f s) two.is_gcd.right (family.is_gcd.common.at s b) }) in
-    let nonneg = two.is_gcd.nonneg in
-    let one : u ≡ pos 1 = omega (arith, ints, unit, nonneg) in
-    let whole : Divides d (e *ℤ u) = two.factor d e p (family.factor d e q) in
-    subst (Divides d) (ap (λ x. e *ℤ x) one ∙ *ℤ-one e) whole
+use Rattle.md_dict.proofs.NewRows.{divides_row_factor}
 
 -- ---- two rows in least terms
 
 -- where b * d is divided, and a * f - b * g at all places but one, at which f is a multiple of b, then a * d is divided too, if it is so times the denominator of f
 crossed : (n p : ℕ) (a b d den : ℤ) (f g : ℕ → ℤ) (x : ℤ) → IsLeastRow n den f → Divides b (f p) → ((s : ℕ) → s < n → s ≢ p → Divides x (a *ℤ f s -ℤ b *ℤ g s)) → Divides x (b *ℤ d) → Divides x ((a *ℤ d) *ℤ den) → Divides x (a *ℤ d)
 crossed n p a b d den f g x least at_place beside other whole =
-    Divides-from_least n den f x (a *ℤ d) least whole (λ s l.
+    divides_row_factor n den f x (a *ℤ d) least whole (λ s l.
     elim (cases_eq s p) [
       | inl same ↦
           let (q, e) = quotient b (f p) at_place in
@@ -137,7 +124,7 @@ divides_combined c own taken x h rows q = record {
   taken_at_place = multiple (number_at taken c.place) rows.common c.multiplier rows.taken_at_place;
   leaving_is = rows.leaving;
   of_den = q.of_den;
-  here = subst (Divides x) (combined_here c own taken) (q.of_numbers.at c.place h.place_in);
+  here = subst (Divides x) (combined_here c own taken c.place refl) (q.of_numbers.at c.place h.place_in);
   beside = λ s l o. subst (Divides x) (combined_beside c own taken s o) (q.of_numbers.at s l);
 }
   where

@@ -29,10 +29,6 @@ use Rattle.md_dict.proofs.LeastMultiples.{IsLeastMultiple-more, IsLeastMultiple-
 use Rattle.md_dict.proofs.Reading.{product_small, read_short, read_small}
 use Rattle.md_dict.proofs.Writing.{place_inside, written_beside, written_here}
 
--- a row's number is in the list
-pub number_inside : (step : Step) (rows : Rows) (i s : ℕ) → IsRowStep step rows → i < step.rows + 2 → s < step.columns + 1 → i * rows.width + s < length rows.numbers.items
-number_inside step rows i s h a b = omega (arith, place_inside rows.width i s (step.rows + 2) (omega (arith, h.width)) a, h.table.numbers_length)
-
 -- a number that was read at a place of a list whose numbers have 62 bits
 pub record IsReadAt (xs : List ℤ) (k : ℕ) (x : ℤ) : Type 0 where
   pub value : x ≡ number_at xs k

@@ -27,10 +27,10 @@ pub record IsFirstTable (m n : ℕ) (t : ℕ → ℕ → ℤ) : Type 0 where
   pub face : (j : ℕ) → t m j ≡ neg_ℤ (sum_to m (λ k. t k j))
   pub main : (i : ℕ) → i < m → t (m + 1) (n + i) ≡ pos 0
 
-unit_own : (i : ℕ) → (if i == i then pos 1 else pos 0) ≡ pos 1
+pub unit_own : (i : ℕ) → (if i == i then pos 1 else pos 0) ≡ pos 1
 unit_own i = rw (eq-eqb i i refl) refl
 
-unit_off : (k i : ℕ) → k ≢ i → (if k == i then pos 1 else pos 0) ≡ pos 0
+pub unit_off : (k i : ℕ) → k ≢ i → (if k == i then pos 1 else pos 0) ≡ pos 0
 unit_off k i o = rw (ne_eqb k i o) refl
 
 face_unit : (m n : ℕ) (t : ℕ → ℕ → ℤ) → IsFirstTable m n t → (i : ℕ) → i < m → t m (n + i) ≡ neg_ℤ (pos 1)

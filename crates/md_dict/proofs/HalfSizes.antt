@@ -1,9 +1,10 @@
 -- Numbers of 32 bits: their sizes and those of their products.
-use Rattle.std.proofs.Common.{◌≡◌, ◌+◌, ◌-◌, ◌*◌, ◌^◌, ◌<◌, ℕ, ℤ, ◌-ℤ◌, ◌*ℤ◌, to_z, of_z, FitsSigned, lit<, arith}
+use Rattle.std.proofs.Common.{◌≡◌, ◌+◌, ◌-◌, ◌*◌, ◌^◌, ℤ, ◌-ℤ◌, ◌*ℤ◌, to_z, of_z, FitsSigned, lit<, arith}
 use Rattle.std.proofs.lemmas.Int.{ints, to_z-of_z}
 use mir.Syntax.{w32, w64}
 use Rattle.md_math.specs.Sizes.{IsWithin}
 use Rattle.md_math.proofs.SizeLaws.{IsWithin-*ℤ, IsWithin-sub, fits_from_IsWithin}
+use Rattle.md_math.proofs.Bits.{read_short_within}
 use Rattle.md_dict.specs.Halves.{IsShort}
 
 pub IsShort-from_within : (x : ℤ) → IsWithin (2 ^ 31 - 1) x → IsShort x
@@ -12,16 +13,12 @@ IsShort-from_within x h = let w = h.within in record { least = omega (arith, int
 pub IsWithin-short : (x : ℤ) → IsShort x → IsWithin (2 ^ 31) x
 IsWithin-short x h = let a = h.least in let b = h.most in record { within = omega (arith, ints, a, b) }
 
--- a number that is read back from its bits
-pub read_within : (limit : ℕ) (z : ℤ) → limit < 2 ^ 63 → IsWithin limit z → to_z w64 (of_z w64 z) ≡ z
-read_within limit z l h = to_z-of_z w64 z (fits_from_IsWithin w64 limit z h l)
-
 -- the same by 32 bits
 pub read_half : (z : ℤ) → IsShort z → to_z w32 (of_z w32 z) ≡ z
 read_half z h = let a = h.least in let b = h.most in to_z-of_z w32 z (omega (arith, ints, a, b))
 
 pub read_short_number : (z : ℤ) → IsShort z → to_z w64 (of_z w64 z) ≡ z
-read_short_number z h = read_within (2 ^ 31) z (lit< tt) (IsWithin-short z h)
+read_short_number z h = read_short_within (2 ^ 31) z (IsWithin-short z h) (lit< tt)
 
 -- two products of numbers of 32 bits, and their difference
 pub record IsShortCross (a b c d : ℤ) : Type 0 where

@@ -9,12 +9,11 @@ use lib.IntN.{*ℤ_comm}
 use Rattle.md_math.specs.Lists.{number_at}
 use Rattle.md_math.specs.Sizes.{IsWithin, AllWithin}
 use Rattle.md_math.specs.Divisors.{Divides, IsGcdOfTwo}
-use Rattle.md_math.proofs.Division.{Divides_refl, Divides_trans, Divides_cancel, Divides-*ℤ, one-Divides, *ℤ-Divides}
+use Rattle.md_math.proofs.Division.{Divides_refl, Divides_trans, Divides_cancel, Divides-*ℤ, one-Divides, *ℤ-Divides, positive_divisor}
 use Rattle.md_math.proofs.Gcds.{gcd_of_two, same_from_IsGcdOfTwo}
 use Rattle.md_math.proofs.Order.{positive-*ℤ, positive_from_*ℤ}
 use Rattle.md_math.proofs.Ring.{*ℤ_left_comm}
 use Rattle.md_dict.specs.Multiples.{IsLeastMultiple, IsMultipleOfTwo}
-use Rattle.md_dict.proofs.StepDivisor.{positive_divisor}
 
 -- ---- sizes
 

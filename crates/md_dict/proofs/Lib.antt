@@ -9,8 +9,8 @@ mod Parts
 mod Readers
 mod Reading
 mod StepDivisor
-mod Values
-mod Writing
+pub mod Values
+pub mod Writing
 pub mod Cancelling
 pub mod Exchange
 pub mod Exchanged

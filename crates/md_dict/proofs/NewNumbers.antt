@@ -1,5 +1,5 @@
 -- The new numbers of a dictionary: how they are made, and what they are where they are all written.
-use Rattle.std.proofs.Common.{◌≡◌, ◌≢◌, ℕ, ◌+◌, ◌-◌, ◌*◌, ◌<◌, ◌≤◌, ◌==◌, ◌&&◌, nat_le, Bool, true, false, if◌then◌else◌, List, set, ℤ, pos, ◌-ℤ◌, ◌*ℤ◌, ◌<ℤ◌, neg_ℤ, int_div, unsigned_abs, refl, sym, ap, ap₂, ◌∙◌, subst, inl, inr, arith, eq-eqb, ne_eqb, mul-le-mul, mul-le-mul_right}
+use Rattle.std.proofs.Common.{◌≡◌, ◌≢◌, ℕ, ◌+◌, ◌-◌, ◌*◌, ◌<◌, ◌≤◌, ◌==◌, ◌&&◌, nat_le, Bool, true, false, if◌then◌else◌, List, set, ℤ, pos, ◌-ℤ◌, ◌*ℤ◌, ◌<ℤ◌, neg_ℤ, int_div, unsigned_abs, refl, sym, ap, ap₂, ◌∙◌, subst, inl, inr, arith, eq-eqb, ne_eqb, mul-le-mul, mul-le-mul_right, ◌^◌}
 use Rattle.std.proofs.lemmas.Bool.{cases_lt}
 use Rattle.std.proofs.lemmas.Int.{ints, unsigned_abs-mul}
 use Rattle.md_math.specs.Sizes.{IsWithin}
@@ -52,6 +52,10 @@ factor_size d q x p e =
     let product : unsigned_abs x ≡ unsigned_abs d * unsigned_abs q = ap unsigned_abs (sym e) ∙ unsigned_abs-mul d q in
     let more : 1 * unsigned_abs q ≤ unsigned_abs d * unsigned_abs q = mul-le-mul_right (unsigned_abs q) (omega (arith, ints)) in
     omega (arith, product, more)
+
+-- the quotient of a number of 126 bits has as many
+pub quotient_small : (d q x : ℤ) → pos 0 <ℤ d → d *ℤ q ≡ x → unsigned_abs x < 2 ^ 126 → unsigned_abs q < 2 ^ 126
+quotient_small d q x p e l = let size : unsigned_abs q ≤ unsigned_abs x = factor_size d q x p e in omega arith
 
 -- ---- how a raw number is made
 

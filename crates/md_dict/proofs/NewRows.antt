@@ -50,7 +50,7 @@ divides_divisor x z g den p above part whole h =
 -- ---- one row
 
 -- what divides a number times each number of a row in least terms divides that number
-divides_row_factor : (width : ℕ) (den : ℤ) (f : ℕ → ℤ) (x e : ℤ) → IsLeastRow width den f → Divides x (e *ℤ den) → ((s : ℕ) → s < width → Divides x (e *ℤ f s)) → Divides x e
+pub divides_row_factor : (width : ℕ) (den : ℤ) (f : ℕ → ℤ) (x e : ℤ) → IsLeastRow width den f → Divides x (e *ℤ den) → ((s : ℕ) → s < width → Divides x (e *ℤ f s)) → Divides x e
 divides_row_factor width den f x e least h k =
     let (g, p) = family_gcd width f in
     let (u, q) = gcd_of_two den g in

@@ -2,10 +2,12 @@
 use Rattle.std.proofs.Common.{◌≡◌, ◌≢◌, ℕ, ◌+◌, ◌<◌, ◌⊎◌, ◌==◌, ◌&&◌, nat_le, Bool, true, false, if◌then◌else◌, ℤ, pos, ◌+ℤ◌, ◌-ℤ◌, ◌*ℤ◌, neg_ℤ, ◌<ℤ◌, refl, sym, ap, ap₂, ◌∙◌, subst, inl, inr, arith, ne_eqb, eq-eqb, eqb-true}
 use Rattle.std.proofs.lemmas.Bool.{cases_eq, lt-leb}
 use lib.IntN.{*ℤ_comm}
+use Rattle.md_math.specs.Sizes.{IsWithin}
 use Rattle.md_math.specs.Sums.{sum_to}
 use Rattle.md_math.proofs.Ring.{linear, ring, *ℤ-zero, *ℤ_assoc, *ℤ-neg_ℤ}
 use Rattle.md_math.proofs.Order.{positive-*ℤ}
 use Rattle.md_math.proofs.SumLaws.{sum_to-same, sum_to-*ℤ, sum_to-sub, sum_to-+ℤ, sum_to-at}
+use Rattle.md_math.proofs.SizeLaws.{IsWithin-neg_ℤ, IsWithin-zero}
 use Rattle.md_dict.specs.Dictionary.{basic_value, IsScaledDictionary}
 use Rattle.md_dict.specs.Pivot.{with_column, raw_entry}
 
@@ -166,3 +168,12 @@ raw_pivot m n t basis den e row column p = record {
     basic i r a b (inr o) =
         let old : with_column basis row column i ≡ basis i = rw (ne_eqb i row o) refl in
         rw old (raw_basic_other m n t basis den e row column p i r o a b)
+
+-- what a basic column holds is no larger than the denominator
+pub basic_within : (limit m n i column r : ℕ) (den : ℤ) → IsWithin limit den → IsWithin limit (basic_value m n den i column r)
+basic_within limit m n i column r den w = by_tests (r == i) ((r == m) && nat_le n column)
+  where
+    by_tests : (own face : Bool) → IsWithin limit (if own then den else (if face then neg_ℤ den else pos 0))
+    by_tests true face = w
+    by_tests false true = IsWithin-neg_ℤ limit den w
+    by_tests false false = IsWithin-zero limit

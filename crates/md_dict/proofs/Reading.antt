@@ -1,7 +1,6 @@
 -- Numbers that are read back from their bits, and the sizes of products of two kept numbers.
 use Rattle.std.proofs.Common.{◌≡◌, ◌+◌, ◌-◌, ◌*◌, ◌^◌, ◌<◌, ◌≤◌, ℤ, ◌-ℤ◌, ◌*ℤ◌, to_z, of_z, SFits, FitsSigned, unsigned_abs, lit<, mul-le-mul, ap, ap₂, ◌∙◌, arith}
 use Rattle.std.proofs.lemmas.Int.{to_z-of_z, fits_signed_from_abs}
-use lib.Signed.{mag}
 use mir.Syntax.{w128, w64}
 use Rattle.md_math.specs.Sizes.{IsWithin}
 use Rattle.md_math.proofs.SizeLaws.{fits_from_IsWithin, IsWithin-*ℤ, IsWithin-sub}
@@ -9,10 +8,6 @@ use Rattle.md_math.proofs.SizeLaws.{fits_from_IsWithin, IsWithin-*ℤ, IsWithin-
 -- a number that fits is read back from its bits
 pub read : (z : ℤ) → SFits w128 z → to_z w128 (of_z w128 z) ≡ z
 read z fits = to_z-of_z w128 z fits
-
--- the same, by what is known of a call's result
-pub read_result : (z : ℤ) → mag z < 2 ^ 127 → to_z w128 (of_z w128 z) ≡ z
-read_result z fits = to_z-of_z w128 z (record { sfits = fits })
 
 -- a number of 126 bits
 pub read_wide : (z : ℤ) → unsigned_abs z < 2 ^ 126 → to_z w128 (of_z w128 z) ≡ z

@@ -8,7 +8,7 @@ use Rattle.std.proofs.Math.Nat as NatL
 use Rattle.md_math.specs.Lists.{number_at}
 use Rattle.md_math.specs.Sizes.{IsWithin, AllWithin}
 use Rattle.md_math.specs.Divisors.{Divides, IsCommonDivisor, IsGcdOfTwo}
-use Rattle.md_math.proofs.Division.{Divides_cancel, Divides_trans, Divides-int_div, one-Divides, *ℤ-Divides}
+use Rattle.md_math.proofs.Division.{Divides_cancel, Divides_trans, Divides-int_div, one-Divides, *ℤ-Divides, positive_divisor}
 use Rattle.md_math.proofs.Order.{positive-*ℤ, positive_from_*ℤ}
 use Rattle.md_math.proofs.Ring.{*ℤ-one}
 use Rattle.md_math.proofs.SizeLaws.{AllWithin-number_at, AllWithin-set, AllWithin-wider, IsWithin-sub, IsWithin-wider}
@@ -20,7 +20,6 @@ use Rattle.md_dict.specs.Fill.{EndsInZeros}
 use Rattle.md_dict.specs.Reduce.{AreDivided, AreHalves, AreShort, IsAttempt, IsDivided, IsGreatestSize, IsOver, IsUndivided, KeepsSizes}
 use Rattle.md_dict.proofs.NewNumbers.{above_quotient, factor_size}
 use Rattle.md_dict.proofs.Reading.{product_small}
-use Rattle.md_dict.proofs.StepDivisor.{positive_divisor}
 use Rattle.md_dict.proofs.Guessing.{EndsInZeros-or}
 
 -- ---- how a number is made
@@ -28,8 +27,8 @@ use Rattle.md_dict.proofs.Guessing.{EndsInZeros-or}
 pub combined_beside : (c : Combination) (own taken : List ℤ) (s : ℕ) → s ≢ c.place → combined c own taken s ≡ c.multiplier *ℤ number_at own s -ℤ c.factor *ℤ number_at taken s
 combined_beside c own taken s o = rw (ne_eqb s c.place o) refl
 
-pub combined_here : (c : Combination) (own taken : List ℤ) → combined c own taken c.place ≡ c.multiplier *ℤ c.leaving -ℤ c.factor *ℤ c.pivot_den
-combined_here c own taken = rw (eq-eqb c.place c.place refl) refl
+pub combined_here : (c : Combination) (own taken : List ℤ) (s : ℕ) → s ≡ c.place → combined c own taken s ≡ c.multiplier *ℤ c.leaving -ℤ c.factor *ℤ c.pivot_den
+combined_here c own taken s e = rw (eq-eqb s c.place e) refl
 
 -- ---- what is written
 

@@ -7,12 +7,13 @@ use Rattle.md_math.specs.Lists.{number_at}
 use Rattle.md_math.specs.Sizes.{IsWithin}
 use Rattle.md_math.proofs.Order.{*ℤ_cancel}
 use Rattle.md_math.proofs.Ring.{linear}
+use Rattle.md_math.proofs.Bits.{read_result}
 use Rattle.md_dict.specs.declared.step.Step.{Step}
 use Rattle.md_dict.specs.declared.rows.Rows.{Rows}
 use Rattle.md_dict.specs.Step.{number_in}
 use Rattle.md_dict.specs.Fill.{Leaves}
 use Rattle.md_dict.specs.Rows.{own_number}
-use Rattle.md_dict.proofs.Reading.{cross_of_small, read_result, read_short, read_small}
+use Rattle.md_dict.proofs.Reading.{cross_of_small, read_short, read_small}
 
 -- ---- one row
 

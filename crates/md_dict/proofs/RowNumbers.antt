@@ -9,7 +9,7 @@ use Rattle.md_dict.proofs.RowLaws.{kept_within}
 use Rattle.md_dict.proofs.Writing.{place_inside}
 
 -- a place of the step is one of the rows
-row_place : (step : Step) (rows : Rows) (s : ℕ) → IsRowStep step rows → s < step.columns + 1 → s < rows.width
+pub row_place : (step : Step) (rows : Rows) (s : ℕ) → IsRowStep step rows → s < step.columns + 1 → s < rows.width
 row_place step rows s h b = let w = h.width in omega (arith, w)
 
 pub number_inside : (step : Step) (rows : Rows) (i s : ℕ) → IsRowStep step rows → i < step.rows + 2 → s < step.columns + 1 → i * rows.width + s < length rows.numbers.items

@@ -1,16 +1,16 @@
 -- A pivot of rows that stand over denominators of their own: what each kind of row becomes, and when the table is too wide.
-use Rattle.std.proofs.Common.{◌≡◌, ◌≢◌, ℕ, ◌+◌, ◌*◌, ◌^◌, ◌<◌, ◌≤◌, ◌==◌, ◌&&◌, nat_le, Bool, true, false, if◌then◌else◌, List, length, ℤ, pos, ◌-ℤ◌, ◌*ℤ◌, neg_ℤ, ◌<ℤ◌, unsigned_abs, refl, sym, ap, ap₂, ◌∙◌, subst, inl, inr, arith, ne_eqb, eq-eqb, mul-le-mul}
+use Rattle.std.proofs.Common.{◌≡◌, ◌≢◌, ℕ, ◌+◌, ◌*◌, ◌^◌, ◌<◌, ◌≤◌, List, length, ℤ, pos, ◌-ℤ◌, ◌*ℤ◌, ◌<ℤ◌, unsigned_abs, refl, sym, ap, ap₂, ◌∙◌, subst, inl, inr, arith, ne_eqb, eq-eqb, mul-le-mul}
 use Rattle.std.proofs.lemmas.Bool.{cases_eq}
 use Rattle.std.proofs.lemmas.Int.{ints, unsigned_abs-mul}
 use Rattle.std.proofs.Math.Nat as NatL
 use Rattle.md_math.specs.Lists.{number_at}
 use Rattle.md_math.specs.Sizes.{IsWithin, AllWithin}
 use Rattle.md_math.specs.Divisors.{Divides, IsCommonDivisor}
-use Rattle.md_math.proofs.Division.{Divides_trans}
+use Rattle.md_math.proofs.Division.{Divides_trans, positive_divisor}
 use Rattle.md_math.proofs.Gcds.{gcd_of_two, family_gcd}
 use Rattle.md_math.proofs.Order.{positive-*ℤ, positive_from_*ℤ}
 use Rattle.md_math.proofs.Ring.{linear, ring, *ℤ-zero}
-use Rattle.md_math.proofs.SizeLaws.{AllWithin-number_at, IsWithin-neg_ℤ, IsWithin-zero}
+use Rattle.md_math.proofs.SizeLaws.{AllWithin-number_at}
 use Rattle.md_dict.specs.declared.step.Step.{Step}
 use Rattle.md_dict.specs.declared.rows.Rows.{Rows}
 use Rattle.md_dict.specs.declared.combination.Combination.{Combination}
@@ -21,20 +21,18 @@ use Rattle.md_dict.specs.Rows.{kept_of, own_den, own_number, share_of, IsLeastRo
 use Rattle.md_dict.specs.Multiples.{IsNewRow}
 use Rattle.md_dict.specs.Combination.{combined, combined_den, DividesCombination, IsCombination, IsInLeastTerms, IsTooWideRow}
 use Rattle.md_dict.specs.RowStep.{IsRowStep, IsOwnRow, IsCombinationOf}
-use Rattle.md_dict.proofs.RawPivot.{basic_own, basic_other, scaled_basic}
-use Rattle.md_dict.proofs.StepDivisor.{raw_apart, positive_divisor}
+use Rattle.md_dict.proofs.RawPivot.{basic_own, basic_other, scaled_basic, basic_within}
+use Rattle.md_dict.proofs.StepDivisor.{raw_apart}
 use Rattle.md_dict.proofs.NewNumbers.{old_number-here, old_number-beside, quotient_above}
 use Rattle.md_dict.proofs.RowLaws.{kept_at, positive_share}
+use Rattle.md_dict.proofs.Reducing.{combined_here, combined_beside}
+use Rattle.md_dict.proofs.RowNumbers.{row_place}
 
 -- ---- the numbers before the pivot
 
 -- the numbers over the denominator of all rows
 abbrev table_of : Step → Rows → List ℤ
 table_of step rows = kept_of (step.rows + 2) rows
-
--- a place of the step is one of the rows
-in_row : (step : Step) (rows : Rows) (s : ℕ) → IsRowStep step rows → s < step.columns + 1 → s < rows.width
-in_row step rows s h b = let w = h.width in omega (arith, w)
 
 in_step : (step : Step) (rows : Rows) (s : ℕ) → IsRowStep step rows → s < rows.width → s < step.columns + 1
 in_step step rows s h b = let w = h.width in omega (arith, w)
@@ -49,7 +47,7 @@ place_in_row step rows h = let b : step.place < step.columns = h.pivot.table.pla
 pub number_in-rows : (step : Step) (rows : Rows) (i s : ℕ) → IsRowStep step rows → i < step.rows + 2 → s < step.columns + 1 → number_in step (table_of step rows) i s ≡ share_of rows i *ℤ own_number rows i s
 number_in-rows step rows i s h a b =
     ap (λ w. number_at (table_of step rows) (i * w + s)) (sym h.width)
-    ∙ kept_at (step.rows + 2) i s rows a (in_row step rows s h b)
+    ∙ kept_at (step.rows + 2) i s rows a (row_place step rows s h b)
 
 -- each share is positive
 pub share_positive : (step : Step) (rows : Rows) (i : ℕ) → IsRowStep step rows → i < step.rows + 2 → pos 0 <ℤ share_of rows i
@@ -133,7 +131,7 @@ IsNewRow-pivot step rows f h beside here = record {
           | inl same ↦
               subst (λ t. share_of rows step.row *ℤ f t ≡ old_number step (table_of step rows) step.row t) (sym same)
               (ap (λ z. share_of rows step.row *ℤ z) here ∙ sym (old_number-pivot_here step rows h))
-          | inr o ↦ ap (λ z. share_of rows step.row *ℤ z) (beside s (in_row step rows s h b) o) ∙ sym (old_number-own_beside step rows step.row s h row_in b o)
+          | inr o ↦ ap (λ z. share_of rows step.row *ℤ z) (beside s (row_place step rows s h b) o) ∙ sym (old_number-own_beside step rows step.row s h row_in b o)
         ]
 
 -- ---- a row that stays
@@ -164,19 +162,12 @@ IsNewRow-stays step rows i f h a other not_face zero same = record {
         elim (cases_eq s step.place) [
           | inl here ↦
               subst (λ t. share_of rows i *ℤ f t ≡ old_number step (table_of step rows) i t) (sym here)
-              (ap (λ z. share_of rows i *ℤ z) (same step.place (in_row step rows step.place h (place_in_row step rows h)) ∙ zero ∙ sym (basic_other step.rows step.columns step.row step.leaving i (own_den rows i) other (inl not_face)))
+              (ap (λ z. share_of rows i *ℤ z) (same step.place (row_place step rows step.place h (place_in_row step rows h)) ∙ zero ∙ sym (basic_other step.rows step.columns step.row step.leaving i (own_den rows i) other (inl not_face)))
               ∙ sym (old_number-own_here step rows i h a))
-          | inr o ↦ ap (λ z. share_of rows i *ℤ z) (same s (in_row step rows s h b)) ∙ sym (old_number-own_beside step rows i s h a b o)
+          | inr o ↦ ap (λ z. share_of rows i *ℤ z) (same s (row_place step rows s h b)) ∙ sym (old_number-own_beside step rows i s h a b o)
         ]
 
 -- ---- a row that is combined with the pivot row
-
--- the number of a combination at the place of the pivot, and beside it
-combined_here : (c : Combination) (own taken : List ℤ) (s : ℕ) → s ≡ c.place → combined c own taken s ≡ c.multiplier *ℤ c.leaving -ℤ c.factor *ℤ c.pivot_den
-combined_here c own taken s e = rw (eq-eqb s c.place e) refl
-
-pub combined_beside : (c : Combination) (own taken : List ℤ) (s : ℕ) → s ≢ c.place → combined c own taken s ≡ c.multiplier *ℤ number_at own s -ℤ c.factor *ℤ number_at taken s
-combined_beside c own taken s o = rw (ne_eqb s c.place o) refl
 
 -- what the combination is multiplied by to give the raw numbers
 abbrev unit_of : (step : Step) (rows : Rows) (i : ℕ) (common : ℤ) → ℤ
@@ -222,8 +213,8 @@ raw_combined step rows i s c own taken h b =
           ∙ ap (λ z. unit_of step rows i h.of.common *ℤ z) (sym (combined_here c own taken s (same ∙ sym h.of.place)))
       | inr o ↦
           raw_of_two step rows i s c own taken (number_at own s) (number_at taken s) h
-          (old_number-own_beside step rows i s h.is_step h.row_in b o ∙ ap (λ z. share_of rows i *ℤ z) (sym (h.own_row.numbers s (in_row step rows s h.is_step b))))
-          (old_number-own_beside step rows step.row s h.is_step (pivot_row_in step rows h.is_step) b o ∙ ap (λ z. share_of rows step.row *ℤ z) (sym (h.taken_row.numbers s (in_row step rows s h.is_step b))))
+          (old_number-own_beside step rows i s h.is_step h.row_in b o ∙ ap (λ z. share_of rows i *ℤ z) (sym (h.own_row.numbers s (row_place step rows s h.is_step b))))
+          (old_number-own_beside step rows step.row s h.is_step (pivot_row_in step rows h.is_step) b o ∙ ap (λ z. share_of rows step.row *ℤ z) (sym (h.taken_row.numbers s (row_place step rows s h.is_step b))))
           ∙ ap (λ z. unit_of step rows i h.of.common *ℤ z) (sym (combined_beside c own taken s (λ e. o (e ∙ h.of.place))))
     ]
 
@@ -344,15 +335,6 @@ IsWideFor-row step rows i c own taken is_step row_in of own_row taken_row wide =
     den_above = positive-*ℤ c.multiplier c.den (multiplier_positive step rows i c is_step of) (subst (λ z. pos 0 <ℤ z) (sym of.den) (is_step.table.least i row_in).positive)
 
 -- ---- sizes
-
--- what a basic column holds is no larger than the denominator
-basic_within : (limit m n i column r : ℕ) (den : ℤ) → IsWithin limit den → IsWithin limit (basic_value m n den i column r)
-basic_within limit m n i column r den w = by_tests (r == i) ((r == m) && nat_le n column)
-  where
-    by_tests : (own face : Bool) → IsWithin limit (if own then den else (if face then neg_ℤ den else pos 0))
-    by_tests true face = w
-    by_tests false true = IsWithin-neg_ℤ limit den w
-    by_tests false false = IsWithin-zero limit
 
 -- the numbers of a row have 62 bits
 own_within : (step : Step) (rows : Rows) (i : ℕ) (own : List ℤ) → IsRowStep step rows → IsOwnRow rows i own → AllWithin (2 ^ 62) own

@@ -1,18 +1,10 @@
--- Divisors of positive numbers, and the raw numbers of a row from which the pivot row is not taken.
-use Rattle.std.proofs.Common.{◌≡◌, ℕ, ◌<◌, List, ℤ, pos, ◌*ℤ◌, ◌≤ℤ◌, ◌<ℤ◌, unsigned_abs, refl, ne_eqb, arith}
+-- Divisibility by sizes, and the raw numbers of a row from which the pivot row is not taken.
+use Rattle.std.proofs.Common.{◌≡◌, ℕ, List, ℤ, pos, ◌*ℤ◌, ◌<ℤ◌, unsigned_abs, refl, ne_eqb, arith}
 use Rattle.md_math.specs.Divisors.{Divides, IsGcdOfTwo}
 use Rattle.md_math.proofs.Division.{Divides_refl}
 use Rattle.std.proofs.lemmas.Int.{ints}
-use Rattle.std.proofs.Math.Nat as NatL
 use Rattle.md_dict.specs.declared.step.Step.{Step}
 use Rattle.md_dict.specs.Step.{raw_number, old_number, multiplier_of, factor_of, IsApart}
-
--- what divides a positive number and is not negative is positive
-pub positive_divisor : (b g : ℤ) → pos 0 <ℤ b → Divides g b → pos 0 ≤ℤ g → pos 0 <ℤ g
-positive_divisor b g p h n =
-    let above : 0 < unsigned_abs b = omega (arith, ints) in
-    let size : 0 < unsigned_abs g = NatL.pos_of_dvd_of_pos h.divides above in
-    omega (arith, ints)
 
 -- divisibility is one of sizes
 pub Divides-sizes : (d x : ℤ) → Divides (pos (unsigned_abs d)) (pos (unsigned_abs x)) → Divides d x

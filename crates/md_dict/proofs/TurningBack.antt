@@ -11,7 +11,7 @@ use Rattle.md_dict.specs.Step.{number_in, IsTable}
 use Rattle.md_dict.specs.Combination.{IsReducedTo}
 use Rattle.md_dict.specs.RowStep.{CanBeTurnedBack, IsCombinationOf, IsOwnRow, IsRowStep}
 use Rattle.md_dict.proofs.Parts.{end_inside, within_part}
-use Rattle.md_dict.proofs.RowSteps.{combined_beside}
+use Rattle.md_dict.proofs.Reducing.{combined_beside}
 
 -- a difference of two products, each of whose factors is multiplied
 difference_times : (k m a f b : ℤ) → k *ℤ (m *ℤ a -ℤ f *ℤ b) ≡ (k *ℤ m) *ℤ a -ℤ (k *ℤ f) *ℤ b

@@ -1,14 +1,13 @@
 -- What the code reads of a condensed dictionary.
-use Rattle.std.proofs.Common.{◌≡◌, ℕ, ◌+◌, ◌-◌, ◌*◌, ◌^◌, ◌<◌, ◌≤◌, ◌==◌, ◌&&◌, nat_le, Bool, true, false, if◌then◌else◌, List, slice_index, slice_set, ℤ, pos, ◌*ℤ◌, neg_ℤ, ◌<ℤ◌, int_div, to_z, of_z, unsigned_abs, refl, sym, ap, ◌∙◌, subst, inl, inr, arith, eq-eqb, ne_eqb}
+use Rattle.std.proofs.Common.{◌≡◌, ℕ, ◌+◌, ◌-◌, ◌*◌, ◌^◌, ◌<◌, ◌≤◌, List, slice_index, slice_set, ℤ, pos, ◌*ℤ◌, ◌<ℤ◌, int_div, to_z, of_z, unsigned_abs, refl, sym, ap, ◌∙◌, subst, inl, inr, arith, eq-eqb, ne_eqb}
 use Rattle.std.proofs.lemmas.Bool.{cases_lt, cases_eq}
 use mir.Syntax.{w128}
 use Rattle.md_num.specs.Limits.{limit_of}
 use Rattle.md_math.specs.Sizes.{IsWithin}
-use Rattle.md_math.proofs.SizeLaws.{AllWithin-number_at, IsWithin-wider, IsWithin-neg_ℤ, IsWithin-zero}
+use Rattle.md_math.proofs.SizeLaws.{AllWithin-number_at, IsWithin-wider}
 use Rattle.md_math.proofs.Ring.{linear}
 use Rattle.md_dict.specs.declared.step.Step.{Step}
 use Rattle.md_dict.specs.Condensed.{Condensed, basic_at, kept_number, entry_at, IsShapedDictionary, TakesColumn}
-use Rattle.md_dict.specs.Dictionary.{basic_value}
 use Rattle.md_dict.specs.Pivot.{with_column}
 use Rattle.md_dict.specs.Wide.{IsNarrow}
 use Rattle.md_dict.specs.Step.{new_entry, IsStepDivisor, IsTable}
@@ -17,7 +16,7 @@ use Rattle.md_dict.specs.Exchange.{step_of, exchanged, IsExchange}
 use Rattle.md_dict.proofs.Reading.{read_small, read_wide}
 use Rattle.md_dict.proofs.Exchange.{limit_le, entry-right, entry-kept, entry-basic}
 use Rattle.md_dict.proofs.Exchanged.{IsReady-of, den_within}
-use Rattle.md_dict.proofs.RawPivot.{basic_other}
+use Rattle.md_dict.proofs.RawPivot.{basic_other, basic_within}
 
 -- the denominator
 pub read_den : (d : Condensed) → IsShapedDictionary d → to_z w128 (of_z w128 d.den) ≡ d.den
@@ -109,14 +108,6 @@ IsNarrow-shaped d h = record {
             ]
       ];
 }
-  where
-    basic_within : (limit m n k j i : ℕ) (den : ℤ) → IsWithin limit den → IsWithin limit (basic_value m n den k j i)
-    basic_within limit m n k j i den w = by_tests (i == k) ((i == m) && nat_le n j)
-      where
-        by_tests : (own face : Bool) → IsWithin limit (if own then den else (if face then neg_ℤ den else pos 0))
-        by_tests true face = w
-        by_tests false true = IsWithin-neg_ℤ limit den w
-        by_tests false false = IsWithin-zero limit
 
 -- a column that is basic, with a positive entry in a row, is the basic column of that row
 pub basic_already : (d : Condensed) (row column : ℕ) → IsShapedDictionary d → row < d.rows → column < d.columns → d.columns ≤ slice_index d.seat column → pos 0 <ℤ entry_at d row column → TakesColumn d d row column

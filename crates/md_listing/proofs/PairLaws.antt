@@ -3,7 +3,6 @@ use Rattle.std.proofs.Common.{◌≡◌, ◌≢◌, ℕ, zero, suc, ◌+◌, ◌
 use Rattle.std.proofs.lemmas.List.{take_more}
 use Rattle.std.proofs.lemmas.Bool.{cases_eq}
 use Rattle.std.proofs.lemmas.Int.{ints, to_z-of_z, fits_signed_from_abs}
-use lib.Signed.{mag}
 use mir.Syntax.{w128}
 use Rattle.md_math.specs.Sizes.{IsWithin}
 use Rattle.md_math.proofs.Builders.{up_to-same, up_to-more}
@@ -11,6 +10,7 @@ use Rattle.md_math.proofs.Ring.{linear}
 use Rattle.md_lp.specs.Program.{value_of}
 use Rattle.md_lp.specs.Shape.{HasPlaces, column_in}
 use Rattle.md_lp.specs.declared.term.Term.{Term}
+use Rattle.md_lp.proofs.SparseRows.{value_of-absent}
 use Rattle.md_num.specs.WholeText.{text_of}
 use Rattle.md_listing.specs.Listing.{pair_of, pair_at, pairs_of}
 
@@ -43,12 +43,6 @@ pairs_of-shorter (suc n) m f l h =
 abbrev pub none : Term
 none = record { column = 0; value = pos 0 }
 
-value_of-none : (terms : List Term) (j : ℕ) → ((k : ℕ) → k < length terms → column_in terms k ≢ j) → value_of terms j ≡ pos 0
-value_of-none [] j h = refl
-value_of-none (t ∷ terms) j h =
-    let rest : value_of terms j ≡ pos 0 = value_of-none terms j (λ k b. h (suc k) (omega arith)) in
-    rw (ne_eqb t.column j (h zero (omega arith)), rest) refl
-
 value_of-push : (terms : List Term) (t : Term) (j : ℕ) → value_of (terms ++ t ∷ []) j ≡ value_of terms j +ℤ (if t.column == j then t.value else pos 0)
 value_of-push [] t j = omega (arith, linear)
 value_of-push (first ∷ terms) t j = omega (arith, linear, value_of-push terms t j)
@@ -56,7 +50,7 @@ value_of-push (first ∷ terms) t j = omega (arith, linear, value_of-push terms 
 -- the terms before a place stand at lower columns
 value_of-before : (columns : ℕ) (terms : List Term) (k j : ℕ) → HasPlaces columns terms → k < length terms → column_in terms k ≤ j → value_of (take k terms) j ≡ pos 0
 value_of-before columns terms k j h b l =
-    value_of-none (take k terms) j (λ i a e.
+    value_of-absent (take k terms) j (λ i a e.
     let inside : i < k = omega (arith, length-take-le k terms (omega arith)) in
     let same : column_in (take k terms) i ≡ column_in terms i = ap (λ (t : Term). t.column) (get_or-take k terms i none inside) in
     let below : column_in terms i < column_in terms k = h.order.ascending i k inside b in
@@ -101,10 +95,6 @@ pair_of-number j z o = rw (ne_eqb (unsigned_abs z) 0 (λ q. o (zero_from z q))) 
 
 pub pair_of-zero : (j : ℕ) (z : ℤ) → z ≡ pos 0 → pair_of j z ≡ []
 pair_of-zero j z e = ap (pair_of j) e
-
--- a number of a call's result is read back from its bits
-pub read_result : (z : ℤ) → mag z < 2 ^ 127 → to_z w128 (of_z w128 z) ≡ z
-read_result z fits = to_z-of_z w128 z (record { sfits = fits })
 
 pub small_back : (z : ℤ) → IsWithin (2 ^ 44) z → to_z w128 (of_z w128 z) ≡ z
 small_back z h = to_z-of_z w128 z (fits_signed_from_abs w128 z (omega (arith, h.within)))

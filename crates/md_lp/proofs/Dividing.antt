@@ -10,13 +10,14 @@ use Rattle.md_math.specs.Sizes.{IsWithin, AllWithin}
 use Rattle.md_math.proofs.Ring.{linear, *ℤ-+ℤ, *ℤ-zero, zero-*ℤ, *ℤ_left_comm}
 use Rattle.md_math.proofs.Order.{*ℤ-le, le_from_*ℤ, *ℤ_cancel}
 use Rattle.md_math.proofs.Division.{quotient, Divides-zero}
+use Rattle.md_math.proofs.Gcds.{same_from_IsGcdOf}
 use Rattle.md_math.proofs.SumLaws.{dot-same, *ℤ-dot}
 use Rattle.md_lp.specs.declared.row_kind.RowKind.{RowKind}
 use Rattle.md_lp.specs.declared.row_kind.RowKind.TheVariants.{AtMost, Exact}
 use Rattle.md_lp.specs.declared.term.Term.{Term}
 use Rattle.md_lp.specs.Program.{Row, value_of, left_of, Keeps, HoldsAtPoint}
 use Rattle.md_lp.specs.Shape.{numbers_of, column_in, HasPlaces, IsShapedRow}
-use Rattle.md_lp.specs.Divided.{IsDivisorFor, value_in, IsDividedTerms, IsDividedRow, IsDividedList, HasSamePoints}
+use Rattle.md_lp.specs.Divided.{IsDivisorFor, value_in, IsDividedTerms, IsDividedRow, IsDividedList, HasSamePoints, AllZero}
 use Rattle.md_lp.proofs.SparseRows.{no_term, share}
 use Rattle.md_lp.proofs.ShapeLaws.{right_size, value_sizes, number_at-term, AllWithin-numbers_of}
 
@@ -43,6 +44,23 @@ IsDivisorFor-positive n f g (inr h) = (let e : g ≡ pos 1 = h.1 in omega (arith
 pub IsDivisorFor-divides : (n : ℕ) (f : ℕ → ℤ) (g : ℤ) → IsDivisorFor n f g → (k : ℕ) → k < n → Divides g (f k)
 IsDivisorFor-divides n f g (inl h) k b = h.0.common.at k b
 IsDivisorFor-divides n f g (inr h) k b = subst (Divides g) (sym (h.0.zero k b)) (Divides-zero g)
+
+-- numbers with a positive greatest common divisor are not all 0
+not_all_zero : (n : ℕ) (f : ℕ → ℤ) (g : ℤ) → IsGcdOf n f g → pos 0 <ℤ g → AllZero n f → ⊥
+not_all_zero n f g h above zeros =
+    let none : g ≡ pos 0 = zero-Divides g (h.greatest (pos 0) (record { at = λ k l. subst (Divides (pos 0)) (sym (zeros.zero k l)) (Divides-zero (pos 0)) })) in
+    absurd (omega (arith, ints, none, above))
+
+-- numbers have one such divisor
+pub IsDivisorFor-same : (n : ℕ) (f : ℕ → ℤ) (g h : ℤ) → IsDivisorFor n f g → IsDivisorFor n f h → g ≡ h
+IsDivisorFor-same n f g h (inl a) (inl b) = same_from_IsGcdOf n f g h a.0 b.0
+IsDivisorFor-same n f g h (inl a) (inr b) = absurd (not_all_zero n f g a.0 a.1 b.0)
+IsDivisorFor-same n f g h (inr a) (inl b) = absurd (not_all_zero n f h b.0 b.1 a.0)
+IsDivisorFor-same n f g h (inr a) (inr b) = a.1 ∙ sym b.1
+
+-- what one divisor leaves of one number is the same
+pub same_quotient : (g h a b z : ℤ) → pos 0 <ℤ g → g ≡ h → z ≡ g *ℤ a → z ≡ h *ℤ b → a ≡ b
+same_quotient g h a b z above same left right = *ℤ_cancel g a b above (sym left ∙ right ∙ ap (λ k. k *ℤ b) (sym same))
 
 -- ---- sizes
 
@@ -83,7 +101,7 @@ value_of-times g (r ∷ raw) (t ∷ terms) j h =
 
 -- ---- points
 
-Keeps-times : (kind : RowKind) (g left right : ℤ) → pos 0 <ℤ g → Keeps kind (g *ℤ left) (g *ℤ right) ↔ Keeps kind left right
+pub Keeps-times : (kind : RowKind) (g left right : ℤ) → pos 0 <ℤ g → Keeps kind (g *ℤ left) (g *ℤ right) ↔ Keeps kind left right
 Keeps-times AtMost g left right p = (λ h. le_from_*ℤ g left right p h, λ h. *ℤ-le g left right (omega (arith, linear)) h)
 Keeps-times Exact g left right p = (λ h. *ℤ_cancel g left right p h, λ h. ap (λ z. g *ℤ z) h)
 

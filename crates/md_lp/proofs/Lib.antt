@@ -10,3 +10,4 @@ pub mod SumSizes
 pub mod RowRuns
 pub mod StoredRuns
 pub mod ColumnRuns
+pub mod SamePrograms

@@ -3,11 +3,11 @@ use Rattle.std.proofs.Common.{◌≡◌, ℕ, ◌+◌, ◌-◌, ◌*◌, ◌^◌
 use mir.Syntax.{w128}
 use Rattle.md_math.specs.Lists.{number_at}
 use Rattle.md_math.specs.Sizes.{IsWithin, AllWithin}
+use Rattle.md_math.proofs.Bits.{read_within}
 use Rattle.md_lp.specs.declared.stored_term.StoredTerm.{StoredTerm}
 use Rattle.md_lp.specs.Runs.{AddsRow}
 use Rattle.md_lp.specs.Shape.{column_in, IsAscending}
 use Rattle.md_lp.specs.Stored.{kept_column, kept_value, shown_terms}
-use Rattle.md_lp.proofs.Bits.{small_back}
 use Rattle.md_lp.proofs.SparseRows.{no_term}
 use Rattle.md_lp.proofs.StoredTerms.{no_stored, at_shown, column_in-shown, value-shown, length-shown}
 use Rattle.md_lp.proofs.RowRuns.{AddsSoFar, AddsSoFar-more, AddsRow-past, run_room}
@@ -21,7 +21,7 @@ module _ (terms : List StoredTerm) (i first : ℕ) (weight : ℤ) (old new : Lis
     step_room = rw (at_shown terms i) at (run_room (shown_terms terms) i first weight old new (kept_column (get_or terms i no_stored) - first) ascending values small room h inside c)
 
     pub sum_back : to_z w128 (of_z w128 (number_at new (kept_column (get_or terms i no_stored) - first))) ≡ number_at new (kept_column (get_or terms i no_stored) - first)
-    sum_back = small_back (2 ^ 126) (number_at new (kept_column (get_or terms i no_stored) - first)) (record { within = omega (arith, step_room) }) (lit< tt)
+    sum_back = read_within (2 ^ 126) (number_at new (kept_column (get_or terms i no_stored) - first)) (record { within = omega (arith, step_room) }) (lit< tt)
 
   pub step_more : (sum : ℤ) → first ≤ column_in (shown_terms terms) i → sum ≡ number_at new (kept_column (get_or terms i no_stored) - first) +ℤ kept_value (get_or terms i no_stored) *ℤ weight → AddsSoFar (shown_terms terms) (i + 1) first weight old (set new (kept_column (get_or terms i no_stored) - first) sum)
   step_more sum from e =

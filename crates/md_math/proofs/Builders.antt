@@ -1,9 +1,9 @@
 -- Lists that grow at their end, place by place.
-use Rattle.std.proofs.Common.{◌≡◌, ℕ, zero, suc, ◌+◌, ◌*◌, ◌<◌, List, [], ◌∷◌, ◌++◌, length, get_or, map, All, refl, sym, ap, ap₂, subst, ◌∙◌, arith, inl, inr, add-one, append_assoc, append-nil, length-append}
+use Rattle.std.proofs.Common.{◌≡◌, ℕ, zero, suc, ◌+◌, ◌*◌, ◌<◌, List, [], ◌∷◌, ◌++◌, length, get_or, map, All, refl, sym, ap, ap₂, subst, ◌∙◌, arith, inl, inr, add-one, append_assoc, append-nil, length-append, ℤ, pos, ◌-◌}
 use Rattle.std.proofs.lemmas.Bool.{cases_lt}
-use Rattle.std.proofs.lemmas.List.{get_or_append_left, get_or-append-add, get_or_push, length_push, map-append, ext_get_or}
+use Rattle.std.proofs.lemmas.List.{get_or_append_left, get_or-append-add, get_or_push, length_push, map-append, ext_get_or, get_or-append_right}
 use Rattle.std.proofs.lemmas.List.Elements.{All-append, All-push, All-nil}
-use Rattle.md_math.specs.Lists.{list_to, up_to}
+use Rattle.md_math.specs.Lists.{list_to, up_to, number_at}
 
 -- ---- one element for each place
 
@@ -114,3 +114,13 @@ get_or-up_to n m i j f d h b c =
     ∙ get_or_append_left (up_to i f ++ f i) rest d (i * m + j) inside
     ∙ ap (λ p. get_or (up_to i f ++ f i) (p + j) d) (sym before)
     ∙ get_or-append-add (up_to i f) (f i) j d
+
+-- ---- lists that grow
+
+pub push-list : {X : Type 0} → (old now new : List X) (k : ℕ) (f : ℕ → X) (v : X) → now ≡ old ++ list_to k f → new ≡ now ++ v ∷ [] → v ≡ f k → new ≡ old ++ list_to (k + 1) f
+push-list old now new k f v before pushed value =
+    pushed ∙ ap (λ xs. xs ++ v ∷ []) before ∙ append_assoc old (list_to k f) (v ∷ []) ∙ ap (λ x. old ++ (list_to k f ++ x ∷ [])) value ∙ ap (λ xs. old ++ xs) (sym (list_to-more k f))
+
+-- the number behind a list of this length
+pub number_at-behind : (xs ys : List ℤ) (n k : ℕ) → length xs ≡ n → number_at (xs ++ ys) (n + k) ≡ number_at ys k
+number_at-behind xs ys n k e = get_or-append_right xs ys n (n + k) (pos 0) e (omega arith) ∙ ap (number_at ys) (let f : n + k - n ≡ k = omega arith in f)

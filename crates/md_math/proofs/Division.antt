@@ -88,3 +88,10 @@ pub same_from_Divides : (a b : ℤ) → pos 0 ≤ℤ a → pos 0 ≤ℤ b → Di
 same_from_Divides a b p q h k =
     let e : unsigned_abs a ≡ unsigned_abs b = NatL.dvd_antisymm h.divides k.divides in
     omega (arith, ints)
+
+-- what divides a positive number and is not negative is positive
+pub positive_divisor : (b g : ℤ) → pos 0 <ℤ b → Divides g b → pos 0 ≤ℤ g → pos 0 <ℤ g
+positive_divisor b g p h n =
+    let above : 0 < unsigned_abs b = omega (arith, ints) in
+    let size : 0 < unsigned_abs g = NatL.pos_of_dvd_of_pos h.divides above in
+    omega (arith, ints)

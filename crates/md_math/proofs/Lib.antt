@@ -1,3 +1,4 @@
+pub mod Bits
 pub mod Builders
 pub mod Division
 pub mod FirstFailures

@@ -1,5 +1,5 @@
 -- The order of signed numbers, and how products keep it.
-use Rattle.std.proofs.Common.{◌≡◌, ℕ, ◌*◌, ◌<◌, ℤ, pos, negsuc, ◌-ℤ◌, ◌*ℤ◌, neg_ℤ, ◌≤ℤ◌, ◌<ℤ◌, ◌⊎◌, inl, inr, sym, ◌∙◌, arith, mul-pos}
+use Rattle.std.proofs.Common.{◌≡◌, ℕ, ◌*◌, ◌<◌, ℤ, pos, negsuc, ◌-ℤ◌, ◌*ℤ◌, neg_ℤ, ◌≤ℤ◌, ◌<ℤ◌, ◌⊎◌, inl, inr, sym, ◌∙◌, arith, mul-pos, Bool, true, false, if◌then◌else◌}
 use Rattle.std.proofs.lemmas.Int.{ints, by_lt_z}
 use Rattle.md_math.proofs.Ring.{linear, ring}
 
@@ -81,3 +81,13 @@ zero_from_*ℤ c a h k = *ℤ_cancel c a (pos 0) h (k ∙ sym (simp ring))
 -- a number with its size
 pub positive_pos : (n : ℕ) → 0 < n → pos 0 <ℤ pos n
 positive_pos n h = omega (arith, ints)
+
+-- ---- numbers that count where a test holds
+
+pub chosen-nonneg : (b : Bool) (z : ℤ) → pos 0 ≤ℤ z → pos 0 ≤ℤ (if b then z else pos 0)
+chosen-nonneg true z h = h
+chosen-nonneg false z h = omega (arith, ints)
+
+pub chosen-le : (b : Bool) (z : ℤ) → pos 0 ≤ℤ z → (if b then z else pos 0) ≤ℤ z
+chosen-le true z h = omega (arith, ints)
+chosen-le false z h = h

@@ -1,5 +1,5 @@
 -- How large sums and products are.
-use Rattle.std.proofs.Common.{◌≡◌, ℕ, zero, suc, ◌+◌, ◌*◌, ◌^◌, ◌<◌, ◌≤◌, ℤ, pos, ◌+ℤ◌, ◌-ℤ◌, ◌*ℤ◌, neg_ℤ, ◌≤ℤ◌, List, [], ◌∷◌, ◌++◌, length, get_or, set, sym, ap, ◌∙◌, subst, arith, mul-le-mul, FitsSigned, inl, inr, length-set, get_or-set_same, get_or-set_other}
+use Rattle.std.proofs.Common.{◌≡◌, ℕ, zero, suc, ◌+◌, ◌*◌, ◌^◌, ◌<◌, ◌≤◌, ℤ, pos, ◌+ℤ◌, ◌-ℤ◌, ◌*ℤ◌, neg_ℤ, ◌≤ℤ◌, List, [], ◌∷◌, ◌++◌, length, get_or, set, sym, ap, ◌∙◌, subst, arith, mul-le-mul, FitsSigned, inl, inr, length-set, get_or-set_same, get_or-set_other, unsigned_abs}
 use Rattle.std.proofs.lemmas.Int.{ints, unsigned_abs-mul, fits_signed_from_abs}
 use Rattle.std.proofs.lemmas.Bool.{cases_lt, cases_eq}
 use Rattle.std.proofs.lemmas.List.{get_or_append_left, length_push, get_or_push, get_or_past}
@@ -35,8 +35,16 @@ IsWithin-sub m n x y h k = record { within = omega (arith, ints, h.within, k.wit
 pub IsWithin-neg_ℤ : (m : ℕ) (x : ℤ) → IsWithin m x → IsWithin m (neg_ℤ x)
 IsWithin-neg_ℤ m x h = record { within = omega (arith, ints, h.within) }
 
+-- the difference of two numbers that are at least 0
+pub IsWithin-difference : (limit : ℕ) (x y : ℤ) → pos 0 ≤ℤ x → pos 0 ≤ℤ y → IsWithin limit x → IsWithin limit y → IsWithin limit (x -ℤ y)
+IsWithin-difference limit x y p q h k = record { within = omega (arith, ints, p, q, h.within, k.within) }
+
 pub IsWithin-*ℤ : (m n : ℕ) (x y : ℤ) → IsWithin m x → IsWithin n y → IsWithin (m * n) (x *ℤ y)
 IsWithin-*ℤ m n x y h k = record { within = rw unsigned_abs-mul (mul-le-mul h.within k.within) }
+
+-- a number within the limit is not above it
+pub not_above : (limit : ℕ) (x y : ℤ) → x ≡ y → IsWithin limit x → limit < unsigned_abs y → ⊥
+not_above limit x y e h l = (let k : IsWithin limit y = subst (IsWithin limit) e h in let w : unsigned_abs y ≤ limit = k.within in omega arith)
 
 -- a number within a limit below the width's fits
 pub fits_from_IsWithin : (w : Width) (limit : ℕ) (z : ℤ) → IsWithin limit z → limit < 2 ^ hbits w → FitsSigned w z

@@ -16,7 +16,7 @@ use Rattle.md_mech.specs.declared.mechanism.Mechanism.{Mechanism}
 use Rattle.md_mech.specs.Utility.{utility_as, expected_utility, weighted_given, average_term, marginal_term}
 use Rattle.md_mech.proofs.RowLaws.{given-same}
 use Rattle.md_mech.proofs.UtilityLaws.{expected-within}
-use Rattle.md_mech.proofs.Reading.{partial_small}
+use Rattle.md_mech.proofs.UtilitySizes.{partial_small}
 
 -- an average is a sum over ranks
 pub average-by_rank : (s : GeneralSetting) (m : Mechanism) (i a b : ℕ)

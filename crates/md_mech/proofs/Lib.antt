@@ -3,7 +3,7 @@ pub mod WholeLaws
 pub mod MadeLaws
 pub mod ScanLaws
 pub mod UtilityLaws
-pub mod Reading
+pub mod UtilitySizes
 pub mod AverageLaws
 pub mod PlaceLaws
 pub mod NameLaws

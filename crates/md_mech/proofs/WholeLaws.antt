@@ -1,16 +1,11 @@
 -- What is left of a whole as numbers are taken away from it.
-use Rattle.std.proofs.Common.{◌≡◌, ℕ, ◌+◌, ◌<◌, ℤ, pos, ◌≤ℤ◌, ◌<ℤ◌, arith, true, false, to_z, of_z, inl, inr}
+use Rattle.std.proofs.Common.{◌≡◌, ℕ, ◌+◌, ◌<◌, ℤ, pos, ◌≤ℤ◌, ◌<ℤ◌, arith, true, false, inl, inr}
 use Rattle.std.specs.Prelude.{◌-ℤ◌}
-use Rattle.std.proofs.lemmas.Int.{ints, to_z-of_z}
-use lib.Signed.{mag}
-use mir.Syntax.{w128}
+use Rattle.std.proofs.lemmas.Int.{ints}
 use Rattle.md_math.specs.Sums.{sum_to}
 use Rattle.md_math.proofs.SumLaws.{sum_to-more}
 use Rattle.md_math.proofs.Order.{lt_or_le}
 use Rattle.md_math.proofs.Prefixes.{sum_to-prefix}
-
-pub read_result : (z : ℤ) → mag z < 170141183460469231731687303715884105728 → to_z w128 (of_z w128 z) ≡ z
-read_result z fits = to_z-of_z w128 z (record { sfits = fits })
 
 pub not_both : {P : Type 0} → false ≡ true → P
 not_both h = cc

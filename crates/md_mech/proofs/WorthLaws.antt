@@ -1,5 +1,5 @@
 -- What the designer gets, added up profile by profile, and how large it can become.
-use Rattle.std.proofs.Common.{◌≡◌, ◌<◌, ◌≤◌, ◌+◌, ◌*◌, ◌^◌, ℕ, ℤ, pos, ◌*ℤ◌, ◌≤ℤ◌, ◌<ℤ◌, Bool, true, false, slice_index, arith, unsigned_abs, mul-le-mul, le_refl, length}
+use Rattle.std.proofs.Common.{◌≡◌, ◌<◌, ◌≤◌, ◌+◌, ◌*◌, ◌^◌, ℕ, ℤ, pos, ◌*ℤ◌, ◌≤ℤ◌, ◌<ℤ◌, slice_index, arith, unsigned_abs, mul-le-mul, le_refl, length}
 use Rattle.std.specs.Prelude.{◌==◌, if◌then◌else◌}
 use Rattle.std.proofs.lemmas.Int.{ints}
 use Rattle.std.proofs.lemmas.List.{length-map}
@@ -7,6 +7,7 @@ use Rattle.md_math.specs.Sizes.{IsWithin}
 use Rattle.md_math.specs.Sums.{sum_to}
 use Rattle.md_math.proofs.SizeLaws.{AllWithin-number_at, dot-within, sum_to-within, IsWithin-+ℤ, IsWithin-*ℤ, IsWithin-wider}
 use Rattle.md_math.proofs.TotalLaws.{total_by-le}
+use Rattle.md_math.proofs.Order.{chosen-le}
 use Rattle.md_space.specs.Profiles.{profile_count, profile_at}
 use Rattle.md_space.specs.AllProfiles.{profiles_of}
 use Rattle.md_space.proofs.Ranks.{profile_at-IsProfile}
@@ -71,10 +72,6 @@ worth-within s m k accepted shaped fits =
     (shaped.weight (profile_at (sizes_of s) r) (profile_at-IsProfile (sizes_of s) r (omega (arith, l, fits)))).within
     (objective-within s m r accepted shaped (omega (arith, l, fits)))))
 
-part-le : (b : Bool) (w : ℤ) → pos 0 ≤ℤ w → (if b then w else pos 0) ≤ℤ w
-part-le true w h = omega (arith, ints)
-part-le false w h = h
-
 -- the weight of all profiles is positive
 pub total-positive : (s : GeneralSetting) → IsShaped s → pos 0 <ℤ total_of s
 total-positive s shaped =
@@ -82,5 +79,5 @@ total-positive s shaped =
     let part : pos 0 <ℤ marginal_of s 0 0 = shaped.marginal 0 0 some (shaped.listed.space.some_type 0 0 shaped.listed.space.some_agent) in
     let whole : marginal_of s 0 0 ≤ℤ total_of s =
     total_by-le (λ t. if slice_index t 0 == 0 then weight_of s t else pos 0) (weight_of s) (profiles_of (sizes_of s))
-    (λ k d h. part-le _ (weight_of s _) (shaped.weight _ (All-profiles_of (sizes_of s) k d h)).nonneg) in
+    (λ k d h. chosen-le _ (weight_of s _) (shaped.weight _ (All-profiles_of (sizes_of s) k d h)).nonneg) in
     omega (arith, ints, part, whole)

@@ -1,3 +1,3 @@
 mod Decimals
 mod Reduction
-mod Texts
+pub mod Texts

@@ -13,9 +13,10 @@ use Rattle.md_simplex.specs.declared.step.Step.TheVariants as steps
 use Rattle.md_simplex.specs.Rules.{HasNext, IsNext}
 use Rattle.md_simplex.specs.Runs.{BeginsPath, basis_of}
 use Rattle.md_simplex.proofs.PathLaws.{path_from, path_more}
+use Rattle.md_simplex.proofs.WalkLaws.{sized}
 use Rattle.md_replay.specs.Replay.{IsFollowed}
 use Rattle.md_replay.specs.Standing.{IsAt}
-use Rattle.md_replay.proofs.StandingLaws.{at_dictionary, sized}
+use Rattle.md_replay.proofs.StandingLaws.{at_dictionary}
 
 pub followed_first : (p : Program) → IsFollowed p [] 0
 followed_first p = record { inside = omega arith; path = tt; leaves = λ b. absurd (omega arith) }

@@ -5,6 +5,7 @@ use Rattle.std.proofs.lemmas.Int.{ints}
 use Rattle.std.proofs.lemmas.List.{ext_get_or, take-append-drop, take-take}
 use Rattle.md_math.specs.Lists.{number_at}
 use Rattle.md_math.specs.Sizes.{IsWithin}
+use Rattle.md_math.proofs.SizeLaws.{not_above}
 use Rattle.md_lp.specs.Program.{Program, row_count}
 use Rattle.md_lp.specs.declared.entry.Entry.{Entry}
 use Rattle.md_lp.specs.declared.pivot.Pivot.{Pivot}
@@ -20,17 +21,10 @@ use Rattle.md_replay.specs.declared.outcome.Replay.{Replay}
 use Rattle.md_replay.specs.declared.outcome.ReplayError.{ReplayError}
 use Rattle.md_replay.specs.declared.outcome.ReplayError.TheVariants as errors
 use Rattle.md_replay.specs.Replay.{AllLawful, AreBasesTold, HasEnded, IsBasisTold, IsFollowed, IsGreatestEntry, IsLawful, IsLawless, IsReplay, Refuses, TellsNumber}
-use Rattle.md_replay.proofs.PivotLists.{AllBefore-at, AllLawful-at, IsLonger, compared}
-
--- an entry within the limit is not above it
-not_above : (limit : ℕ) (x y : ℤ) → x ≡ y → IsWithin limit x → limit < unsigned_abs y → ⊥
-not_above limit x y e h l = (let k : IsWithin limit y = subst (IsWithin limit) e h in let w : unsigned_abs y ≤ limit = k.within in omega arith)
+use Rattle.md_replay.proofs.PivotLists.{AllBefore-at, AllLawful-at, IsLonger, compared, same_head}
 
 same_sizes : (x y : ℤ) → pos 0 ≤ℤ x → pos 0 ≤ℤ y → unsigned_abs x ≡ unsigned_abs y → x ≡ y
 same_sizes x y a b e = omega (arith, ints)
-
-same_number : (x y : Pivot) (xs ys : List Pivot) → x ∷ xs ≡ y ∷ ys → x ≡ y
-same_number x y xs ys e = cc
 
 abbrev made : List ℤ → List ℤ → Option Entry → ℕ → Replay
 made dens greatest wide followed = record { dens = dens; greatest = greatest; wide = wide; followed = followed }
@@ -137,7 +131,7 @@ module _ (p : Program) where
     not_carried : (a : ℕ) (h : IsLawless p width listed a) (long : List Pivot) → IsLonger h.carried long (h.pivot ∷ h.more) → AllLawful p (first_basis p) long → ⊥
     not_carried a h long l lawful =
         let law : IsLawful p (basis_of p h.carried) l.head = AllLawful-at p (first_basis p) h.carried l.head l.tail (subst (λ (xs : List Pivot). AllLawful p (first_basis p) xs) l.long_is lawful) in
-        h.unlawful (subst (λ (q : Pivot). IsLawful p (basis_of p h.carried) q) (sym (same_number h.pivot l.head h.more l.others l.rest_is)) law)
+        h.unlawful (subst (λ (q : Pivot). IsLawful p (basis_of p h.carried) q) (sym (same_head h.pivot l.head h.more l.others l.rest_is)) law)
 
     not_lawless : (a : Replay) (n : ℕ) → IsReplay p width listed a → IsLawless p width listed n → ⊥
     not_lawless a n h k = elim (compared h.carried k.carried h.carried_out.rest (k.pivot ∷ k.more) (sym h.carried_out.front ∙ k.next)) [

@@ -7,10 +7,6 @@ use Rattle.md_replay.specs.Replay.{AllLawful, IsLawful}
 
 -- ---- one more
 
-pub AllBefore-more : (P : (ℕ → ℕ) → Type 0) (basis : ℕ → ℕ) (pivots : List Pivot) (q : Pivot) → AllBefore P basis pivots → P (basis_after basis pivots) → AllBefore P basis (pivots ++ q ∷ [])
-AllBefore-more P basis [] q h here = (here, tt)
-AllBefore-more P basis (first ∷ pivots) q h here = (h.0, AllBefore-more P (after basis first) pivots q h.1 here)
-
 pub AllLawful-more : (p : Program) (basis : ℕ → ℕ) (pivots : List Pivot) (q : Pivot) → AllLawful p basis pivots → IsLawful p (basis_after basis pivots) q → AllLawful p basis (pivots ++ q ∷ [])
 AllLawful-more p basis [] q h here = (here, tt)
 AllLawful-more p basis (first ∷ pivots) q h here = (h.0, AllLawful-more p (after basis first) pivots q h.1 here)
@@ -35,7 +31,7 @@ pub record IsLonger (short long rest : List Pivot) : Type 0 where
   pub long_is : long ≡ short ++ (head ∷ tail)
   pub rest_is : rest ≡ head ∷ others
 
-same_head : (x y : Pivot) (xs ys : List Pivot) → x ∷ xs ≡ y ∷ ys → x ≡ y
+pub same_head : (x y : Pivot) (xs ys : List Pivot) → x ∷ xs ≡ y ∷ ys → x ≡ y
 same_head x y xs ys e = cc
 
 same_tail : (x y : Pivot) (xs ys : List Pivot) → x ∷ xs ≡ y ∷ ys → xs ≡ ys

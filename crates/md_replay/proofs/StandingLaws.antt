@@ -1,8 +1,5 @@
 -- Where listed pivots stand: at the first basis, which pivots can be carried out there, and after one more.
-use Rattle.std.proofs.Common.{◌≡◌, ◌↔◌, IsTrue, Bool, ℕ, ◌+◌, ◌^◌, ◌<◌, ◌==◌, if◌then◌else◌, ℤ, pos, ◌<ℤ◌, ◌≤ℤ◌, List, [], ◌∷◌, ◌++◌, unsigned_abs, to_z, of_z, sym, ap, ◌∙◌, subst, arith}
-use Rattle.std.proofs.lemmas.Int.{to_z-of_z}
-use lib.Signed.{mag}
-use mir.Syntax.{w128}
+use Rattle.std.proofs.Common.{◌≡◌, ◌↔◌, IsTrue, Bool, ℕ, ◌+◌, ◌<◌, ℤ, pos, ◌<ℤ◌, ◌≤ℤ◌, List, [], ◌∷◌, ◌++◌, unsigned_abs, sym, ap, ◌∙◌, subst, arith}
 use Rattle.md_math.specs.Sizes.{IsWithin}
 use Rattle.md_lp.specs.Program.{Program, row_count}
 use Rattle.md_lp.specs.declared.entry.Entry.{Entry}
@@ -14,22 +11,19 @@ use Rattle.md_dict.specs.FirstTable.{column_count, first_basis, first_entry}
 use Rattle.md_dict.specs.Pivot.{with_column}
 use Rattle.md_dict.specs.Start.{IsStart}
 use Rattle.md_dict.specs.Wide.{IsNarrow, IsWideBasis}
-use Rattle.md_dict.proofs.Cancelling.{IsDictionary-same_basis}
+use Rattle.md_dict.proofs.Cancelling.{IsDictionary-same_basis, IsWideBasis-same_basis, with_column-same}
 use Rattle.md_dict.proofs.Uniqueness.{same_entries}
+use Rattle.md_dict.proofs.Values.{IsNarrow-shaped}
 use Rattle.md_simplex.specs.declared.order.Order.TheVariants.{Forward}
 use Rattle.md_simplex.specs.Path.{AllBefore}
 use Rattle.md_simplex.specs.Runs.{IsWideAt, IsWithinWidth, basis_of}
 use Rattle.md_simplex.proofs.PathLaws.{basis_after-append}
-use Rattle.md_simplex.proofs.Shaped.{IsNarrow-shaped}
+use Rattle.md_simplex.proofs.WalkLaws.{AllBefore-more, sized}
 use Rattle.md_replay.specs.Replay.{AllLawful, IsBasisTold, IsLawful}
 use Rattle.md_replay.specs.Standing.{CanPivot, IsAt}
-use Rattle.md_replay.proofs.PivotLists.{AllBefore-more, AllLawful-more}
+use Rattle.md_replay.proofs.PivotLists.{AllLawful-more}
 
 -- ---- the code's numbers
-
--- a number of a call's result is read back from its bits
-pub read_result : (z : ℤ) → mag z < 2 ^ 127 → to_z w128 (of_z w128 z) ≡ z
-read_result z fits = to_z-of_z w128 z (record { sfits = fits })
 
 pub can_pivot_of : (d : Condensed) (q : Pivot) (x : ℤ) → x ≡ entry_at d q.row q.column → q.row < d.rows → q.column < d.columns → (b : Bool) → (IsTrue b ↔ (pos 0 <ℤ x)) → IsTrue b ↔ CanPivot d q
 can_pivot_of d q x e row column b h = (
@@ -38,21 +32,6 @@ can_pivot_of d q x e row column b h = (
 )
 
 -- ---- a dictionary and its program
-
--- the sizes of the program in place of those of the dictionary
-pub sized : (p : Program) (d : Condensed) (C : ℕ → ℕ → Type 0) → Holds p d → C d.rows d.columns → C (row_count p) (column_count p)
-sized p d C h x = subst (λ n. C (row_count p) n) h.columns (subst (λ m. C m d.columns) h.rows x)
-
-with_column-same : (b c : ℕ → ℕ) (row column i : ℕ) → b i ≡ c i → with_column b row column i ≡ with_column c row column i
-with_column-same b c row column i e = ap (λ z. if i == row then column else z) e
-
-IsWideBasis-same_basis : (m n : ℕ) (t : ℕ → ℕ → ℤ) (limit : ℕ) (b c : ℕ → ℕ) (entry : Entry) → ((i : ℕ) → i < m → b i ≡ c i) → IsWideBasis m n t b limit entry → IsWideBasis m n t c limit entry
-IsWideBasis-same_basis m n t limit b c entry same h = record {
-  den = h.den;
-  table = h.table;
-  dictionary = IsDictionary-same_basis m n t b c h.den h.table same h.dictionary;
-  first = h.first;
-}
 
 pub IsAt-first : (p : Program) (width : ℕ) (d : Condensed) → IsStart p width d → IsAt p width [] d
 IsAt-first p width d h = record {

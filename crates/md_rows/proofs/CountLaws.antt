@@ -103,10 +103,6 @@ conditions-length s =
       singles (profile_count (sizes_of s)) (λ r. profile_row (profile_at (sizes_of s) r)),
     )
 
--- the number of agents, as a space tells it
-pub agents_are : (s : GeneralSetting) (n : ℕ) (sizes : List ℕ) → n ≡ length sizes → sizes ≡ sizes_of s → n ≡ agent_count s
-agents_are s n sizes count same = count ∙ ap length same ∙ agents-length s
-
 -- a program with the columns and no row has room for all conditions
 pub whole-room : (s : GeneralSetting) (p : Program) → IsShaped s → p.columns ≡ column_count s → p.rows ≡ [] → HasRoom s (rows_of s) p
 whole-room s p shaped columns none = record {

@@ -9,7 +9,6 @@ use Rattle.std.proofs.lemmas.List.Elements.{All-append, All-nil, All-get_or}
 use Rattle.md_math.specs.Lists.{number_at, list_to}
 use Rattle.md_math.specs.Sums.{sum_to}
 use Rattle.md_math.proofs.Builders.{length-list_to, length-up_to, All-up_to, All-left, All-right}
-use Rattle.md_math.proofs.Order.{*ℤ-le, le_from_*ℤ, *ℤ_cancel}
 use Rattle.md_math.proofs.Ring.{linear, *ℤ-zero, *ℤ-one, *ℤ-neg_ℤ, neg_ℤ-*ℤ, *ℤ-+ℤ, *ℤ_assoc, *ℤ_left_comm}
 use Rattle.md_math.proofs.SumLaws.{sum_to-same}
 use Rattle.md_math.proofs.TotalLaws.{total_by-same, total_by-sub, total_by-zero}
@@ -31,11 +30,10 @@ use Rattle.md_mech.specs.Admissible.{IsAdmissible}
 use Rattle.md_mech.specs.Optimal.{objective_at, worth_of}
 use Rattle.md_mech.specs.Rows.{Row as Condition, dominant_row, bayes_row, ex_post_row, interim_row, deficit_row, profile_row, IsKept, by_report, by_profile, by_type, truth_rows, rational_rows, deficit_rows, demand_rows, rows_of}
 use Rattle.md_mech.proofs.RowLaws.{all-by_profile, all-one, one-all, all-by_report, by_profile-at, admissible-kept, kept-admissible}
-use Rattle.md_lp.specs.declared.row_kind.RowKind.{RowKind}
 use Rattle.md_lp.specs.declared.row_kind.RowKind.TheVariants.{AtMost, Exact}
 use Rattle.md_lp.specs.Program.{Program, Row, row_at, left_of, Keeps, HoldsAtPoint}
 use Rattle.md_lp.specs.Point.{IsPoint, Meets}
-use Rattle.md_lp.proofs.Dividing.{IsDivisorFor-positive}
+use Rattle.md_lp.proofs.Dividing.{IsDivisorFor-positive, Keeps-times}
 use Rattle.md_rows.specs.Columns.{chance_column, first_plus, payment_in}
 use Rattle.md_rows.specs.Sides.{utility_in, gain_in, lack_in, left_side, right_side, kind_of, objective_in, cost_in}
 use Rattle.md_rows.specs.ProgramOf.{number_of, IsRowOf, AreRowsOf, IsProgramOf}
@@ -78,7 +76,7 @@ deficit-placed : (on : Bool) (s : GeneralSetting) → All (IsPlaced s) (deficit_
 deficit-placed true s = all-by_profile s (IsPlaced s) (λ t. deficit_row t ∷ []) (λ t profile. all-one (IsPlaced s) (deficit_row t) profile)
 deficit-placed false s = All-nil (IsPlaced s)
 
-conditions-placed : (s : GeneralSetting) → All (IsPlaced s) (rows_of s)
+pub conditions-placed : (s : GeneralSetting) → All (IsPlaced s) (rows_of s)
 conditions-placed s =
     All-append (IsPlaced s) (truth_rows s.truth s ++ rational_rows s.rational s ++ deficit_rows s.no_deficit s) (by_profile s (λ t. profile_row t ∷ []))
     (All-append (IsPlaced s) (truth_rows s.truth s ++ rational_rows s.rational s) (deficit_rows s.no_deficit s)
@@ -92,15 +90,11 @@ conditions-placed s =
 abbrev pub Holds : GeneralSetting → ℤ → (ℕ → ℤ) → Condition → Type 0
 Holds s den x c = Keeps (kind_of c) (left_side s c x) (den *ℤ right_side s c)
 
-keeps-times : (kind : RowKind) (g left right : ℤ) → pos 0 <ℤ g → Keeps kind (g *ℤ left) (g *ℤ right) ↔ Keeps kind left right
-keeps-times AtMost g left right p = (λ h. le_from_*ℤ g left right p h, λ h. *ℤ-le g left right (omega (arith, linear)) h)
-keeps-times Exact g left right p = (λ h. *ℤ_cancel g left right p h, λ h. ap (λ z. g *ℤ z) h)
-
 row-holds : (s : GeneralSetting) (c : Condition) (row : Row) (den : ℤ) (x : ℕ → ℤ) → IsRowOf s c row → HoldsAtPoint (column_count s) row den x ↔ Holds s den x c
 row-holds s c row den x r =
     let above : pos 0 <ℤ r.by = IsDivisorFor-positive (suc (column_count s)) (number_of s c) r.by r.divisor in
     let right : den *ℤ right_side s c ≡ r.by *ℤ (den *ℤ row.right) = ap (λ z. den *ℤ z) r.right ∙ *ℤ_left_comm den r.by row.right in
-    let both = keeps-times (kind_of c) r.by (left_of (column_count s) row x) (den *ℤ row.right) above in
+    let both = Keeps-times (kind_of c) r.by (left_of (column_count s) row x) (den *ℤ row.right) above in
     rw (r.kind, r.left x, right) (both.1, both.0)
 
 -- all rows hold exactly where all conditions' rows do

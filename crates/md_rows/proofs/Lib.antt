@@ -1,5 +1,4 @@
 pub mod RowForms
-pub mod Bits
 pub mod TermLaws
 pub mod ShareLaws
 pub mod FormLaws
@@ -8,3 +7,4 @@ pub mod CountLaws
 pub mod PointLaws
 pub mod Law
 pub mod CostLaws
+pub mod OneProgram

@@ -1,14 +1,13 @@
 -- A point and its mechanism say the same chances and payments, and so do a mechanism and its point.
-use Rattle.std.proofs.Common.{◌≡◌, ℕ, zero, suc, ◌+◌, ◌-◌, ◌*◌, ◌/◌, ◌%◌, ◌<◌, Bool, true, false, ℤ, pos, negsuc, ◌-ℤ◌, ◌≤ℤ◌, List, [], ◌∷◌, ◌++◌, length, All, refl, sym, ap, ◌∙◌, subst, arith, length-append, append_assoc}
+use Rattle.std.proofs.Common.{◌≡◌, ℕ, zero, suc, ◌+◌, ◌*◌, ◌/◌, ◌%◌, ◌<◌, Bool, true, false, ℤ, pos, negsuc, ◌-ℤ◌, ◌≤ℤ◌, List, [], ◌∷◌, ◌++◌, length, All, refl, sym, ap, ◌∙◌, subst, arith, length-append, append_assoc}
 use Rattle.std.proofs.lemmas.Int.{ints}
-use Rattle.std.proofs.lemmas.List.{length-map, get_or_append_left, get_or-append_right, append-nil}
+use Rattle.std.proofs.lemmas.List.{length-map, get_or_append_left, append-nil}
 use Rattle.std.proofs.lemmas.List.Elements.{All-append, All-nil, All-get_or, All-from_get_or}
 use Rattle.std.proofs.lemmas.Nat.{mul-add-lt, div_below, mod_below, div-add-mod'}
 use Rattle.md_math.specs.Lists.{number_at, list_to, up_to}
 use Rattle.md_math.specs.Sizes.{IsWithin, AllWithin}
-use Rattle.md_math.proofs.Builders.{length-list_to, list_to-same, get_or-list_to, list_to-get_or, All-list_to, up_to-same, length-up_to, All-up_to, get_or-up_to}
-use Rattle.md_math.proofs.Ring.{linear}
-use Rattle.md_math.proofs.SizeLaws.{AllWithin-number_at, IsWithin-high, IsWithin-from_bounds, IsWithin-zero}
+use Rattle.md_math.proofs.Builders.{length-list_to, list_to-same, get_or-list_to, list_to-get_or, All-list_to, up_to-same, length-up_to, All-up_to, get_or-up_to, number_at-behind}
+use Rattle.md_math.proofs.SizeLaws.{AllWithin-number_at, IsWithin-zero, IsWithin-difference}
 use Rattle.md_space.specs.Profiles.{IsProfile, profile_count, profile_at, rank_of}
 use Rattle.md_space.proofs.Ranks.{pos-factor, rank_of-below, profile_at-IsProfile, profile_at-rank_of, rank_of-profile_at}
 use Rattle.md_setting.specs.Setting.{GeneralSetting}
@@ -67,10 +66,6 @@ part-difference : (z : ℤ) → plus_part z -ℤ minus_part z ≡ z
 part-difference (pos n) = omega (arith, ints)
 part-difference (negsuc n) = omega (arith, ints)
 
--- the number behind a list of this length
-behind : (xs ys : List ℤ) (n k : ℕ) → length xs ≡ n → number_at (xs ++ ys) (n + k) ≡ number_at ys k
-behind xs ys n k e = get_or-append_right xs ys n (n + k) (pos 0) e (omega arith) ∙ ap (number_at ys) (let f : n + k - n ≡ k = omega arith in f)
-
 point-pay : (on : Bool) (s : GeneralSetting) (m : Mechanism) → s.payments ≡ on → IsMechanism s m → (i : ℕ) (t : List ℕ) → i < agent_count s → IsProfile (sizes_of s) t
     → payment_by on (number_at (m.chances ++ payment_parts on s m) (plus_column s i t)) (number_at (m.chances ++ payment_parts on s m) (minus_column s i t)) ≡ pay_of s m i t
 point-pay false s m off h i t l p = sym (h.no_payment off t i p l)
@@ -78,14 +73,14 @@ point-pay true s m on h i t l p =
     let place = i * profile_count (sizes_of s) + rank_of (sizes_of s) t in
     let inside : place < agent_count s * profile_count (sizes_of s) = place-below i (agent_count s) (profile_count (sizes_of s)) (rank_of (sizes_of s) t) l (rank_of-below (sizes_of s) t p) in
     let plus : number_at (m.chances ++ (parts plus_part s m ++ parts minus_part s m)) (plus_column s i t) ≡ plus_part (pay_of s m i t) =
-    behind m.chances (parts plus_part s m ++ parts minus_part s m) (first_plus s) place h.chance_count
+    number_at-behind m.chances (parts plus_part s m ++ parts minus_part s m) (first_plus s) place h.chance_count
     ∙ get_or_append_left (parts plus_part s m) (parts minus_part s m) (pos 0) place (rw (parts-length plus_part s m) inside)
     ∙ parts-at plus_part s m i t l p in
     let apart : minus_column s i t ≡ first_plus s + (agent_count s * profile_count (sizes_of s) + place) = omega arith in
     let minus : number_at (m.chances ++ (parts plus_part s m ++ parts minus_part s m)) (minus_column s i t) ≡ minus_part (pay_of s m i t) =
     ap (number_at (m.chances ++ (parts plus_part s m ++ parts minus_part s m))) apart
-    ∙ behind m.chances (parts plus_part s m ++ parts minus_part s m) (first_plus s) (agent_count s * profile_count (sizes_of s) + place) h.chance_count
-    ∙ behind (parts plus_part s m) (parts minus_part s m) (agent_count s * profile_count (sizes_of s)) place (parts-length plus_part s m)
+    ∙ number_at-behind m.chances (parts plus_part s m ++ parts minus_part s m) (first_plus s) (agent_count s * profile_count (sizes_of s) + place) h.chance_count
+    ∙ number_at-behind (parts plus_part s m) (parts minus_part s m) (agent_count s * profile_count (sizes_of s)) place (parts-length plus_part s m)
     ∙ parts-at minus_part s m i t l p in
     rw (plus, minus) (part-difference (pay_of s m i t))
 
@@ -213,14 +208,8 @@ mechanism-of_point s m h =
 
 -- ---- sizes of a mechanism of a point
 
-difference-within : (limit : ℕ) (p m : ℤ) → pos 0 ≤ℤ p → pos 0 ≤ℤ m → IsWithin limit p → IsWithin limit m → IsWithin limit (p -ℤ m)
-difference-within limit p m a b h k =
-    let low : p ≤ℤ pos limit = IsWithin-high limit p h in
-    let high : m ≤ℤ pos limit = IsWithin-high limit m k in
-    IsWithin-from_bounds limit (p -ℤ m) (omega (arith, linear, a, high)) (omega (arith, linear, b, low))
-
 payment-within : (limit : ℕ) (on : Bool) (p m : ℤ) → (on ≡ true → pos 0 ≤ℤ p) → (on ≡ true → pos 0 ≤ℤ m) → IsWithin limit p → IsWithin limit m → IsWithin limit (payment_by on p m)
-payment-within limit true p m a b h k = difference-within limit p m (a refl) (b refl) h k
+payment-within limit true p m a b h k = IsWithin-difference limit p m (a refl) (b refl) h k
 payment-within limit false p m a b h k = IsWithin-zero limit
 
 -- where there are payments the columns go on with both parts of each

@@ -1,16 +1,14 @@
 -- What the rows of single conditions need: their left sides from weights of profiles, and the sizes of their right sides.
-use Rattle.std.proofs.Common.{◌≡◌, ◌≢◌, ℕ, ◌+◌, ◌*◌, ◌<◌, ◌≤◌, Bool, true, false, ℤ, pos, ◌+ℤ◌, ◌-ℤ◌, ◌*ℤ◌, ◌≤ℤ◌, neg_ℤ, List, [], ◌∷◌, ◌++◌, length, get_or, Result, Ok, Err, OnOk, IfOk, sym, ap, ◌∙◌, arith, append_assoc, mul-le-mul, le_refl, inl, inr}
-use Rattle.std.specs.Prelude.{slice_index, ◌==◌, if◌then◌else◌}
+use Rattle.std.proofs.Common.{◌≡◌, ◌≢◌, ℕ, ◌<◌, ℤ, pos, ◌+ℤ◌, ◌-ℤ◌, ◌*ℤ◌, ◌≤ℤ◌, neg_ℤ, List, length, get_or, Result, Ok, Err, OnOk, IfOk, sym, ap, ◌∙◌, arith}
+use Rattle.std.specs.Prelude.{slice_index}
 use Rattle.std.proofs.lemmas.Int.{ints}
-use Rattle.std.proofs.lemmas.Bool.{cases_Bool}
 use Rattle.std.proofs.lemmas.List.{get_or-set_same}
-use Rattle.md_math.specs.Lists.{list_to}
 use Rattle.md_math.specs.Sizes.{IsWithin}
 use Rattle.md_math.specs.Sums.{sum_to}
-use Rattle.md_math.proofs.Builders.{list_to-more}
 use Rattle.md_math.proofs.Ring.{linear, neg_ℤ-*ℤ, one-*ℤ}
-use Rattle.md_math.proofs.SizeLaws.{IsWithin-from_bounds, IsWithin-high, IsWithin-wider, IsWithin-zero, sum_to-within}
+use Rattle.md_math.proofs.SizeLaws.{IsWithin-from_bounds, IsWithin-high}
 use Rattle.md_math.proofs.TotalLaws.{total_by-le, total_by-nonneg}
+use Rattle.md_math.proofs.Order.{chosen-le, chosen-nonneg}
 use Rattle.md_space.specs.Profiles.{profile_count, profile_at, rank_of, replaced}
 use Rattle.md_space.specs.AllProfiles.{profiles_of}
 use Rattle.md_space.proofs.InOrder.{total_by-profiles, All-profiles_of}
@@ -31,12 +29,6 @@ on_ok (Err e) P Q f h = tt
 pub if_ok : {T E : Type 0} → (r : Result T E) (P Q : T → Type 0) → ((x : T) → P x → Q x) → IfOk r P → IfOk r Q
 if_ok (Ok x) P Q f h = f x h
 if_ok (Err e) P Q f h = tt
-
--- ---- lists that grow
-
-pub push-list : {X : Type 0} → (old now new : List X) (k : ℕ) (f : ℕ → X) (v : X) → now ≡ old ++ list_to k f → new ≡ now ++ v ∷ [] → v ≡ f k → new ≡ old ++ list_to (k + 1) f
-push-list old now new k f v before pushed value =
-    pushed ∙ ap (λ xs. xs ++ v ∷ []) before ∙ append_assoc old (list_to k f) (v ∷ []) ∙ ap (λ x. old ++ (list_to k f ++ x ∷ [])) value ∙ ap (λ xs. old ++ xs) (sym (list_to-more k f))
 
 -- ---- left sides
 
@@ -67,34 +59,13 @@ told-apart sizes r i b h l k d same =
 pub marginal-by_rank : (s : GeneralSetting) (i a : ℕ) → marginal_of s i a ≡ sum_to (profile_count (sizes_of s)) (λ r. marginal_term s i a (profile_at (sizes_of s) r))
 marginal-by_rank s i a = total_by-profiles (sizes_of s) (marginal_term s i a)
 
-pub marginal-within : (s : GeneralSetting) (i a k : ℕ) → IsShaped s → k ≤ profile_count (sizes_of s)
-    → IsWithin (1024 * 1000000) (sum_to k (λ r. marginal_term s i a (profile_at (sizes_of s) r)))
-marginal-within s i a k shaped fits =
-    let few : k ≤ 1024 = omega (arith, fits, shaped.listed.space.few_profiles) in
-    IsWithin-wider (k * 1000000) (1024 * 1000000) _ (mul-le-mul few (le_refl 1000000))
-    (sum_to-within k 1000000 (λ r. marginal_term s i a (profile_at (sizes_of s) r)) (λ r below. at r (omega (arith, fits, below))))
-  where
-    at : (r : ℕ) → r < profile_count (sizes_of s) → IsWithin 1000000 (marginal_term s i a (profile_at (sizes_of s) r))
-    at r below = elim (cases_Bool (slice_index (profile_at (sizes_of s) r) i == a)) [
-      | inl same ↦ rw same (shaped.weight (profile_at (sizes_of s) r) (profile_at-IsProfile (sizes_of s) r below)).within
-      | inr other ↦ rw other (IsWithin-zero 1000000)
-    ]
-
-part-le : (b : Bool) (w : ℤ) → pos 0 ≤ℤ w → (if b then w else pos 0) ≤ℤ w
-part-le true w h = omega (arith, ints)
-part-le false w h = h
-
-part-nonneg : (b : Bool) (w : ℤ) → pos 0 ≤ℤ w → pos 0 ≤ℤ (if b then w else pos 0)
-part-nonneg true w h = h
-part-nonneg false w h = omega (arith, ints)
-
 -- the weight of a type is at most that of all profiles
 pub marginal-small : (s : GeneralSetting) (i a : ℕ) → IsShaped s → IsWithin 1000000 (marginal_of s i a)
 marginal-small s i a shaped =
     let all = profiles_of (sizes_of s) in
     let above : pos 0 ≤ℤ marginal_of s i a =
-    total_by-nonneg (marginal_term s i a) all (λ k d h. part-nonneg _ (weight_of s _) (shaped.weight _ (All-profiles_of (sizes_of s) k d h)).nonneg) in
+    total_by-nonneg (marginal_term s i a) all (λ k d h. chosen-nonneg _ (weight_of s _) (shaped.weight _ (All-profiles_of (sizes_of s) k d h)).nonneg) in
     let below : marginal_of s i a ≤ℤ total_of s =
-    total_by-le (marginal_term s i a) (weight_of s) all (λ k d h. part-le _ (weight_of s _) (shaped.weight _ (All-profiles_of (sizes_of s) k d h)).nonneg) in
+    total_by-le (marginal_term s i a) (weight_of s) all (λ k d h. chosen-le _ (weight_of s _) (shaped.weight _ (All-profiles_of (sizes_of s) k d h)).nonneg) in
     let high : total_of s ≤ℤ pos 1000000 = IsWithin-high 1000000 (total_of s) shaped.total.within in
     IsWithin-from_bounds 1000000 (marginal_of s i a) (omega (arith, ints, above)) (omega (arith, ints, below, high))

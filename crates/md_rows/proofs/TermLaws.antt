@@ -1,5 +1,5 @@
 -- Terms that are added column by column.
-use Rattle.std.proofs.Common.{◌≡◌, ℕ, suc, ◌+◌, ◌*◌, ◌<◌, ◌≤◌, inl, inr, ℤ, pos, ◌+ℤ◌, ◌*ℤ◌, List, [], ◌∷◌, ◌++◌, length, All, refl, sym, ap, ◌∙◌, arith, mul-le-mul, le_refl}
+use Rattle.std.proofs.Common.{◌≡◌, ℕ, suc, ◌+◌, ◌*◌, ◌<◌, ◌≤◌, inl, inr, ℤ, pos, ◌+ℤ◌, ◌*ℤ◌, List, [], ◌∷◌, ◌++◌, length, refl, sym, ap, ◌∙◌, arith, mul-le-mul, le_refl}
 use Rattle.std.proofs.lemmas.Bool.{cases_lt}
 use Rattle.std.proofs.lemmas.List.{length_push, get_or_push, get_or_append_left}
 use Rattle.std.proofs.lemmas.List.Elements.{All-append}
@@ -10,6 +10,7 @@ use Rattle.md_math.proofs.Builders.{All-left}
 use Rattle.md_math.proofs.Ring.{linear}
 use Rattle.md_math.proofs.SumLaws.{sum_to-more}
 use Rattle.md_math.proofs.TotalLaws.{total_by-push}
+use Rattle.md_mech.proofs.RowLaws.{all-one}
 use Rattle.md_lp.specs.declared.term.Term.{Term}
 use Rattle.md_lp.specs.Shape.{column_in, HasPlaces}
 use Rattle.md_lp.proofs.SparseRows.{no_term}
@@ -80,9 +81,6 @@ HasPlaces-wider a b terms le h = record {
 }
 
 -- ---- terms below a column
-
-all-one : {X : Type 0} (P : X → Type 0) (x : X) → P x → All P (x ∷ [])
-all-one P x holds = λ k d within. let at : k ≡ 0 = omega arith in rw at holds
 
 pub below-none : (limit next : ℕ) → AreTermsBelow limit next []
 below-none limit next = record {

@@ -1,5 +1,5 @@
 -- What the tests of a setting say of it.
-use Rattle.std.proofs.Common.{◌≡◌, ℕ, zero, suc, ◌<◌, ◌≤◌, ℤ, pos, negsuc, ◌≤ℤ◌, ◌<ℤ◌, unsigned_abs, Bool, true, false, not, ◌||◌, List, [], ◌∷◌, length, Option, None, Some, is_some, All, refl, sym, ap, ◌∙◌, subst, arith, slice_index, slice_index_or, nat_le, nat_lt, ◌==◌, if◌then◌else◌}
+use Rattle.std.proofs.Common.{◌≡◌, ℕ, zero, suc, ◌<◌, ◌≤◌, ℤ, pos, negsuc, ◌≤ℤ◌, ◌<ℤ◌, unsigned_abs, Bool, true, false, not, ◌||◌, List, [], ◌∷◌, length, Option, None, Some, is_some, All, refl, sym, ap, ◌∙◌, subst, arith, slice_index, slice_index_or, nat_lt, ◌==◌, if◌then◌else◌}
 use Rattle.std.specs.List.{list_all, list_any}
 use Rattle.std.proofs.lemmas.Int.{ints}
 use Rattle.std.proofs.lemmas.Bool.Decides.{nat_tests}
@@ -18,15 +18,12 @@ use Rattle.md_setting.specs.Meaning.{nobody, agent_at, agent_count, outcome_coun
 use Rattle.md_setting.specs.Rows.{row_count, cell_count}
 use Rattle.md_setting.specs.Refusals.{all_below, is_small, is_weight, has_agent_shape, has_prior_shape, has_good_sizes, has_good_shape, has_small_numbers, has_small_prior, has_small_lists, has_small_values, has_all_weights, has_small_total, has_few_rows}
 use Rattle.md_setting.specs.Shaped.{IsListed, IsSmall, IsWeight, IsShaped}
-use Rattle.md_setting.proofs.TestLaws.{and_left, and_right, all_below-at, list_all-at}
+use Rattle.md_setting.proofs.TestLaws.{and_left, and_right, all_below-at, list_all-at, le_of_test, is_within}
 use Rattle.md_setting.proofs.ValueLaws.{small_values-by_rank}
 use Rattle.md_setting.proofs.WeightLaws.{weight_of-nonneg, weight_of-within, within_total, total-nonneg, marginal-nonneg}
 
 same_of_eq : (m n : ℕ) → (m == n) ≡ true → m ≡ n
 same_of_eq m n h = grind (arith, nat_tests)
-
-le_of_test : (m n : ℕ) → nat_le m n ≡ true → m ≤ n
-le_of_test m n h = grind (arith, nat_tests)
 
 -- what the shape of one agent's lists is
 pub record IsAgentListed (has_prior : Bool) (outcomes : ℕ) (agent : Agent) : Type 0 where
@@ -120,9 +117,6 @@ listed s sizes shape =
       prior = prior_listed s.prior (profile_count (sizes_of s)) (and_right _ _ ab);
       values = same_of_eq _ _ (and_right _ _ shape);
     }
-
-is_within : (limit : ℕ) (z : ℤ) → is_small limit z ≡ true → IsWithin limit z
-is_within limit z h = record { within = le_of_test _ _ h }
 
 weight_of_test : (z : ℤ) → is_weight z ≡ true → IsWeight z
 weight_of_test (pos n) h = record { nonneg = omega (arith, ints); within = record { within = le_of_test n 1000000 h } }

@@ -9,17 +9,13 @@ use Rattle.std.proofs.lemmas.Bool.Decides.{nat_tests}
 use Rattle.std.proofs.lemmas.List.{length-map, get_or-map}
 use Rattle.std.proofs.lemmas.List.Sums.{sum_by-cons}
 use Rattle.std.proofs.lemmas.List.Elements.{All-nil, All-cons}
-use Rattle.md_math.specs.Sizes.{IsWithin}
 use Rattle.md_setting.specs.declared.refusal.BuildRefusal.{BuildRefusal}
 use Rattle.md_setting.specs.declared.refusal.BuildRefusal.TheVariants.{Sizes, Shape, OutOfRange, ZeroWeight, WeightTotal, ValuesOrder, TooManyCounts}
 use Rattle.md_setting.specs.Auction.{as_written, WrittenAuction, auction_of, weights_in, total_weight}
 use Rattle.md_setting.specs.AuctionShaped.{IsAuction, IsKeptAuction}
 use Rattle.md_setting.specs.AuctionRefusals.{HasGoodNumbers, has_auction_sizes, has_auction_shape, is_auction_in_range, is_up_to, are_positive, is_ascending, has_few_counts, weight_refusal_of, auction_refusal_of}
 use Rattle.md_setting.specs.Refusals.{is_small, is_weight}
-use Rattle.md_setting.proofs.TestLaws.{and_left, and_right, all_below-at, list_all-at}
-
-le_of_test : (m n : ℕ) → nat_le m n ≡ true → m ≤ n
-le_of_test m n h = grind (arith, nat_tests)
+use Rattle.md_setting.proofs.TestLaws.{and_left, and_right, all_below-at, list_all-at, le_of_test, is_within}
 
 same_of_eq : (m n : ℕ) → (m == n) ≡ true → m ≡ n
 same_of_eq m n h = grind (arith, nat_tests)
@@ -139,9 +135,6 @@ good_weights bidders values weights h =
     record { positive = all.first; total = all.second; ascending = all.third; few = all.fourth }
 
 -- ---- what passes the tests is within the limits
-
-is_within : (limit : ℕ) (z : ℤ) → is_small limit z ≡ true → IsWithin limit z
-is_within limit z h = record { within = le_of_test _ _ h }
 
 range_of : (limit : ℕ) (z : ℤ) → is_up_to limit z ≡ true → (pos 0 ≤ℤ z) × (z ≤ℤ pos limit)
 range_of limit z h = (le_of_int _ _ (and_left _ _ h), le_of_int _ _ (and_right _ _ h))

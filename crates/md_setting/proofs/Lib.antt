@@ -5,7 +5,6 @@ pub mod CountLaws
 pub mod FirstRefusal
 pub mod Lookups
 pub mod RangeTests
-pub mod Reading
 pub mod RowTests
 pub mod SizeTests
 pub mod TestLaws

@@ -1,9 +1,11 @@
 -- Tests that hold at each place of a list, or below a number.
-use Rattle.std.proofs.Common.{◌≡◌, ℕ, zero, suc, ◌+◌, ◌<◌, Bool, true, false, ◌&&◌, List, [], ◌∷◌, length, get_or, refl, sym, ◌∙◌, arith, add-one}
+use Rattle.std.proofs.Common.{◌≡◌, ℕ, zero, suc, ◌+◌, ◌<◌, Bool, true, false, ◌&&◌, List, [], ◌∷◌, length, get_or, refl, sym, ◌∙◌, arith, add-one, ◌≤◌, ℤ, nat_le}
 use Rattle.std.specs.List.{list_all}
 use Rattle.std.proofs.lemmas.List.Folds.{list_all-append, list_all_at}
+use Rattle.std.proofs.lemmas.Bool.Decides.{nat_tests}
 use Rattle.md_math.specs.Lists.{list_to}
-use Rattle.md_setting.specs.Refusals.{all_below}
+use Rattle.md_math.specs.Sizes.{IsWithin}
+use Rattle.md_setting.specs.Refusals.{all_below, is_small}
 
 pub and_left : (a b : Bool) → (a && b) ≡ true → a ≡ true
 and_left true b h = refl
@@ -51,3 +53,10 @@ list_all-at p xs k d h l = at (p (get_or xs k d)) (λ e. list_all_at p xs k d l 
     at : (b : Bool) → (b ≡ false → list_all p xs ≡ false) → list_all p xs ≡ true → b ≡ true
     at true f h = refl
     at false f h = sym (f refl) ∙ h
+
+-- a number that passes a test of its size is within the limit
+pub le_of_test : (m n : ℕ) → nat_le m n ≡ true → m ≤ n
+le_of_test m n h = grind (arith, nat_tests)
+
+pub is_within : (limit : ℕ) (z : ℤ) → is_small limit z ≡ true → IsWithin limit z
+is_within limit z h = record { within = le_of_test _ _ h }

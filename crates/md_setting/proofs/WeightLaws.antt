@@ -1,6 +1,5 @@
 -- The weights of profiles and what they add to.
-use Rattle.std.proofs.Common.{◌≡◌, ◌≢◌, ℕ, zero, suc, ◌+◌, ◌-◌, ◌*◌, ◌^◌, ◌<◌, ◌≤◌, ℤ, pos, negsuc, ◌*ℤ◌, ◌≤ℤ◌, ◌<ℤ◌, unsigned_abs, Bool, true, false, not, List, [], ◌∷◌, length, get_or, drop, Option, None, Some, refl, sym, ap, ◌∙◌, subst, arith, add-one, slice_index, ◌==◌, if◌then◌else◌, nat_le, lit<, inl, inr}
-use Rattle.std.specs.Prelude.{◌+ℤ◌}
+use Rattle.std.proofs.Common.{◌≡◌, ◌≢◌, ℕ, zero, suc, ◌+◌, ◌*◌, ◌^◌, ◌<◌, ◌≤◌, ℤ, pos, negsuc, ◌*ℤ◌, ◌≤ℤ◌, ◌<ℤ◌, unsigned_abs, Bool, true, false, not, List, [], ◌∷◌, length, get_or, drop, Option, None, Some, refl, sym, ap, ◌∙◌, subst, arith, add-one, slice_index, ◌==◌, if◌then◌else◌, nat_le, lit<, inl, inr, ne_eqb}
 use Rattle.std.proofs.lemmas.Int.{ints}
 use Rattle.std.proofs.lemmas.Bool.{eq-eqb}
 use Rattle.std.proofs.lemmas.Bool.Decides.{nat_tests}
@@ -13,8 +12,9 @@ use Rattle.md_math.specs.Sums.{sum_to}
 use Rattle.md_math.specs.Sizes.{IsWithin}
 use Rattle.md_math.proofs.SizeLaws.{IsWithin-*ℤ, IsWithin-from_bounds, IsWithin-high}
 use Rattle.md_math.proofs.Ring.{*ℤ_assoc, *ℤ-one}
-use Rattle.md_math.proofs.Order.{nonneg-*ℤ, lt_or_le, ≤ℤ_antisymm}
-use Rattle.md_math.proofs.SumLaws.{sum_to-positive, sum_to-nonneg, sum_to-at_least, sum_to-join}
+use Rattle.md_math.proofs.Order.{nonneg-*ℤ, lt_or_le, ≤ℤ_antisymm, chosen-nonneg}
+use Rattle.md_math.proofs.SumLaws.{sum_to-positive, sum_to-nonneg, sum_to-at_least}
+use Rattle.md_math.proofs.Prefixes.{sum_to-prefix}
 use Rattle.md_space.specs.Profiles.{profile_count, profile_at}
 use Rattle.md_space.proofs.InOrder.{total_by-profiles}
 use Rattle.md_space.proofs.Ranks.{rank_of-profile_at}
@@ -90,11 +90,7 @@ abbrev pub weight_with : GeneralSetting → ℕ → ℕ → ℕ → ℤ
 weight_with s i a r = if slice_index (profile_at (sizes_of s) r) i == a then weight_of s (profile_at (sizes_of s) r) else pos 0
 
 pub weight_with-nonneg : (s : GeneralSetting) (i a r : ℕ) → IsSmall s → pos 0 ≤ℤ weight_with s i a r
-weight_with-nonneg s i a r h = choose (slice_index (profile_at (sizes_of s) r) i == a) (weight_of s (profile_at (sizes_of s) r)) (weight_of-nonneg s _ h)
-  where
-    choose : (b : Bool) (w : ℤ) → pos 0 ≤ℤ w → pos 0 ≤ℤ (if b then w else pos 0)
-    choose true w l = l
-    choose false w l = omega (arith, ints)
+weight_with-nonneg s i a r h = chosen-nonneg (slice_index (profile_at (sizes_of s) r) i == a) (weight_of s (profile_at (sizes_of s) r)) (weight_of-nonneg s _ h)
 
 pub marginal-by_rank : (s : GeneralSetting) (i a : ℕ) → marginal_of s i a ≡ sum_to (profile_count (sizes_of s)) (weight_with s i a)
 marginal-by_rank s i a = total_by-profiles (sizes_of s) (λ t. if slice_index t i == a then weight_of s t else pos 0)
@@ -119,9 +115,6 @@ pub marginal-none : (s : GeneralSetting) (i a n : ℕ) → n ≡ profile_count (
     false ≡ not (unsigned_abs (marginal_of s i a) == 0)
 marginal-none s i a n e h = rw (marginal-by_rank s i a, ← e, h) refl
 
-ne_eqb : (a b : ℕ) → a ≢ b → (a == b) ≡ false
-ne_eqb a b h = grind (arith, nat_tests)
-
 -- a profile with another type, or without a weight, adds nothing
 pub weight_with-other : (s : GeneralSetting) (i a r : ℕ) → slice_index (profile_at (sizes_of s) r) i ≢ a → weight_with s i a r ≡ pos 0
 weight_with-other s i a r h = rw (ne_eqb _ _ h) refl
@@ -133,14 +126,6 @@ weight_with-zero s i a r h n =
     choose : (b : Bool) (w : ℤ) → pos 0 ≤ℤ w → ¬ (pos 0 <ℤ w) → (if b then w else pos 0) ≡ pos 0
     choose true w l m = elim (lt_or_le (pos 0) w) [ inl p ↦ absurd (m p) | inr q ↦ ≤ℤ_antisymm w (pos 0) q l ]
     choose false w l m = refl
-
--- a part of a sum of numbers that are not negative
-prefix-le : (n k : ℕ) (f : ℕ → ℤ) → k ≤ n → ((j : ℕ) → j < n → pos 0 ≤ℤ f j) → sum_to k f ≤ℤ sum_to n f
-prefix-le n k f h p =
-    let e : n ≡ k + (n - k) = omega arith in
-    let rest : pos 0 ≤ℤ sum_to (n - k) (λ j. f (k + j)) = sum_to-nonneg (n - k) (λ j. f (k + j)) (λ j l. p (k + j) (omega arith)) in
-    let whole : sum_to n f ≡ sum_to k f +ℤ sum_to (n - k) (λ j. f (k + j)) = ap (λ m. sum_to m f) e ∙ sum_to-join k (n - k) f in
-    omega (arith, ints, rest, whole)
 
 large : (z : ℤ) → pos 1000000 <ℤ z → nat_le (unsigned_abs z) 1000000 ≡ false
 large (pos n) h = let l : 1000000 < n = omega (arith, ints) in grind (arith, nat_tests)
@@ -155,7 +140,7 @@ pub total-large : (s : GeneralSetting) (n : ℕ) (v : ℤ) → IsSmall s → n �
 unfolding has_small_total
 total-large s n v h l e p =
     let part : sum_to n (λ r. weight_of s (profile_at (sizes_of s) r)) ≤ℤ sum_to (profile_count (sizes_of s)) (λ r. weight_of s (profile_at (sizes_of s) r)) =
-    prefix-le (profile_count (sizes_of s)) n _ l (λ j k. weight_of-nonneg s _ h) in
+    sum_to-prefix (profile_count (sizes_of s)) n _ l (λ j k. weight_of-nonneg s _ h) in
     large (total_of s) (rw (total-by_rank s) (omega (arith, ints, e, part, p)))
 
 pub total-small : (s : GeneralSetting) (n : ℕ) (v : ℤ) → n ≡ profile_count (sizes_of s) →

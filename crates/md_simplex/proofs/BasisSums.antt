@@ -3,7 +3,7 @@ use Rattle.std.proofs.Common.{◌≡◌, ◌≢◌, ℕ, zero, suc, ◌+◌, ◌
 use Rattle.std.proofs.lemmas.Bool.{cases_lt, cases_eq}
 use Rattle.md_math.specs.Sums.{sum_to}
 use Rattle.md_math.proofs.Ring.{linear, *ℤ-zero, zero-*ℤ, *ℤ_assoc, *ℤ-+ℤ, *ℤ-neg_ℤ, neg_ℤ-*ℤ}
-use Rattle.md_math.proofs.Order.{*ℤ_cancel}
+use Rattle.md_math.proofs.Order.{*ℤ_cancel, chosen-nonneg}
 use Rattle.md_math.proofs.SumLaws.{sum_to-same, sum_to-zero, sum_to-nonneg, sum_to-neg_ℤ, sum_to-*ℤ, sum_to-swap, sum_to-single, sum_to-all_zero}
 use Rattle.md_dict.specs.Dictionary.{IsScaledDictionary}
 use Rattle.md_dict.proofs.RawPivot.{basic_own, basic_other}
@@ -41,11 +41,7 @@ at_basis-other m basis v j h = sum_to-zero m (λ r. if j == basis r then v r els
     one r c (inr o) = share_off j (basis r) (v r) o
 
 pub at_basis-nonneg : (m : ℕ) (basis : ℕ → ℕ) (v : ℕ → ℤ) (j : ℕ) → ((r : ℕ) → r < m → pos 0 ≤ℤ v r) → pos 0 ≤ℤ at_basis m basis v j
-at_basis-nonneg m basis v j h = sum_to-nonneg m (λ r. if j == basis r then v r else pos 0) (λ r c. by_test (j == basis r) (v r) (h r c))
-  where
-    by_test : (t : Bool) (x : ℤ) → pos 0 ≤ℤ x → pos 0 ≤ℤ (if t then x else pos 0)
-    by_test true x p = p
-    by_test false x p = omega (arith, linear)
+at_basis-nonneg m basis v j h = sum_to-nonneg m (λ r. if j == basis r then v r else pos 0) (λ r c. chosen-nonneg (j == basis r) (v r) (h r c))
 
 -- whether a column is basic
 pub basis_cases : (m : ℕ) (basis : ℕ → ℕ) (j : ℕ) → ((r : ℕ) × (r < m) × (basis r ≡ j)) ⊎ ((r : ℕ) → r < m → basis r ≢ j)

@@ -1,7 +1,7 @@
 -- Bases as numbers, so that there are finitely many.
-use Rattle.std.proofs.Common.{◌≡◌, ℕ, zero, suc, ◌+◌, ◌*◌, ◌<◌, ◌≤◌, inl, inr, sym, subst, arith}
+use Rattle.std.proofs.Common.{◌≡◌, ℕ, zero, suc, ◌+◌, ◌*◌, ◌<◌, inl, inr, sym, subst, arith}
 use Rattle.std.proofs.lemmas.Bool.{cases_lt}
-use Rattle.std.proofs.Math.Nat as NatL
+use Rattle.md_dict.proofs.Writing.{row_before, same_row}
 
 -- the first m columns of a basis as the digits of a number
 pub code : ℕ → (m : ℕ) → (ℕ → ℕ) → ℕ
@@ -12,19 +12,6 @@ code base (suc m) b = code base m b * base + b m
 pub code_count : ℕ → ℕ → ℕ
 code_count base zero = 1
 code_count base (suc m) = code_count base m * base
-
-row_before : (w i s k t : ℕ) → s < w → i < k → i * w + s < k * w + t
-row_before w i s k t a l = (let le : suc i * w ≤ k * w = NatL.mul-le-mul_right w l in omega (arith, le))
-
-same_row : (w i s k t : ℕ) → s < w → t < w → i * w + s ≡ k * w + t → i ≡ k
-same_row w i s k t a b e =
-    elim (cases_lt i k) [
-      | inl l ↦ absurd (let h : i * w + s < k * w + t = row_before w i s k t a l in omega arith)
-      | inr l ↦ elim (cases_lt k i) [
-        | inl h ↦ absurd (let g : k * w + t < i * w + s = row_before w k t i s b h in omega arith)
-        | inr h ↦ omega arith
-      ]
-    ]
 
 pub code_below : (base m : ℕ) (b : ℕ → ℕ) → ((i : ℕ) → i < m → b i < base) → code base m b < code_count base m
 unfolding code code_count

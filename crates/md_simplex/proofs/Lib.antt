@@ -23,6 +23,5 @@ pub mod ReadSteps
 pub mod Reduced
 pub mod Rise
 pub mod RunLaws
-pub mod Shaped
 pub mod WalkLaws
 pub mod WidePaths

@@ -1,9 +1,7 @@
 -- The basis after a pivot has a dictionary: what row operations make, divided by its greatest common divisor.
-use Rattle.std.proofs.Common.{ℕ, ◌+◌, ◌<◌, ℤ, pos, ◌*ℤ◌, ◌≤ℤ◌, ◌<ℤ◌, int_div, unsigned_abs, sym, arith}
-use Rattle.std.proofs.lemmas.Int.{ints}
-use Rattle.std.proofs.Math.Nat as NatL
+use Rattle.std.proofs.Common.{ℕ, ◌+◌, ◌<◌, ℤ, pos, ◌*ℤ◌, ◌<ℤ◌, int_div, sym}
 use Rattle.md_math.specs.Divisors.{Divides, DividesTable}
-use Rattle.md_math.proofs.Division.{Divides_trans, Divides-int_div}
+use Rattle.md_math.proofs.Division.{Divides_trans, Divides-int_div, positive_divisor}
 use Rattle.md_math.proofs.Gcds.{gcd_of_two, family_gcd}
 use Rattle.md_lp.specs.declared.pivot.Pivot.{Pivot}
 use Rattle.md_dict.specs.Dictionary.{IsScaledDictionary, IsDictionary}
@@ -30,12 +28,6 @@ record IsTableDivisor (rows columns : ℕ) (d : ℤ) (f : ℕ → ℕ → ℤ) (
   of_table : DividesTable rows columns f g
   greatest : (x : ℤ) → Divides x d → DividesTable rows columns f x → Divides x g
 
-divisor_positive : (d g : ℤ) → pos 0 <ℤ d → Divides g d → pos 0 ≤ℤ g → pos 0 <ℤ g
-divisor_positive d g p h n =
-    let above : 0 < unsigned_abs d = omega (arith, ints) in
-    let size : 0 < unsigned_abs g = NatL.pos_of_dvd_of_pos h.divides above in
-    omega (arith, ints)
-
 row_gcd : (columns : ℕ) (f : ℕ → ℕ → ℤ) → ℕ → ℤ
 row_gcd columns f r = (family_gcd columns (f r)).0
 
@@ -53,7 +45,7 @@ table_divisor rows columns d f p =
     let (g, q) = gcd_of_two d h in (
       g,
       record {
-        positive = divisor_positive d g p q.is_gcd.left q.is_gcd.nonneg;
+        positive = positive_divisor d g p q.is_gcd.left q.is_gcd.nonneg;
         of_den = q.is_gcd.left;
         of_table = record {
           at = λ r j a b. Divides_trans g h (f r j) q.is_gcd.right (Divides_trans h (row_gcd columns f r) (f r j) (k.is_gcd.common.at r a) (row_divides columns f r j b));

@@ -10,16 +10,11 @@ use Rattle.md_lp.specs.declared.row_kind.RowKind.TheVariants.{AtMost, Exact}
 use Rattle.md_lp.specs.Program.{Program, row_count, kind_at, right_at, coefficient_at, cost_at}
 use Rattle.md_lp.specs.Point.{row_sum, cost_sum, column_sum, right_sum}
 use Rattle.md_dict.specs.FirstTable.{is_at_most, slacks_before, column_count, sign_at, row_entry, main_entry, first_entry}
+use Rattle.md_dict.proofs.FirstLaws.{unit_off, unit_own}
 
 -- the slack column of a row
 abbrev pub slack_at : Program → ℕ → ℕ
 slack_at p k = p.columns + slacks_before p k
-
-unit_on : (j : ℕ) → (if j == j then pos 1 else pos 0) ≡ pos 1
-unit_on j = rw (eq-eqb j j refl) refl
-
-unit_off : (i j : ℕ) → i ≢ j → (if i == j then pos 1 else pos 0) ≡ pos 0
-unit_off i j o = rw (ne_eqb i j o) refl
 
 module _ (p : Program) where
   -- ---- slack columns
@@ -159,7 +154,7 @@ module _ (p : Program) where
   start_sum k x b =
       sum_to-single (row_count p) k (λ i. first_entry p k (column_count p + i) *ℤ x (column_count p + i)) b
       (λ i c o. ap (λ z. z *ℤ x (column_count p + i)) (entry-start k i b c ∙ unit_off (column_count p + i) (column_count p + k) (λ e. o (omega arith))) ∙ zero-*ℤ (x (column_count p + i)))
-      ∙ ap (λ z. z *ℤ x (column_count p + k)) (entry-start k k b b ∙ unit_on (column_count p + k))
+      ∙ ap (λ z. z *ℤ x (column_count p + k)) (entry-start k k b b ∙ unit_own (column_count p + k))
       ∙ one-*ℤ (x (column_count p + k))
 
   -- a first row's sum over all columns: that of the program, its slack, and its start column

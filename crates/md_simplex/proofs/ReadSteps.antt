@@ -4,7 +4,6 @@ use Rattle.std.proofs.Common.{to_z, of_z, lit<}
 use Rattle.std.proofs.lemmas.Bool.{cases_lt, cases_eq}
 use Rattle.std.proofs.lemmas.Int.{to_z-of_z}
 use mir.Syntax.{w128}
-use lib.Signed.{mag}
 use Rattle.md_num.specs.Limits.{limit_of}
 use Rattle.md_math.specs.Lists.{number_at}
 use Rattle.md_math.specs.Sizes.{IsWithin, AllWithin}
@@ -24,10 +23,6 @@ entry_small d x h w = IsWithin-wider (limit_of d.bits) (2 ^ 62) x (limit_le d.bi
 
 pub entry_back : (d : Condensed) (x : ℤ) → IsShapedDictionary d → IsWithin (limit_of d.bits) x → to_z w128 (of_z w128 x) ≡ x
 entry_back d x h w = read_small x (entry_small d x h w)
-
--- the result of a call
-pub result_back : (z : ℤ) → mag z < 2 ^ 127 → to_z w128 (of_z w128 z) ≡ z
-result_back z h = to_z-of_z w128 z (record { sfits = h })
 
 -- two rows have different basic columns
 pub basic_at-apart : (d : Condensed) (i k : ℕ) → IsShapedDictionary d → i < d.rows → k < d.rows → i ≢ k → basic_at d i ≢ basic_at d k

@@ -1,43 +1,26 @@
 -- Lists that are divided by their greatest common divisor: that they are in least terms, that no number grows, and that there is one such list.
-use Rattle.std.proofs.Common.{◌≡◌, ◌≢◌, ℕ, zero, suc, ◌+◌, ◌*◌, ◌<◌, ◌≤◌, ◌⊎◌, ℤ, pos, ◌*ℤ◌, ◌≤ℤ◌, ◌<ℤ◌, unsigned_abs, List, [], ◌∷◌, ◌++◌, length, inl, inr, refl, sym, ap, ◌∙◌, subst, arith, add-one}
-use Rattle.std.proofs.lemmas.Int.{ints, unsigned_abs-mul}
+use Rattle.std.proofs.Common.{◌≡◌, ℕ, zero, suc, ◌+◌, ◌<◌, ◌⊎◌, ℤ, pos, ◌*ℤ◌, ◌<ℤ◌, unsigned_abs, List, [], ◌∷◌, ◌++◌, length, inl, inr, refl, sym, ap, ◌∙◌, subst, arith, add-one}
 use Rattle.std.proofs.lemmas.Bool.{cases_lt}
 use Rattle.std.proofs.lemmas.List.{get_or_append_left, get_or_push, length_push, ext_get_or}
 use Rattle.std.proofs.Math.Nat as NatL
 use Rattle.md_math.specs.Divisors.{Divides, IsCommonDivisor, IsGcdOf, AreCoprime}
 use Rattle.md_math.specs.Lists.{number_at}
 use Rattle.md_math.specs.Sizes.{IsWithin}
-use Rattle.md_math.proofs.Ring.{linear, *ℤ-zero, *ℤ-one, zero-*ℤ}
+use Rattle.md_math.proofs.Ring.{linear, *ℤ-zero, *ℤ-one}
 use Rattle.md_math.proofs.Order.{*ℤ_cancel, zero_from_*ℤ}
-use Rattle.md_math.proofs.Division.{quotient, Divides-zero, *ℤ-Divides, Divides_cancel}
+use Rattle.md_math.proofs.Division.{Divides-zero, *ℤ-Divides, Divides_cancel}
 use Rattle.md_math.proofs.Fractions.{same_denominators}
 use Rattle.md_lp.specs.Divided.{IsDivisorFor, AllZero}
+use Rattle.md_lp.proofs.Dividing.{zero-Divides, IsDivisorFor-gcd, IsDivisorFor-positive, IsWithin-divided}
 use Rattle.md_simplex.specs.Reading.{IsReduced, with_den, IsReadList, IsReadOver}
 use Rattle.md_simplex.specs.ReadingSteps.{AreQuotients}
 
 -- ---- the divisor
 
-zero-Divides : (z : ℤ) → Divides (pos 0) z → z ≡ pos 0
-zero-Divides z h = (let (q, e) = quotient (pos 0) z h in e ∙ zero-*ℤ q)
-
-pub divisor-zero : (n : ℕ) (f : ℕ → ℤ) (g : ℤ) → IsGcdOf n f g → g ≡ pos 0 → IsDivisorFor n f (pos 1)
-divisor-zero n f g h e = inr (record { zero = λ k b. zero-Divides (f k) (subst (λ d. Divides d (f k)) e (h.common.at k b)) }, refl)
-
-pub divisor-gcd : (n : ℕ) (f : ℕ → ℤ) (g : ℤ) → IsGcdOf n f g → g ≢ pos 0 → IsDivisorFor n f g
-divisor-gcd n f g h d = (let p : pos 0 ≤ℤ g = h.nonneg in inl (h, omega (arith, linear)))
-
-pub divisor-positive : (n : ℕ) (f : ℕ → ℤ) (g : ℤ) → IsDivisorFor n f g → pos 0 <ℤ g
-divisor-positive n f g (inl h) = h.1
-divisor-positive n f g (inr h) = (let e : g ≡ pos 1 = h.1 in omega (arith, ints))
-
-pub divisor-divides : (n : ℕ) (f : ℕ → ℤ) (g : ℤ) → IsDivisorFor n f g → (k : ℕ) → k < n → Divides g (f k)
-divisor-divides n f g (inl h) k b = h.0.common.at k b
-divisor-divides n f g (inr h) k b = subst (Divides g) (sym (h.0.zero k b)) (Divides-zero g)
-
 -- the greatest common divisor with a positive number is positive
 pub gcd-positive : (n k : ℕ) (f : ℕ → ℤ) (g : ℤ) → IsGcdOf n f g → k < n → pos 0 <ℤ f k → IsDivisorFor n f g
 gcd-positive n k f g h b p =
-    divisor-gcd n f g h (λ e.
+    IsDivisorFor-gcd n f g h (λ e.
     let none : f k ≡ pos 0 = zero-Divides (f k) (subst (λ d. Divides d (f k)) e (h.common.at k b)) in
     absurd (omega (arith, linear)))
 
@@ -59,7 +42,7 @@ with_den-more den f k = rw add-one refl
 -- ---- least terms
 
 pub reduced_from : (n : ℕ) (f x : ℕ → ℤ) (g : ℤ) → IsDivisorFor n f g → ((k : ℕ) → k < n → f k ≡ g *ℤ x k) → IsReduced n f x
-reduced_from n f x g h e = record { by = g; positive = divisor-positive n f g h; times = e; least = least h }
+reduced_from n f x g h e = record { by = g; positive = IsDivisorFor-positive n f g h; times = e; least = least h }
   where
     one : IsGcdOf n f g → pos 0 <ℤ g → (d : ℤ) → IsCommonDivisor n x d → unsigned_abs d ≡ 1
     one q p d c =
@@ -70,18 +53,10 @@ reduced_from n f x g h e = record { by = g; positive = divisor-positive n f g h;
 
     least : IsDivisorFor n f g → AreCoprime n x ⊎ AllZero n x
     least (inl q) = inl (record { only_one = one q.0 q.1 })
-    least (inr q) = inr (record { zero = λ k b. zero_from_*ℤ g (x k) (divisor-positive n f g h) (sym (e k b) ∙ q.0.zero k b) })
-
--- a factor of at least 1 makes no number smaller
-within-divided : (limit : ℕ) (g x y : ℤ) → pos 0 <ℤ g → x ≡ g *ℤ y → IsWithin limit x → IsWithin limit y
-within-divided limit g x y p e h =
-    let product : unsigned_abs x ≡ unsigned_abs g * unsigned_abs y = ap unsigned_abs e ∙ unsigned_abs-mul g y in
-    let one : 1 ≤ unsigned_abs g = omega (arith, ints) in
-    let more : unsigned_abs y ≤ unsigned_abs g * unsigned_abs y = grind arith in
-    record { within = omega (arith, h.within) }
+    least (inr q) = inr (record { zero = λ k b. zero_from_*ℤ g (x k) (IsDivisorFor-positive n f g h) (sym (e k b) ∙ q.0.zero k b) })
 
 pub reduced-within : (limit n : ℕ) (f x : ℕ → ℤ) → IsReduced n f x → ((k : ℕ) → k < n → IsWithin limit (f k)) → (k : ℕ) → k < n → IsWithin limit (x k)
-reduced-within limit n f x h w k b = within-divided limit h.by (f k) (x k) h.positive (h.times k b) (w k b)
+reduced-within limit n f x h w k b = IsWithin-divided limit h.by (f k) (x k) h.positive (h.times k b) (w k b)
 
 -- there is one such list
 pub reduced-same : (n : ℕ) (f g x y : ℕ → ℤ) → ((k : ℕ) → k < n → f k ≡ g k) → IsReduced n f x → IsReduced n g y → (k : ℕ) → k < n → x k ≡ y k

@@ -1,5 +1,5 @@
 -- A walk along the path: its start, one more pivot, its ends, and how long it can be.
-use Rattle.std.proofs.Common.{◌≡◌, ℕ, ◌+◌, ◌-◌, ◌<◌, ◌≤◌, ◌==◌, if◌then◌else◌, ℤ, List, [], ◌∷◌, ◌++◌, length, sym, ap, ◌∙◌, subst, arith}
+use Rattle.std.proofs.Common.{◌≡◌, ℕ, ◌+◌, ◌-◌, ◌<◌, ◌≤◌, List, [], ◌∷◌, ◌++◌, length, sym, ap, ◌∙◌, subst, arith}
 use Rattle.std.proofs.lemmas.List.{length_push}
 use Rattle.md_lp.specs.Program.{Program, row_count}
 use Rattle.md_lp.specs.declared.entry.Entry.{Entry}
@@ -11,7 +11,7 @@ use Rattle.md_dict.specs.FirstTable.{column_count, first_entry, first_basis}
 use Rattle.md_dict.specs.Pivot.{with_column}
 use Rattle.md_dict.specs.Start.{IsStart}
 use Rattle.md_dict.specs.Wide.{IsNarrow, IsWideBasis}
-use Rattle.md_dict.proofs.Cancelling.{IsDictionary-same_basis}
+use Rattle.md_dict.proofs.Cancelling.{IsDictionary-same_basis, IsWideBasis-same_basis, with_column-same}
 use Rattle.md_simplex.specs.declared.order.Order.{Order}
 use Rattle.md_simplex.specs.declared.step.Step.{Step}
 use Rattle.md_simplex.specs.declared.step.Step.TheVariants as steps
@@ -27,16 +27,13 @@ use Rattle.md_simplex.proofs.PathLaws.{basis_after-append, path_more}
 -- ---- lists of pivots
 
 -- P holds of the last basis too, so of each basis but the one after it
-AllBefore-more : (P : (ℕ → ℕ) → Type 0) (basis : ℕ → ℕ) (pivots : List Pivot) (p : Pivot) → AllBefore P basis pivots → P (basis_after basis pivots) → AllBefore P basis (pivots ++ p ∷ [])
+pub AllBefore-more : (P : (ℕ → ℕ) → Type 0) (basis : ℕ → ℕ) (pivots : List Pivot) (p : Pivot) → AllBefore P basis pivots → P (basis_after basis pivots) → AllBefore P basis (pivots ++ p ∷ [])
 AllBefore-more P basis [] p h here = (here, tt)
 AllBefore-more P basis (q ∷ pivots) p h here = (h.0, AllBefore-more P (after basis q) pivots p h.1 here)
 
-with_column-same : (b c : ℕ → ℕ) (row column i : ℕ) → b i ≡ c i → with_column b row column i ≡ with_column c row column i
-with_column-same b c row column i e = ap (λ z. if i == row then column else z) e
-
 -- ---- the sizes of the program in place of those of the dictionary
 
-sized : (p : Program) (d : Condensed) (C : ℕ → ℕ → Type 0) → Holds p d → C d.rows d.columns → C (row_count p) (column_count p)
+pub sized : (p : Program) (d : Condensed) (C : ℕ → ℕ → Type 0) → Holds p d → C d.rows d.columns → C (row_count p) (column_count p)
 sized p d C h x = subst (λ n. C (row_count p) n) h.columns (subst (λ m. C m d.columns) h.rows x)
 
 -- how many more pivots there can be: bases have different codes, and this many codes are left
@@ -106,14 +103,6 @@ module _ (order : Order) (p : Program) (width : ℕ) where
 
   pub wide_first : (entry : Entry) → IsWideBasis (row_count p) (column_count p) (first_entry p) (first_basis p) (limit_of width) entry → IsFirstWideIn order p width [] entry
   wide_first entry h = record { path = tt; narrow = tt; wide = h }
-
-  IsWideBasis-same_basis : (m n : ℕ) (t : ℕ → ℕ → ℤ) (limit : ℕ) (b c : ℕ → ℕ) (entry : Entry) → ((i : ℕ) → i < m → b i ≡ c i) → IsWideBasis m n t b limit entry → IsWideBasis m n t c limit entry
-  IsWideBasis-same_basis m n t limit b c entry same h = record {
-    den = h.den;
-    table = h.table;
-    dictionary = IsDictionary-same_basis m n t b c h.den h.table same h.dictionary;
-    first = h.first;
-  }
 
   pub wide_next : (pivots : List Pivot) (d : Condensed) (q : Pivot) (entry : Entry) → IsReached order p width pivots d → IsNext order d.rows d.columns (entry_at d) (steps.Pivot q) → IsWideBasis d.rows d.columns (first_entry p) (with_column (basic_at d) q.row q.column) (limit_of d.bits) entry → IsFirstWideIn order p width (pivots ++ q ∷ []) entry
   wide_next pivots d q entry h next wide = record {

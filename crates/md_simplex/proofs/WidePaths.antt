@@ -1,7 +1,8 @@
 -- A path has at most one first wide basis, and where it has one, not all of its bases are narrow.
-use Rattle.std.proofs.Common.{◌≡◌, ℕ, ◌<◌, ◌≤◌, ℤ, List, [], ◌∷◌, unsigned_abs, inl, inr, refl, sym, ap, ap₂, ◌∙◌, subst, arith}
+use Rattle.std.proofs.Common.{◌≡◌, ℕ, ◌<◌, ℤ, List, [], ◌∷◌, inl, inr, refl, sym, ap, ap₂, ◌∙◌, subst, arith}
 use Rattle.std.proofs.lemmas.Bool.{cases_lt}
 use Rattle.md_math.specs.Sizes.{IsWithin}
+use Rattle.md_math.proofs.SizeLaws.{not_above}
 use Rattle.md_lp.specs.declared.pivot.Pivot.{Pivot}
 use Rattle.md_lp.specs.declared.entry.Entry.{Entry}
 use Rattle.md_dict.specs.Wide.{IsWideBasis}
@@ -11,10 +12,6 @@ use Rattle.md_simplex.specs.declared.step.Step.{Step}
 use Rattle.md_simplex.specs.declared.step.Step.TheVariants as steps
 use Rattle.md_simplex.specs.Path.{AllBefore, IsFirstWideBasis, IsNarrowBasis, IsPathFrom, IsWholePath, after, basis_after}
 use Rattle.md_simplex.proofs.OneNext.{no_end, one_next, pivot_of}
-
--- an entry within the limit is not above it
-not_above : (limit : ℕ) (x y : ℤ) → x ≡ y → IsWithin limit x → limit < unsigned_abs y → ⊥
-not_above limit x y e h l = (let k : IsWithin limit y = subst (IsWithin limit) e h in let w : unsigned_abs y ≤ limit = k.within in omega arith)
 
 abbrev make_entry : ℕ → ℕ → ℤ → ℤ → Entry
 make_entry row column num den = record { row = row; column = column; num = num; den = den }

@@ -17,9 +17,11 @@ use Rattle.md_cert.specs.declared.bound.Bound.{Bound}
 use Rattle.md_cert.specs.declared.certificate.Certificate.{Certificate}
 use Rattle.md_cert.specs.declared.certificate.Certificate.TheVariants as certificates
 use Rattle.md_cert.proofs.Duality.{optimal-claim, infeasible-claim}
+use Rattle.md_cert.proofs.SameCertificates.{certified-same}
 use Rattle.md_rows.specs.ProgramOf.{IsProgramOf}
 use Rattle.md_rows.specs.Points.{mechanism_of, point_of}
 use Rattle.md_rows.proofs.Law.{admits-mechanisms, admits-points, costs-points, costs-mechanisms}
+use Rattle.md_rows.proofs.OneProgram.{same_program}
 use Rattle.md_claims.specs.Laws.{IsProgramWithLaws}
 use Rattle.md_claims.specs.Rays.{ray_of}
 use Rattle.md_claims.proofs.SettingClaims.{optimal, infeasible, grows}
@@ -38,13 +40,8 @@ use Rattle.md_solve.specs.Certifies.{IsCertifiedAnswer}
 use Rattle.md_solve.specs.Shown.{IsSo}
 use Rattle.md_solve.specs.Solved.{IsValueOf, TellsCertificate}
 use Rattle.md_solve.proofs.Certificates.{optimal-there, unbounded-there}
-use Rattle.md_solve.proofs.SamePrograms.{same_program, certified-same}
 
 -- ---- results
-
-pub if_ok : {T E : Type 0} → (r : Result T E) (P Q : T → Type 0) → ((x : T) → P x → Q x) → IfOk r P → IfOk r Q
-if_ok (Ok x) P Q f h = f x h
-if_ok (Err e) P Q f h = tt
 
 pub if_both : {T E : Type 0} → (r : Result T E) (P Q R : T → Type 0) → ((x : T) → P x → Q x → R x) → IfOk r P → IfOk r Q → IfOk r R
 if_both (Ok x) P Q R f h k = f x h k

@@ -1,6 +1,5 @@
 pub mod RayLists
 pub mod ValueLaws
-pub mod SamePrograms
 pub mod SamePaths
 pub mod SameForms
 pub mod Certificates

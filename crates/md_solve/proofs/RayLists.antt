@@ -1,13 +1,12 @@
 -- The payments of a ray as a list: its places, its length and its sizes.
-use Rattle.std.proofs.Common.{◌≡◌, ℕ, zero, suc, ◌+◌, ◌*◌, ◌/◌, ◌%◌, ◌<◌, true, ℤ, pos, ◌-ℤ◌, ◌≤ℤ◌, List, [], ◌∷◌, ◌++◌, length, sym, ap, ◌∙◌, subst, arith, append_assoc, inl, inr}
-use Rattle.std.proofs.lemmas.Int.{ints}
+use Rattle.std.proofs.Common.{◌≡◌, ℕ, zero, suc, ◌+◌, ◌*◌, ◌/◌, ◌%◌, ◌<◌, true, ℤ, pos, List, length, sym, ◌∙◌, subst, arith, inl, inr}
 use Rattle.std.proofs.lemmas.Bool.{cases_Bool, cases_lt}
 use Rattle.std.proofs.lemmas.List.{length-map, get_or_past}
 use Rattle.std.proofs.lemmas.Nat.{div_below, mod_below, div-add-mod', mul-add-lt}
 use Rattle.md_math.specs.Lists.{number_at, list_to}
 use Rattle.md_math.specs.Sizes.{IsWithin}
-use Rattle.md_math.proofs.Builders.{list_to-more, length-list_to, get_or-list_to, length-up_to, get_or-up_to}
-use Rattle.md_math.proofs.SizeLaws.{AllWithin-number_at, IsWithin-zero}
+use Rattle.md_math.proofs.Builders.{length-list_to, get_or-list_to, length-up_to, get_or-up_to}
+use Rattle.md_math.proofs.SizeLaws.{AllWithin-number_at, IsWithin-zero, IsWithin-difference}
 use Rattle.md_space.specs.Profiles.{profile_count, profile_at}
 use Rattle.md_setting.specs.Setting.{GeneralSetting}
 use Rattle.md_setting.specs.Meaning.{agent_count, sizes_of}
@@ -37,23 +36,13 @@ plus-in s i r on l b = omega (arith, plus-at_rank s i r b, columns-on s on, plac
 pub minus-in : (s : GeneralSetting) (i r : ℕ) → s.payments ≡ true → i < agent_count s → r < profile_count (sizes_of s) → minus_column s i (profile_at (sizes_of s) r) < column_count s
 minus-in s i r on l b = omega (arith, minus-at_rank s i r b, columns-on s on, place-in (agent_count s) (profile_count (sizes_of s)) i r l b)
 
--- ---- lists that grow
-
-pub push-list : {X : Type 0} → (old now new : List X) (k : ℕ) (f : ℕ → X) (v : X) → now ≡ old ++ list_to k f → new ≡ now ++ v ∷ [] → v ≡ f k → new ≡ old ++ list_to (k + 1) f
-push-list old now new k f v before pushed value =
-    pushed ∙ ap (λ xs. xs ++ v ∷ []) before ∙ append_assoc old (list_to k f) (v ∷ []) ∙ ap (λ x. old ++ (list_to k f ++ x ∷ [])) value ∙ ap (λ xs. old ++ xs) (sym (list_to-more k f))
-
 -- ---- numbers
-
--- the difference of two numbers that are at least 0
-difference-within : (limit : ℕ) (a b : ℤ) → pos 0 ≤ℤ a → pos 0 ≤ℤ b → IsWithin limit a → IsWithin limit b → IsWithin limit (a -ℤ b)
-difference-within limit a b p q h k = record { within = omega (arith, ints, p, q, h.within, k.within) }
 
 pay-within : (s : GeneralSetting) (ray : List ℤ) (i r : ℕ) → IsRayList s ray → i < agent_count s → r < profile_count (sizes_of s) → IsWithin number_limit (payment_in s (number_at ray) i (profile_at (sizes_of s) r))
 pay-within s ray i r h l b = elim (cases_Bool s.payments) [
   | inl on ↦
       rw (payment-on s (number_at ray) i (profile_at (sizes_of s) r) on)
-      (difference-within number_limit (number_at ray (plus_column s i (profile_at (sizes_of s) r))) (number_at ray (minus_column s i (profile_at (sizes_of s) r)))
+      (IsWithin-difference number_limit (number_at ray (plus_column s i (profile_at (sizes_of s) r))) (number_at ray (minus_column s i (profile_at (sizes_of s) r)))
       (h.nonneg (plus_column s i (profile_at (sizes_of s) r)) (plus-in s i r on l b)) (h.nonneg (minus_column s i (profile_at (sizes_of s) r)) (minus-in s i r on l b))
       (AllWithin-number_at number_limit ray (plus_column s i (profile_at (sizes_of s) r)) h.sizes) (AllWithin-number_at number_limit ray (minus_column s i (profile_at (sizes_of s) r)) h.sizes))
   | inr off ↦ rw (payment-off s (number_at ray) i (profile_at (sizes_of s) r) off) (IsWithin-zero number_limit)

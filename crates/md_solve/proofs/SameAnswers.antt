@@ -3,6 +3,7 @@ use Rattle.std.proofs.Common.{◌≡◌, ℕ, ◌+◌, ◌<◌, ℤ, ◌*ℤ◌,
 use Rattle.md_lp.specs.declared.entry.Entry.{Entry}
 use Rattle.md_lp.specs.declared.pivot.Pivot.{Pivot}
 use Rattle.md_lp.specs.Program.{Program, row_count}
+use Rattle.md_lp.proofs.SamePrograms.{IsSameProgram}
 use Rattle.md_num.specs.Limits.{limit_of}
 use Rattle.md_cert.specs.declared.bound.Bound.{Bound}
 use Rattle.md_cert.specs.declared.certificate.Certificate.{Certificate}
@@ -11,6 +12,7 @@ use Rattle.md_dict.specs.Dictionary.{IsDictionary}
 use Rattle.md_dict.specs.FirstTable.{column_count, sign_at}
 use Rattle.md_dict.specs.Wide.{IsWideBasis}
 use Rattle.md_rows.specs.ProgramOf.{IsProgramOf}
+use Rattle.md_rows.proofs.OneProgram.{same_program}
 use Rattle.md_setting.specs.Setting.{GeneralSetting}
 use Rattle.md_simplex.specs.declared.end.End.{End}
 use Rattle.md_simplex.specs.declared.order.Order.TheVariants.{Forward}
@@ -23,7 +25,6 @@ use Rattle.md_simplex.proofs.Reduced.{list-of_same, over-of_same}
 use Rattle.md_answer.specs.declared.answer.Answer.{Answer}
 use Rattle.md_answer.specs.declared.answer.Answer.TheVariants.{Table, Optimal, Infeasible, Unbounded, TooWide}
 use Rattle.md_solve.specs.Solved.{IsSolvedBy, TellsRun}
-use Rattle.md_solve.proofs.SamePrograms.{IsSameProgram, same_program}
 use Rattle.md_solve.proofs.SamePaths.{before-same, carry, count-same, dictionary-same, narrow-same, path-same, path_of-same, sign-same}
 
 module _ (p q : Program) (h : IsSameProgram p q) where

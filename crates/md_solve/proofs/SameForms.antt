@@ -1,8 +1,7 @@
 -- What the rows of a setting's program say depends on the chances and the payments alone, however each payment is split.
-use Rattle.std.proofs.Common.{◌≡◌, ℕ, zero, suc, ◌<◌, Bool, true, false, ℤ, pos, ◌+ℤ◌, ◌-ℤ◌, ◌*ℤ◌, neg_ℤ, List, [], ◌∷◌, ◌++◌, length, get_or, All, sym, ap, ap₂, ◌∙◌, subst, arith}
+use Rattle.std.proofs.Common.{◌≡◌, ℕ, zero, suc, ◌<◌, ℤ, pos, ◌+ℤ◌, ◌-ℤ◌, ◌*ℤ◌, neg_ℤ, List, [], ◌∷◌, length, get_or, All, sym, ap, ap₂, ◌∙◌, subst, arith}
 use Rattle.std.specs.Prelude.{slice_index, ◌==◌, if◌then◌else◌}
-use Rattle.std.proofs.lemmas.List.Elements.{All-append, All-nil}
-use Rattle.md_math.proofs.Builders.{All-up_to, All-left, All-right}
+use Rattle.md_math.proofs.Builders.{All-left, All-right}
 use Rattle.md_math.proofs.Order.{*ℤ_cancel}
 use Rattle.md_math.proofs.SumLaws.{sum_to-same}
 use Rattle.md_math.proofs.TotalLaws.{total_by-same}
@@ -10,16 +9,12 @@ use Rattle.md_space.specs.Profiles.{IsProfile, replaced}
 use Rattle.md_space.specs.AllProfiles.{profiles_of}
 use Rattle.md_space.proofs.InOrder.{All-profiles_of}
 use Rattle.md_space.proofs.Ranks.{replaced-IsProfile}
-use Rattle.md_setting.specs.declared.kinds.Truth.{Truth}
-use Rattle.md_setting.specs.declared.kinds.Truth.TheVariants.{Dominant, Bayes}
-use Rattle.md_setting.specs.declared.kinds.Rational.{Rational}
-use Rattle.md_setting.specs.declared.kinds.Rational.TheVariants.{None as Free, ExPost, Interim}
 use Rattle.md_setting.specs.Setting.{GeneralSetting}
 use Rattle.md_setting.specs.Meaning.{agent_count, outcome_count, sizes_of, type_utility, weight_of, value_of}
 use Rattle.md_setting.specs.Rows.{column_count}
 use Rattle.md_mech.specs.Utility.{weighted_given}
-use Rattle.md_mech.specs.Rows.{Row as Condition, dominant_row, bayes_row, ex_post_row, interim_row, deficit_row, profile_row, by_report, by_profile, by_type, truth_rows, rational_rows, deficit_rows, rows_of}
-use Rattle.md_mech.proofs.RowLaws.{all-by_profile, all-one, one-all, all-by_report}
+use Rattle.md_mech.specs.Rows.{Row as Condition, dominant_row, bayes_row, ex_post_row, interim_row, deficit_row, profile_row, rows_of}
+use Rattle.md_mech.proofs.RowLaws.{one-all}
 use Rattle.md_lp.specs.declared.row_kind.RowKind.TheVariants.{AtMost}
 use Rattle.md_lp.specs.Program.{Program, Row, row_count, row_at, left_of}
 use Rattle.md_lp.specs.Point.{row_sum}
@@ -27,45 +22,12 @@ use Rattle.md_lp.proofs.Dividing.{IsDivisorFor-positive}
 use Rattle.md_rows.specs.Columns.{chance_column, payment_in}
 use Rattle.md_rows.specs.Sides.{utility_in, gain_in, lack_in, left_side, objective_in, cost_in}
 use Rattle.md_rows.specs.ProgramOf.{number_of, IsRowOf, AreRowsOf, IsProgramOf}
-use Rattle.md_rows.proofs.Law.{IsPlaced}
+use Rattle.md_rows.proofs.Law.{IsPlaced, conditions-placed}
 
 -- the same chances, and the same payments
 pub record IsSameForm (s : GeneralSetting) (x y : ℕ → ℤ) : Type 0 where
   pub chance : (t : List ℕ) (o : ℕ) → IsProfile (sizes_of s) t → o < outcome_count s → x (chance_column s t o) ≡ y (chance_column s t o)
   pub pay : (i : ℕ) (t : List ℕ) → i < agent_count s → IsProfile (sizes_of s) t → payment_in s x i t ≡ payment_in s y i t
-
--- ---- each condition is one of the setting's agents, types and profiles
-
-truth-placed : (kind : Truth) (s : GeneralSetting) → All (IsPlaced s) (truth_rows kind s)
-truth-placed Dominant s =
-    All-up_to (IsPlaced s) (agent_count s) (λ i. by_profile s (λ t. by_report (slice_index (sizes_of s) i) (slice_index t i) (dominant_row i t)))
-    (λ i agent. all-by_profile s (IsPlaced s) (λ t. by_report (slice_index (sizes_of s) i) (slice_index t i) (dominant_row i t))
-    (λ t profile. all-by_report (IsPlaced s) (slice_index (sizes_of s) i) (slice_index t i) (dominant_row i t) (λ b below. (agent, profile, below))))
-truth-placed Bayes s =
-    All-up_to (IsPlaced s) (agent_count s) (λ i. by_type s i (λ a. by_report (slice_index (sizes_of s) i) a (bayes_row i a)))
-    (λ i agent. All-up_to (IsPlaced s) (slice_index (sizes_of s) i) (λ a. by_report (slice_index (sizes_of s) i) a (bayes_row i a))
-    (λ a kind. all-by_report (IsPlaced s) (slice_index (sizes_of s) i) a (bayes_row i a) (λ b below. (agent, kind, below))))
-
-rational-placed : (kind : Rational) (s : GeneralSetting) → All (IsPlaced s) (rational_rows kind s)
-rational-placed Free s = All-nil (IsPlaced s)
-rational-placed ExPost s =
-    All-up_to (IsPlaced s) (agent_count s) (λ i. by_profile s (λ t. ex_post_row i t ∷ []))
-    (λ i agent. all-by_profile s (IsPlaced s) (λ t. ex_post_row i t ∷ []) (λ t profile. all-one (IsPlaced s) (ex_post_row i t) (agent, profile)))
-rational-placed Interim s =
-    All-up_to (IsPlaced s) (agent_count s) (λ i. by_type s i (λ a. interim_row i a ∷ []))
-    (λ i agent. All-up_to (IsPlaced s) (slice_index (sizes_of s) i) (λ a. interim_row i a ∷ []) (λ a kind. all-one (IsPlaced s) (interim_row i a) (agent, kind)))
-
-deficit-placed : (on : Bool) (s : GeneralSetting) → All (IsPlaced s) (deficit_rows on s)
-deficit-placed true s = all-by_profile s (IsPlaced s) (λ t. deficit_row t ∷ []) (λ t profile. all-one (IsPlaced s) (deficit_row t) profile)
-deficit-placed false s = All-nil (IsPlaced s)
-
-conditions-placed : (s : GeneralSetting) → All (IsPlaced s) (rows_of s)
-conditions-placed s =
-    All-append (IsPlaced s) (truth_rows s.truth s ++ rational_rows s.rational s ++ deficit_rows s.no_deficit s) (by_profile s (λ t. profile_row t ∷ []))
-    (All-append (IsPlaced s) (truth_rows s.truth s ++ rational_rows s.rational s) (deficit_rows s.no_deficit s)
-    (All-append (IsPlaced s) (truth_rows s.truth s) (rational_rows s.rational s) (truth-placed s.truth s) (rational-placed s.rational s))
-    (deficit-placed s.no_deficit s))
-    (all-by_profile s (IsPlaced s) (λ t. profile_row t ∷ []) (λ t profile. all-one (IsPlaced s) (profile_row t) profile))
 
 -- ---- left sides
 

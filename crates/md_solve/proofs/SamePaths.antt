@@ -7,6 +7,7 @@ use Rattle.md_math.proofs.SumLaws.{sum_to-same}
 use Rattle.md_lp.specs.declared.entry.Entry.{Entry}
 use Rattle.md_lp.specs.declared.pivot.Pivot.{Pivot}
 use Rattle.md_lp.specs.Program.{Program, row_count, kind_at, right_at, coefficient_at, cost_at}
+use Rattle.md_lp.proofs.SamePrograms.{IsSameProgram}
 use Rattle.md_num.specs.Limits.{limit_of}
 use Rattle.md_dict.specs.Dictionary.{IsDictionary}
 use Rattle.md_dict.specs.FirstTable.{is_at_most, slacks_before, column_count, sign_at, row_entry, main_entry, first_entry, first_basis}
@@ -17,7 +18,6 @@ use Rattle.md_simplex.specs.declared.step.Step.TheVariants as steps
 use Rattle.md_simplex.specs.Rules.{HasNext}
 use Rattle.md_simplex.specs.Path.{after, basis_after, IsPathFrom, IsWholePath, IsNarrowBasis, AllBefore}
 use Rattle.md_simplex.specs.Runs.{BeginsPath, IsNarrowPath, IsPathOf, IsWideAt, basis_of}
-use Rattle.md_solve.proofs.SamePrograms.{IsSameProgram}
 
 -- ---- tables
 

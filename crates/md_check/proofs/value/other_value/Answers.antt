@@ -1,19 +1,23 @@
-use Rattle.std.proofs.Common.{pos, ◌<ℤ◌, ◌*ℤ◌, ◌∙◌, sym, to_z, of_z, arith}
+use Rattle.std.proofs.Common.{◌≡◌, ℤ, false, pos, ◌<ℤ◌, ◌*ℤ◌, ◌∙◌, sym, to_z, of_z, arith}
+use lib.Signed.{lt_z}
 use mir.Syntax.{w64}
 use mathlib.Core.Bool.{false≢true}
 use Rattle.std.proofs.lemmas.Int.{ints}
 use Rattle.md_math.proofs.Order.{positive-*ℤ}
+use Rattle.md_math.proofs.Bits.{read_short_result}
 use Rattle.md_setting.specs.Meaning.{total_of}
 use Rattle.md_mech.specs.Optimal.{worth_of}
 use Rattle.md_mech.proofs.WorthLaws.{total-positive}
 use Rattle.md_check.specs.Values.{HasValue}
-use Rattle.md_check.proofs.Bits.{short_back, not_both}
 use Rattle.md_check.proofs.ValueLaws.{same_value, same_least}
 use Rattle.md_check.proofs.value.other_value.Goals as goal
 
+not_both : (z : ℤ) → lt_z (pos 0) z ≡ false → pos 0 <ℤ z → ⊥
+not_both z below above = grind (arith, ints)
+
 pub prove-unreachable-requires : goal.prove-unreachable-requires
 prove-unreachable-requires c =
-    not_both (to_z w64 (of_z w64 c.total-weight.result)) c.if-prove.true (rw (short_back c.total-weight.result c.total-weight.type_inv, c.total-weight.ensures.value) (total-positive c.args.setting.now c.total-weight.ensures.shaped))
+    not_both (to_z w64 (of_z w64 c.total-weight.result)) c.if-prove.true (rw (read_short_result c.total-weight.result c.total-weight.type_inv, c.total-weight.ensures.value) (total-positive c.args.setting.now c.total-weight.ensures.shaped))
 
 pub returns-then-is_same_number : goal.returns-then-is_same_number
 returns-then-is_same_number c =

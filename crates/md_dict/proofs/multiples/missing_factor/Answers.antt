@@ -1,8 +1,8 @@
 use Rattle.std.proofs.lemmas.Int.{to_z-of_z}
 use mir.Syntax.{w128}
 use Rattle.md_math.specs.Divisors.{IsGcdOfTwo}
-use Rattle.md_dict.proofs.Reading.{read_result}
-use Rattle.md_dict.proofs.StepDivisor.{positive_divisor}
+use Rattle.md_math.proofs.Bits.{read_result}
+use Rattle.md_math.proofs.Division.{positive_divisor}
 use Rattle.md_dict.proofs.LeastMultiples.{IsMultipleOfTwo-gcd}
 use Rattle.md_dict.proofs.multiples.missing_factor.Goals as goal
 

@@ -1,8 +1,8 @@
 use Rattle.std.proofs.Common.{◌≡◌, ◌^◌, ◌<◌, ◌*ℤ◌, refl, subst}
 use Rattle.std.proofs.lemmas.Int.{to_z-of_z, unsigned_abs-mul}
 use mir.Syntax.{w128}
+use Rattle.md_math.proofs.Bits.{read_result}
 use Rattle.md_dict.specs.Multiples.{IsMultipleOfTwo}
-use Rattle.md_dict.proofs.Reading.{read_result}
 use Rattle.md_dict.proofs.LeastMultiples.{IsMultipleOfTwo-divides, small_factor, small_multiple, small_multiple_of_two}
 use Rattle.md_dict.proofs.multiples.with_multiple.Goals as goal
 

@@ -5,7 +5,8 @@ use Rattle.md_math.specs.Lists.{number_at}
 use Rattle.md_math.specs.Sizes.{IsWithin}
 use Rattle.md_math.proofs.Order.{≤ℤ_trans}
 use Rattle.md_math.proofs.SizeLaws.{AllWithin-number_at}
-use Rattle.md_dict.proofs.Reading.{read_short, read_result, read_product, product_small}
+use Rattle.md_math.proofs.Bits.{read_result}
+use Rattle.md_dict.proofs.Reading.{read_short, read_product, product_small}
 use Rattle.md_dict.proofs.sizes.greatest_product.Goals as goal
 
 pub loop-row-preserved : goal.loop-row-preserved

@@ -1,9 +1,9 @@
 use Rattle.std.proofs.Common.{◌≡◌, ◌∙◌, inl, inr, subst, arith}
 use Rattle.std.proofs.lemmas.Bool.{cases_lt}
 use Rattle.md_math.specs.Sizes.{IsWithin}
+use Rattle.md_math.proofs.Bits.{read_result}
 use Rattle.md_dict.specs.Step.{new_entry}
 use Rattle.md_dict.specs.RowStep.{kept_in}
-use Rattle.md_dict.proofs.Reading.{read_result}
 use Rattle.md_dict.proofs.Change.{above_from_not}
 use Rattle.md_dict.proofs.wide.first_wide.Goals as goal
 

@@ -1,4 +1,5 @@
-use Rattle.md_dict.proofs.Reading.{read_result, read_wide, read_small, sizes_small}
+use Rattle.md_math.proofs.Bits.{read_result}
+use Rattle.md_dict.proofs.Reading.{read_wide, read_small, sizes_small}
 use Rattle.md_dict.proofs.Change.{quotient_is}
 use Rattle.md_dict.proofs.wide.new_den.Goals as goal
 

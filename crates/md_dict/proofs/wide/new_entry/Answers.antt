@@ -1,4 +1,4 @@
-use Rattle.md_dict.proofs.Reading.{read_result}
+use Rattle.md_math.proofs.Bits.{read_result}
 use Rattle.md_dict.specs.RowStep.{kept_in}
 use Rattle.md_dict.proofs.Change.{Divides-raw_at, quotient_is}
 use Rattle.md_dict.proofs.wide.new_entry.Goals as goal

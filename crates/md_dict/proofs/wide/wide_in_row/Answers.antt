@@ -1,7 +1,7 @@
 use Rattle.std.proofs.Common.{refl, arith}
 use Rattle.std.proofs.lemmas.Bool.{false≢true}
 use Rattle.md_math.proofs.FirstFailures.{HoldsBelow-more, HoldsBelow-fewer}
-use Rattle.md_dict.proofs.Reading.{read_result}
+use Rattle.md_math.proofs.Bits.{read_result}
 use Rattle.md_dict.proofs.wide.wide_in_row.Goals as goal
 
 pub loop-column-preserved : goal.loop-column-preserved

@@ -1,8 +1,8 @@
 use Rattle.std.proofs.Common.{◌≡◌, ◌++◌, sym, ap, ◌∙◌, append_assoc}
 use Rattle.md_math.proofs.Builders.{up_to-more}
+use Rattle.md_math.proofs.Bits.{read_result}
 use Rattle.md_lp.specs.Program.{cost_at}
 use Rattle.md_listing.specs.Listing.{pairs_of, pair_at}
-use Rattle.md_listing.proofs.PairLaws.{read_result}
 use Rattle.md_listing.proofs.pairs.with_costs.Goals as goal
 
 pub loop-column-preserved : goal.loop-column-preserved

@@ -1,8 +1,8 @@
 use Rattle.std.proofs.Common.{◌^◌, refl, sym}
 use mir.Syntax.{w128}
 use Rattle.std.proofs.lemmas.Int.{to_z-of_z}
+use Rattle.md_math.proofs.Bits.{read_result}
 use Rattle.md_lp.specs.Program.{Row}
-use Rattle.md_lp.proofs.Bits.{result_back}
 use Rattle.md_lp.proofs.ShapeLaws.{value_sizes}
 use Rattle.md_lp.proofs.Dividing.{Divides-right, Divides-values}
 use Rattle.md_lp.proofs.divide.divided_row.Goals as goal
@@ -11,7 +11,7 @@ pub divided_terms-requires-clause-exact : goal.divided_terms-requires-clause-exa
 divided_terms-requires-clause-exact c =
     let raw : Row = record { kind = c.args.kind; terms = c.args.terms.now; right = c.args.right } in
     let divisor = rw (to_z-of_z w128 c.args.right c.ranges.right) at c.row_divisor-by.ensures in
-    rw (result_back c.row_divisor-by.result c.row_divisor-by.type_inv) (Divides-values c.row_divisor-by.result raw divisor)
+    rw (read_result c.row_divisor-by.result c.row_divisor-by.type_inv) (Divides-values c.row_divisor-by.result raw divisor)
 
 pub divided_terms-requires-clause-sizes : goal.divided_terms-requires-clause-sizes
 divided_terms-requires-clause-sizes c =
@@ -22,14 +22,14 @@ pub exact_quotient-requires-clause-exact : goal.exact_quotient-requires-clause-e
 exact_quotient-requires-clause-exact c =
     let raw : Row = record { kind = c.args.kind; terms = c.args.terms.now; right = c.args.right } in
     let divisor = rw (to_z-of_z w128 c.args.right c.ranges.right) at c.row_divisor-by.ensures in
-    rw (result_back c.row_divisor-by.result c.row_divisor-by.type_inv, to_z-of_z w128 c.args.right c.ranges.right) (Divides-right c.row_divisor-by.result raw divisor)
+    rw (read_result c.row_divisor-by.result c.row_divisor-by.type_inv, to_z-of_z w128 c.args.right c.ranges.right) (Divides-right c.row_divisor-by.result raw divisor)
 
 pub returns : goal.returns
 returns c =
     let divisor = rw (to_z-of_z w128 c.args.right c.ranges.right) at c.row_divisor-by.ensures in
-    let quotient = rw (result_back c.row_divisor-by.result c.row_divisor-by.type_inv, to_z-of_z w128 c.args.right c.ranges.right) at c.exact_quotient.ensures.value in
-    let terms = rw (result_back c.row_divisor-by.result c.row_divisor-by.type_inv) at c.in_ok-divided_terms.ensures in
-    rw (result_back c.exact_quotient.result c.exact_quotient.type_inv) (record {
+    let quotient = rw (read_result c.row_divisor-by.result c.row_divisor-by.type_inv, to_z-of_z w128 c.args.right c.ranges.right) at c.exact_quotient.ensures.value in
+    let terms = rw (read_result c.row_divisor-by.result c.row_divisor-by.type_inv) at c.in_ok-divided_terms.ensures in
+    rw (read_result c.exact_quotient.result c.exact_quotient.type_inv) (record {
       by = c.row_divisor-by.result;
       divisor = divisor;
       kind = refl;

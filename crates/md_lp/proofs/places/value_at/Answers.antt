@@ -1,9 +1,9 @@
 use Rattle.std.proofs.Common.{◌<◌, inl, inr, sym, ◌∙◌, arith, length}
 use Rattle.std.proofs.lemmas.Bool.{cases_lt}
+use Rattle.md_math.proofs.Bits.{read_short_result, read_result}
 use Rattle.md_lp.specs.Shape.{column_in}
 use Rattle.md_lp.specs.Stored.{shown_terms}
 use Rattle.md_lp.proofs.SparseRows.{value_of-present, value_of-absent}
-use Rattle.md_lp.proofs.Bits.{result_back, short_result_back}
 use Rattle.md_lp.proofs.StoredTerms.{length-shown, value-shown}
 use Rattle.md_lp.proofs.places.value_at.Goals as goal
 
@@ -13,9 +13,9 @@ returns-in-Ok c =
     let found = c.in-Ok.ensures.found in
     let terms = shown_terms c.args.terms.now in
     let inside : at < length terms = omega (arith, length-shown c.args.terms.now, found.0) in
-    result_back c.from.result c.from.type_inv
+    read_result c.from.result c.from.type_inv
     ∙ c.from.ensures
-    ∙ short_result_back c.value.result c.value.type_inv
+    ∙ read_short_result c.value.result c.value.type_inv
     ∙ c.value.ensures
     ∙ sym (value-shown c.args.terms.now at)
     ∙ sym (rw found.1 at (value_of-present terms at c.requires.ascending inside))

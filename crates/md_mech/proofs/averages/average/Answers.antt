@@ -4,10 +4,10 @@ use Rattle.md_math.specs.Sizes.{IsWithin}
 use Rattle.md_math.specs.Sums.{sum_to}
 use Rattle.md_math.proofs.SizeLaws.{IsWithin-+ℤ, fits_from_IsWithin}
 use Rattle.md_math.proofs.SumLaws.{sum_to-more}
+use Rattle.md_math.proofs.Bits.{read_result, read_within}
 use Rattle.md_space.specs.Profiles.{profile_at, profile_count}
 use Rattle.md_setting.specs.Meaning.{sizes_of}
 use Rattle.md_mech.specs.Utility.{average_term}
-use Rattle.md_mech.proofs.Reading.{read_result, read_wide}
 use Rattle.md_mech.proofs.AverageLaws.{average-within, average-by_rank}
 use Rattle.md_mech.proofs.averages.average.Goals as goal
 
@@ -28,7 +28,7 @@ loop-rank-preserved c =
     let before : IsWithin (1024 * (1000000 * 2 ^ 90)) (to_z w128 c.loop-rank.sum-bits) =
     rw c.loop-rank.invariant (average-within s c.args.mechanism.now c.args.agent c.args.kind c.args.report c.loop-rank.rank c.requires.accepted c.space.ensures.shaped (omega (arith, count))) in
     rw (read_result c.term_at-sum.result c.term_at-sum.type_inv)
-    (read_wide (1024 * (1000000 * 2 ^ 90) + 1000000 * 2 ^ 90) (to_z w128 c.loop-rank.sum-bits +ℤ c.term_at-sum.result)
+    (read_within (1024 * (1000000 * 2 ^ 90) + 1000000 * 2 ^ 90) (to_z w128 c.loop-rank.sum-bits +ℤ c.term_at-sum.result)
     (IsWithin-+ℤ (1024 * (1000000 * 2 ^ 90)) (1000000 * 2 ^ 90) (to_z w128 c.loop-rank.sum-bits) c.term_at-sum.result before c.term_at-sum.ensures.size) (lit< tt)
     ∙ rw (c.loop-rank.invariant, c.term_at-sum.ensures.value) (sym (sum_to-more c.loop-rank.rank (λ r. average_term s c.args.mechanism.now c.args.agent c.args.kind c.args.report (profile_at (sizes_of s) r)))))
 

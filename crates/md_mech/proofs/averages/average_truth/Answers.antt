@@ -1,5 +1,5 @@
 use Rattle.std.proofs.Common.{◌∙◌}
-use Rattle.md_mech.proofs.Reading.{read_result}
+use Rattle.md_math.proofs.Bits.{read_result}
 use Rattle.md_mech.proofs.AverageLaws.{truth-is}
 use Rattle.md_mech.proofs.averages.average_truth.Goals as goal
 

@@ -4,10 +4,10 @@ use Rattle.md_math.specs.Sizes.{IsWithin}
 use Rattle.md_math.specs.Sums.{sum_to}
 use Rattle.md_math.proofs.SizeLaws.{IsWithin-+ℤ, fits_from_IsWithin}
 use Rattle.md_math.proofs.SumLaws.{sum_to-more}
+use Rattle.md_math.proofs.Bits.{read_result, read_within}
 use Rattle.md_space.specs.Profiles.{profile_at, profile_count}
 use Rattle.md_setting.specs.Meaning.{sizes_of}
 use Rattle.md_mech.specs.Utility.{marginal_term}
-use Rattle.md_mech.proofs.Reading.{read_result, read_wide}
 use Rattle.md_mech.proofs.AverageLaws.{marginal-within, marginal-by_rank}
 use Rattle.md_mech.proofs.averages.marginal.Goals as goal
 
@@ -28,7 +28,7 @@ loop-rank-preserved c =
     let before : IsWithin (1024 * 1000000) (to_z w128 c.loop-rank.sum-bits) =
     rw c.loop-rank.invariant (marginal-within s c.args.agent c.args.kind c.loop-rank.rank c.space.ensures.shaped (omega (arith, count))) in
     rw (read_result c.weight_given-sum.result c.weight_given-sum.type_inv)
-    (read_wide (1024 * 1000000 + 1000000) (to_z w128 c.loop-rank.sum-bits +ℤ c.weight_given-sum.result)
+    (read_within (1024 * 1000000 + 1000000) (to_z w128 c.loop-rank.sum-bits +ℤ c.weight_given-sum.result)
     (IsWithin-+ℤ (1024 * 1000000) 1000000 (to_z w128 c.loop-rank.sum-bits) c.weight_given-sum.result before c.weight_given-sum.ensures.size) (lit< tt)
     ∙ rw (c.loop-rank.invariant, c.weight_given-sum.ensures.value) (sym (sum_to-more c.loop-rank.rank (λ r. marginal_term s c.args.agent c.args.kind (profile_at (sizes_of s) r)))))
 

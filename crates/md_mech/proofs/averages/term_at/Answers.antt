@@ -1,9 +1,9 @@
 use Rattle.std.proofs.Common.{◌≡◌, ◌≤◌, ◌*◌, ◌^◌, ◌*ℤ◌, ◌∙◌, true, arith, ap, sym, slice_index, unsigned_abs, mul-le-mul, eq-eqb, refl}
 use Rattle.std.specs.Prelude.{◌==◌}
+use Rattle.md_math.proofs.Bits.{read_result}
 use Rattle.md_space.specs.Profiles.{profile_at, replaced}
 use Rattle.md_setting.specs.Meaning.{sizes_of}
 use Rattle.md_mech.specs.Utility.{utility_as, expected_utility}
-use Rattle.md_mech.proofs.Reading.{read_result}
 use Rattle.md_mech.proofs.averages.term_at.Goals as goal
 
 pub product-requires : goal.product-requires

@@ -4,7 +4,8 @@ use Rattle.std.proofs.lemmas.Int.{to_z-of_z}
 use mir.Syntax.{w128}
 use Rattle.md_math.specs.Lists.{number_at}
 use Rattle.md_math.specs.Sums.{sum_to}
-use Rattle.md_mech.proofs.WholeLaws.{read_result, not_both, taken, spills, none_left, all_taken, stays_nonneg, not_less}
+use Rattle.md_math.proofs.Bits.{read_result}
+use Rattle.md_mech.proofs.WholeLaws.{not_both, taken, spills, none_left, all_taken, stays_nonneg, not_less}
 use Rattle.md_mech.proofs.build.is_whole.Goals as goal
 
 pub returns-then-is_below : goal.returns-then-is_below

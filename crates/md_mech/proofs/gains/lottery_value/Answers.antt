@@ -2,10 +2,10 @@ use Rattle.std.proofs.Common.{◌≤◌, ◌^◌, ◌*ℤ◌, to_z, sym, ◌∙�
 use mir.Syntax.{w128}
 use Rattle.md_math.specs.Sizes.{IsWithin}
 use Rattle.md_math.proofs.SumLaws.{sum_to-more}
+use Rattle.md_math.proofs.Bits.{read_result}
 use Rattle.md_space.specs.Profiles.{profile_at}
 use Rattle.md_setting.specs.Meaning.{outcome_count, sizes_of, value_of}
 use Rattle.md_mech.specs.Mechanism.{chance_of}
-use Rattle.md_mech.proofs.Reading.{read_result}
 use Rattle.md_mech.proofs.WorthLaws.{step_fits, lottery-within}
 use Rattle.md_mech.proofs.gains.lottery_value.Goals as goal
 

@@ -1,5 +1,5 @@
 use Rattle.std.proofs.Common.{◌^◌, ◌∙◌, lit<, lit≤}
-use Rattle.md_mech.proofs.Reading.{read_result}
+use Rattle.md_math.proofs.Bits.{read_result}
 use Rattle.md_mech.proofs.WorthLaws.{step_fits, step_size}
 use Rattle.md_mech.proofs.gains.objective.Goals as goal
 

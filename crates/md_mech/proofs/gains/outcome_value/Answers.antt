@@ -1,15 +1,15 @@
 use Rattle.std.proofs.Common.{◌≡◌, sym, ◌∙◌, subst}
 use Rattle.md_math.specs.Sizes.{IsWithin}
+use Rattle.md_math.proofs.Bits.{read_result, read_short_result}
 use Rattle.md_space.specs.Profiles.{profile_at}
 use Rattle.md_space.proofs.Ranks.{profile_at-IsProfile}
 use Rattle.md_setting.specs.Meaning.{sizes_of, value_of}
-use Rattle.md_mech.proofs.Reading.{read_result, read_short}
 use Rattle.md_mech.proofs.gains.outcome_value.Goals as goal
 
 pub returns-clause-size : goal.returns-clause-size
 returns-clause-size c =
     let s = c.args.setting.now in
     let t = profile_at (sizes_of s) c.args.rank in
-    let value : c.from.result ≡ value_of s t c.args.outcome = c.from.ensures ∙ read_short c.value.result c.value.type_inv ∙ c.value.ensures.value in
+    let value : c.from.result ≡ value_of s t c.args.outcome = c.from.ensures ∙ read_short_result c.value.result c.value.type_inv ∙ c.value.ensures.value in
     rw (read_result c.from.result c.from.type_inv)
     (subst (IsWithin 10000000) (sym value) (c.value.ensures.shaped.value t c.args.outcome (profile_at-IsProfile (sizes_of s) c.args.rank c.requires.rank_in) c.requires.outcome_in))

@@ -3,10 +3,10 @@ use mir.Syntax.{w128}
 use Rattle.md_math.specs.Sizes.{IsWithin}
 use Rattle.md_math.specs.Sums.{sum_to}
 use Rattle.md_math.proofs.SumLaws.{sum_to-more}
+use Rattle.md_math.proofs.Bits.{read_result}
 use Rattle.md_space.specs.Profiles.{profile_count, profile_at}
 use Rattle.md_setting.specs.Meaning.{sizes_of, weight_of}
 use Rattle.md_mech.specs.Optimal.{objective_at}
-use Rattle.md_mech.proofs.Reading.{read_result}
 use Rattle.md_mech.proofs.WorthLaws.{step_fits, worth-within, worth-by_rank}
 use Rattle.md_mech.proofs.gains.weighted_objective.Goals as goal
 

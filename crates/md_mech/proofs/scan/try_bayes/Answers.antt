@@ -1,8 +1,8 @@
 use Rattle.std.specs.Prelude.{◌==◌}
 use Rattle.std.proofs.lemmas.Bool.Decides.{nat_tests}
 use Rattle.std.proofs.Common.{◌≡◌, false, arith}
+use Rattle.md_math.proofs.Bits.{read_result}
 use Rattle.md_mech.specs.Rows.{bayes_row}
-use Rattle.md_mech.proofs.Reading.{read_result}
 use Rattle.md_mech.proofs.ScanLaws.{scanned-report}
 use Rattle.md_mech.proofs.scan.try_bayes.Goals as goal
 

@@ -1,8 +1,8 @@
 use Rattle.std.proofs.Common.{pos, refl}
+use Rattle.md_math.proofs.Bits.{read_result}
 use Rattle.md_space.specs.Profiles.{profile_at}
 use Rattle.md_setting.specs.Meaning.{sizes_of}
 use Rattle.md_mech.specs.Rows.{deficit_row}
-use Rattle.md_mech.proofs.Reading.{read_result}
 use Rattle.md_mech.proofs.ScanLaws.{scanned-one}
 use Rattle.md_mech.proofs.scan.try_deficit.Goals as goal
 

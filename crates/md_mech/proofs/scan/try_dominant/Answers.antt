@@ -1,11 +1,11 @@
 use Rattle.std.specs.Prelude.{◌==◌}
 use Rattle.std.proofs.lemmas.Bool.Decides.{nat_tests}
 use Rattle.std.proofs.Common.{false, arith, subst, ◌≡◌, ◌∙◌, ap, sym, slice_index}
+use Rattle.md_math.proofs.Bits.{read_result}
 use Rattle.md_space.specs.Profiles.{profile_at, replaced}
 use Rattle.md_setting.specs.Meaning.{sizes_of}
 use Rattle.md_mech.specs.Rows.{dominant_row, left_of, right_of}
 use Rattle.md_mech.specs.Utility.{utility_as}
-use Rattle.md_mech.proofs.Reading.{read_result}
 use Rattle.md_mech.proofs.ScanLaws.{scanned-report}
 use Rattle.md_mech.proofs.scan.try_dominant.Goals as goal
 

@@ -1,9 +1,9 @@
 use Rattle.std.proofs.Common.{◌≡◌, ◌∙◌, ◌*ℤ◌, ap, slice_index}
+use Rattle.md_math.proofs.Bits.{read_result}
 use Rattle.md_space.specs.Profiles.{profile_at}
 use Rattle.md_setting.specs.Meaning.{sizes_of, outside_of}
 use Rattle.md_mech.specs.Rows.{ex_post_row, left_of, right_of}
 use Rattle.md_mech.specs.Utility.{utility_as}
-use Rattle.md_mech.proofs.Reading.{read_result}
 use Rattle.md_mech.proofs.ScanLaws.{scanned-one}
 use Rattle.md_mech.proofs.scan.try_ex_post.Goals as goal
 

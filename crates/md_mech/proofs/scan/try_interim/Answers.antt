@@ -1,5 +1,5 @@
+use Rattle.md_math.proofs.Bits.{read_result}
 use Rattle.md_mech.specs.Rows.{interim_row}
-use Rattle.md_mech.proofs.Reading.{read_result}
 use Rattle.md_mech.proofs.ScanLaws.{scanned-one}
 use Rattle.md_mech.proofs.scan.try_interim.Goals as goal
 

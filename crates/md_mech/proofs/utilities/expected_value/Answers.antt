@@ -1,10 +1,11 @@
 use Rattle.std.proofs.Common.{to_z, ◌≤◌, ◌*ℤ◌, ◌∙◌, arith, sym}
 use mir.Syntax.{w128}
 use Rattle.md_math.proofs.SumLaws.{sum_to-more}
+use Rattle.md_math.proofs.Bits.{read_result}
 use Rattle.md_space.specs.Profiles.{profile_at}
 use Rattle.md_setting.specs.Meaning.{sizes_of, type_utility}
 use Rattle.md_mech.specs.Mechanism.{chance_of}
-use Rattle.md_mech.proofs.Reading.{read_result, step_fits, partial_small}
+use Rattle.md_mech.proofs.UtilitySizes.{step_fits, partial_small}
 use Rattle.md_mech.proofs.UtilityLaws.{expected-within}
 use Rattle.md_mech.proofs.utilities.expected_value.Goals as goal
 

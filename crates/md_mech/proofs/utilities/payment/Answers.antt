@@ -1,8 +1,8 @@
 use Rattle.std.proofs.Common.{◌≡◌, ◌+◌, ◌*◌, ◌∙◌, length, ap}
 use Rattle.std.proofs.lemmas.List.{length-map}
 use Rattle.md_math.specs.Lists.{number_at}
+use Rattle.md_math.proofs.Bits.{read_result}
 use Rattle.md_setting.specs.Meaning.{agent_count}
-use Rattle.md_mech.proofs.Reading.{read_result}
 use Rattle.md_mech.proofs.UtilityLaws.{payment-at_rank}
 use Rattle.md_mech.proofs.utilities.payment.Goals as goal
 

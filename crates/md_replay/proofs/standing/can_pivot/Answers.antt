@@ -1,5 +1,6 @@
 use Rattle.std.proofs.Common.{◌<◌, arith}
-use Rattle.md_replay.proofs.StandingLaws.{can_pivot_of, read_result}
+use Rattle.md_math.proofs.Bits.{read_result}
+use Rattle.md_replay.proofs.StandingLaws.{can_pivot_of}
 use Rattle.md_replay.proofs.standing.can_pivot.Goals as goal
 
 pub returns-then-pivot-columns : goal.returns-then-pivot-columns

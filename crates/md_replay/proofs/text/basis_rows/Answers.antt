@@ -1,8 +1,8 @@
 use Rattle.std.proofs.Common.{◌≡◌, ◌⊎◌, ◌≤◌, ◌∷◌, [], ◌++◌, length, take, inl, inr, sym, ap, ◌∙◌, arith}
 use Rattle.std.proofs.lemmas.Bool.{cases_lt}
 use Rattle.md_math.specs.Lists.{number_at}
+use Rattle.md_math.proofs.Bits.{read_result}
 use Rattle.md_replay.specs.Records.{basis_record, basis_records}
-use Rattle.md_replay.proofs.StandingLaws.{read_result}
 use Rattle.md_replay.proofs.RecordLaws.{basis_records-all, basis_records-more}
 use Rattle.md_replay.proofs.text.basis_rows.Goals as goal
 

@@ -1,8 +1,8 @@
 use Rattle.std.proofs.Common.{◌≡◌, ◌+◌, ◌*◌, ◌^◌, pos, ◌-ℤ◌, ◌*ℤ◌, neg_ℤ, ap, sym, ◌∙◌, subst, arith, lit<}
-use Rattle.md_rows.proofs.Bits.{read_result, read_within}
 use Rattle.md_math.specs.Sizes.{IsWithin}
 use Rattle.md_math.proofs.Ring.{linear}
 use Rattle.md_math.proofs.SizeLaws.{IsWithin-sub, IsWithin-zero, IsWithin-wider, IsWithin-*ℤ}
+use Rattle.md_math.proofs.Bits.{read_result, read_within}
 use Rattle.md_setting.specs.Meaning.{outside_of, marginal_of}
 use Rattle.md_rows.proofs.conditions.lacking.Goals as goal
 

@@ -1,8 +1,8 @@
 use Rattle.std.proofs.Common.{◌≡◌, arith}
 use Rattle.md_setting.specs.Meaning.{agent_count}
 use Rattle.md_mech.specs.Rows.{ex_post_rows}
+use Rattle.md_mech.proofs.UtilityLaws.{agents_are}
 use Rattle.md_rows.proofs.BuiltLaws.{room-at, extends-more}
-use Rattle.md_rows.proofs.CountLaws.{agents_are}
 use Rattle.md_rows.proofs.conditions.push_ex_post.Goals as goal
 
 pub push_ex_post_agent-requires-clause-room : goal.push_ex_post_agent-requires-clause-room

@@ -1,8 +1,8 @@
 use Rattle.std.proofs.Common.{◌≡◌, ◌+◌, pos, ◌-ℤ◌, neg_ℤ, [], ◌∷◌, ap, ◌∙◌, arith, refl, slice_index, lit<}
-use Rattle.md_rows.proofs.Bits.{read_result, read_within}
 use Rattle.md_math.specs.Sizes.{IsWithin}
 use Rattle.md_math.proofs.Ring.{linear}
 use Rattle.md_math.proofs.SizeLaws.{IsWithin-sub, IsWithin-zero}
+use Rattle.md_math.proofs.Bits.{read_result, read_within}
 use Rattle.md_setting.specs.Meaning.{sizes_of, outside_of}
 use Rattle.md_space.specs.Profiles.{profile_at}
 use Rattle.md_rows.specs.Terms.{sum_at}

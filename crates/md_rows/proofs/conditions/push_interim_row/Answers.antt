@@ -1,11 +1,11 @@
 use Rattle.std.proofs.Common.{[], ◌∷◌, ap, ◌∙◌, refl}
+use Rattle.md_math.proofs.Bits.{read_result}
 use Rattle.md_space.specs.Profiles.{profile_at}
 use Rattle.md_setting.specs.Meaning.{sizes_of}
 use Rattle.md_mech.specs.Rows.{interim_row}
 use Rattle.md_rows.specs.Built.{Extends}
 use Rattle.md_rows.specs.Sides.{utility_in}
 use Rattle.md_rows.specs.Terms.{sum_at}
-use Rattle.md_rows.proofs.Bits.{read_result}
 use Rattle.md_rows.proofs.RowForms.{on_ok}
 use Rattle.md_rows.proofs.ShareLaws.{interim-sum}
 use Rattle.md_rows.proofs.conditions.push_interim_row.Goals as goal

@@ -1,8 +1,8 @@
 use Rattle.std.proofs.Common.{◌*ℤ◌}
+use Rattle.md_math.proofs.Bits.{read_result}
+use Rattle.md_math.proofs.Builders.{push-list}
 use Rattle.md_space.specs.Profiles.{profile_at}
 use Rattle.md_setting.specs.Meaning.{sizes_of, weight_of, value_of}
-use Rattle.md_rows.proofs.Bits.{read_result}
-use Rattle.md_rows.proofs.RowForms.{push-list}
 use Rattle.md_rows.proofs.costs.push_chance_costs_at.Goals as goal
 
 pub loop-outcome-preserved : goal.loop-outcome-preserved

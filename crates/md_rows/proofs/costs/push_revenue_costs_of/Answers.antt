@@ -1,9 +1,9 @@
 use Rattle.std.proofs.Common.{◌≡◌, to_z, of_z}
 use mir.Syntax.{w128}
 use Rattle.std.proofs.lemmas.Int.{to_z-of_z}
+use Rattle.md_math.proofs.Bits.{read_result}
+use Rattle.md_math.proofs.Builders.{push-list}
 use Rattle.md_rows.specs.Costs.{revenue_cost}
-use Rattle.md_rows.proofs.Bits.{read_result}
-use Rattle.md_rows.proofs.RowForms.{push-list}
 use Rattle.md_rows.proofs.costs.push_revenue_costs_of.Goals as goal
 
 pub loop-rank-preserved : goal.loop-rank-preserved

@@ -1,7 +1,7 @@
 use Rattle.std.proofs.Common.{◌≡◌, ◌+◌, true, ◌-ℤ◌, ap, sym, ◌∙◌, subst, lit<}
-use Rattle.md_rows.proofs.Bits.{read_result, read_within}
 use Rattle.md_math.specs.Sizes.{IsWithin}
 use Rattle.md_math.proofs.SizeLaws.{IsWithin-sub, AllWithin-number_at}
+use Rattle.md_math.proofs.Bits.{read_result, read_within}
 use Rattle.md_setting.specs.Meaning.{sizes_of}
 use Rattle.md_space.specs.Profiles.{profile_count, profile_at}
 use Rattle.md_rows.specs.Columns.{plus_column, minus_column}

@@ -1,9 +1,9 @@
 use Rattle.md_math.specs.Lists.{number_at}
+use Rattle.md_math.proofs.Bits.{read_result}
+use Rattle.md_math.proofs.Builders.{push-list}
 use Rattle.md_space.specs.Profiles.{profile_at}
 use Rattle.md_setting.specs.Meaning.{sizes_of}
 use Rattle.md_rows.specs.Columns.{payment_in}
-use Rattle.md_rows.proofs.Bits.{read_result}
-use Rattle.md_rows.proofs.RowForms.{push-list}
 use Rattle.md_rows.proofs.mechanisms.push_pays.Goals as goal
 
 pub loop-agent-preserved : goal.loop-agent-preserved

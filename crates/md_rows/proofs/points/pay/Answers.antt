@@ -1,9 +1,9 @@
 use Rattle.std.proofs.Common.{◌≡◌, ◌+◌, ◌*◌, ap, sym, ◌∙◌}
 use Rattle.md_math.specs.Lists.{number_at}
+use Rattle.md_math.proofs.Bits.{read_result}
 use Rattle.md_space.proofs.Ranks.{rank_of-profile_at}
 use Rattle.md_setting.specs.Meaning.{agent_count, sizes_of}
-use Rattle.md_rows.proofs.Bits.{read_result}
-use Rattle.md_rows.proofs.CountLaws.{agents_are}
+use Rattle.md_mech.proofs.UtilityLaws.{agents_are}
 use Rattle.md_rows.proofs.points.pay.Goals as goal
 
 pub returns-clause-value : goal.returns-clause-value

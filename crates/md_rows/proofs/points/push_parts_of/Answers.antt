@@ -1,10 +1,10 @@
 use Rattle.std.proofs.Common.{◌∙◌, ap}
+use Rattle.md_math.proofs.Bits.{read_result}
+use Rattle.md_math.proofs.Builders.{push-list}
 use Rattle.md_space.specs.Profiles.{profile_at}
 use Rattle.md_setting.specs.Meaning.{sizes_of}
 use Rattle.md_mech.specs.Mechanism.{pay_of}
 use Rattle.md_rows.specs.Parts.{of_part}
-use Rattle.md_rows.proofs.Bits.{read_result}
-use Rattle.md_rows.proofs.RowForms.{push-list}
 use Rattle.md_rows.proofs.points.push_parts_of.Goals as goal
 
 pub loop-rank-preserved : goal.loop-rank-preserved

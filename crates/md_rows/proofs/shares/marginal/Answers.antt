@@ -4,11 +4,12 @@ use Rattle.md_math.specs.Sizes.{IsWithin}
 use Rattle.md_math.specs.Sums.{sum_to}
 use Rattle.md_math.proofs.SizeLaws.{IsWithin-+ℤ, fits_from_IsWithin}
 use Rattle.md_math.proofs.SumLaws.{sum_to-more}
+use Rattle.md_math.proofs.Bits.{read_result, read_within}
 use Rattle.md_space.specs.Profiles.{profile_at, profile_count}
 use Rattle.md_setting.specs.Meaning.{sizes_of, marginal_of}
 use Rattle.md_mech.specs.Utility.{marginal_term}
-use Rattle.md_rows.proofs.Bits.{read_result, read_within}
-use Rattle.md_rows.proofs.RowForms.{marginal-within, marginal-by_rank, marginal-small}
+use Rattle.md_mech.proofs.AverageLaws.{marginal-within}
+use Rattle.md_rows.proofs.RowForms.{marginal-by_rank, marginal-small}
 use Rattle.md_rows.proofs.shares.marginal.Goals as goal
 
 pub overflow_add-sum : goal.overflow_add-sum

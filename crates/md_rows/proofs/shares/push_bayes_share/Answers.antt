@@ -1,8 +1,8 @@
 use Rattle.std.proofs.Common.{◌≡◌, ◌+◌, pos, ◌-ℤ◌, ◌*ℤ◌, neg_ℤ, ap, sym, ◌∙◌, arith, slice_index, lit<}
-use Rattle.md_rows.proofs.Bits.{read_result, read_within}
 use Rattle.md_math.specs.Sizes.{IsWithin}
 use Rattle.md_math.proofs.Ring.{linear, zero-*ℤ}
 use Rattle.md_math.proofs.SizeLaws.{IsWithin-sub, IsWithin-zero}
+use Rattle.md_math.proofs.Bits.{read_result, read_within}
 use Rattle.md_setting.specs.Meaning.{sizes_of, weight_of}
 use Rattle.md_space.specs.Profiles.{profile_at, replaced}
 use Rattle.std.proofs.lemmas.Bool.{eq-eqb, ne_eqb}

@@ -1,8 +1,8 @@
 use Rattle.std.proofs.Common.{◌≡◌, ◌+◌, ◌*◌, ◌^◌, ◌*ℤ◌, ap, subst, arith, to_z, of_z, lit<}
 use mir.Syntax.{w128}
-use Rattle.md_rows.proofs.Bits.{read_result, read_within}
 use Rattle.md_setting.specs.Meaning.{outcome_count, type_utility}
 use Rattle.md_math.specs.Sums.{sum_to}
+use Rattle.md_math.proofs.Bits.{read_result, read_within}
 use Rattle.md_rows.specs.Terms.{AddsTerms}
 use Rattle.md_rows.proofs.TermLaws.{adds-place}
 use Rattle.md_rows.proofs.terms.push_lottery.Goals as goal

@@ -1,9 +1,9 @@
 use Rattle.std.proofs.Common.{◌≡◌, ◌+◌, ◌*◌, ◌^◌, ◌*ℤ◌, take, get_or, ap, sym, ◌∙◌, subst, arith, refl, to_z, of_z, lit<}
 use mir.Syntax.{w128}
 use Rattle.std.proofs.lemmas.Int.{to_z-of_z}
-use Rattle.md_rows.proofs.Bits.{read_result, read_within}
 use Rattle.md_math.specs.Sizes.{IsWithin}
 use Rattle.md_math.proofs.SizeLaws.{IsWithin-wider, IsWithin-*ℤ}
+use Rattle.md_math.proofs.Bits.{read_result, read_within}
 use Rattle.md_setting.specs.Meaning.{agent_count, sizes_of}
 use Rattle.md_space.specs.Profiles.{profile_count}
 use Rattle.md_math.specs.Sums.{total_by}

@@ -1,6 +1,6 @@
 use Rattle.std.proofs.Common.{lit<}
+use Rattle.md_math.proofs.Bits.{read_within}
 use Rattle.md_mech.specs.Accepted.{number_limit}
-use Rattle.md_rows.proofs.Bits.{read_within}
 use Rattle.md_rows.proofs.tests.there_and_back.Goals as goal
 
 pub mechanism_of-requires-clause-meets : goal.mechanism_of-requires-clause-meets

@@ -1,9 +1,9 @@
 use Rattle.std.proofs.Common.{◌<◌, sym, ◌∙◌, ap, arith, string_bytes}
 use Rattle.std.proofs.lemmas.List.{length-map}
+use Rattle.md_math.proofs.Bits.{read_result}
 use Rattle.md_setting.specs.Setting.{written}
 use Rattle.md_setting.specs.Meaning.{outcome_count}
 use Rattle.md_setting.specs.Refusals.{is_small}
-use Rattle.md_setting.proofs.Reading.{read_result}
 use Rattle.md_setting.proofs.TestLaws.{all_below-fails}
 use Rattle.md_setting.proofs.values.are_small_values.Goals as goal
 

@@ -1,8 +1,8 @@
 use Rattle.std.proofs.Common.{◌≡◌, ◌<◌, ap, sym, ◌∙◌, slice_index, arith, refl}
+use Rattle.md_math.proofs.Bits.{read_result}
 use Rattle.md_space.specs.Profiles.{profile_count, profile_at}
 use Rattle.md_setting.specs.Setting.{written}
 use Rattle.md_setting.specs.Meaning.{sizes_of}
-use Rattle.md_setting.proofs.Reading.{read_result}
 use Rattle.md_setting.proofs.WeightLaws.{marginal-some, marginal-none}
 use Rattle.md_setting.proofs.weights.has_weight.Goals as goal
 

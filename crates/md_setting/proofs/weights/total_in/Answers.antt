@@ -1,14 +1,20 @@
-use Rattle.std.proofs.Common.{◌≡◌, ◌≤◌, ◌+◌, pos, ap, sym, ◌∙◌, arith, lit<, to_z, of_z}
+use Rattle.std.proofs.Common.{◌≡◌, ◌≤◌, ◌+◌, pos, ap, sym, ◌∙◌, arith, lit<, to_z, of_z, ℤ, true}
 use Rattle.std.specs.Prelude.{◌<ℤ◌, ◌+ℤ◌}
+use Rattle.std.proofs.lemmas.Int.{ints}
+use lib.Signed.{lt_z}
 use mir.Syntax.{w128}
 use Rattle.md_math.specs.Sums.{sum_to}
 use Rattle.md_math.proofs.SumLaws.{sum_to-more}
+use Rattle.md_math.proofs.Bits.{read_result, read_short_within}
 use Rattle.md_space.specs.Profiles.{profile_count, profile_at}
 use Rattle.md_setting.specs.Setting.{written}
 use Rattle.md_setting.specs.Meaning.{sizes_of, weight_of}
-use Rattle.md_setting.proofs.Reading.{read_result, read_within, passes}
 use Rattle.md_setting.proofs.WeightLaws.{total-large, total-small}
 use Rattle.md_setting.proofs.weights.total_in.Goals as goal
+
+-- what a comparison says
+passes : (a b : ℤ) → lt_z a b ≡ true → a <ℤ b
+passes a b h = grind (arith, ints)
 
 pub returns-then-total : goal.returns-then-total
 returns-then-total c =
@@ -27,4 +33,4 @@ pub returns : goal.returns
 returns c =
     let s = written c.args.raw.now in
     let end = total-small s c.loop-rank.rank _ (omega (arith, c.profiles-rank-end.ensures.count, ap profile_count c.requires.sizes)) c.loop-rank.invariant.0 c.loop-rank.invariant.1 in
-    (end.0, read_within 1000000 _ c.loop-rank.invariant.1 (lit< tt) ∙ end.1)
+    (end.0, read_short_within 1000000 _ c.loop-rank.invariant.1 (lit< tt) ∙ end.1)

@@ -2,10 +2,10 @@ use Rattle.std.proofs.Common.{◌≡◌, ◌<◌, Some, to_z, of_z, ap, sym, ◌
 use Rattle.std.specs.Option.{option_map}
 use mir.Syntax.{w64}
 use Rattle.md_math.specs.Lists.{number_at}
+use Rattle.md_math.proofs.Bits.{read_result, read_short_within}
 use Rattle.md_space.specs.Profiles.{profile_count, profile_at}
 use Rattle.md_setting.specs.Setting.{written}
 use Rattle.md_setting.specs.Meaning.{sizes_of}
-use Rattle.md_setting.proofs.Reading.{read_result, read_within}
 use Rattle.md_setting.proofs.WeightLaws.{weight_of-prior, type_weights-nonneg}
 use Rattle.md_setting.proofs.weights.weight_in.Goals as goal
 
@@ -17,7 +17,7 @@ returns-in-Some-clause-value c =
     read_result c.from.result c.from.type_inv
     ∙ c.from.ensures
     ∙ ap (λ xs. to_z w64 (of_z w64 (number_at xs c.args.rank))) c.as_slice.ensures.value
-    ∙ read_within 1000000 (number_at c.in-Some.prior.items c.args.rank) (c.requires.small.prior c.in-Some.prior.items said c.args.rank).within (lit< tt)
+    ∙ read_short_within 1000000 (number_at c.in-Some.prior.items c.args.rank) (c.requires.small.prior c.in-Some.prior.items said c.args.rank).within (lit< tt)
     ∙ sym (weight_of-prior s c.in-Some.prior.items c.args.rank said below)
 
 pub returns-in-None-clause-nonneg : goal.returns-in-None-clause-nonneg

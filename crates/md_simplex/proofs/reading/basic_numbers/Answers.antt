@@ -1,9 +1,10 @@
 use Rattle.std.proofs.Common.{◌≡◌, ◌∙◌, ◌<◌, ◌^◌, subst, arith}
 use Rattle.md_math.specs.Lists.{number_at}
+use Rattle.md_math.proofs.Bits.{read_result}
 use Rattle.md_dict.specs.Condensed.{basic_at, entry_at}
 use Rattle.md_simplex.specs.Reading.{IsAtBasis}
 use Rattle.md_simplex.specs.ReadingSteps.{IsPut, basic_number_at}
-use Rattle.md_simplex.proofs.ReadSteps.{result_back, basic_at-apart, IsAtBasis-more, AllWithin-put}
+use Rattle.md_simplex.proofs.ReadSteps.{basic_at-apart, IsAtBasis-more, AllWithin-put}
 use Rattle.md_simplex.proofs.reading.basic_numbers.Goals as goal
 
 pub loop-row-preserved : goal.loop-row-preserved
@@ -13,7 +14,7 @@ loop-row-preserved c =
     let v = basic_number_at d.rows d.columns (entry_at d) c.args.along in
     let inside : row < d.rows = (let e : c.rows-rows.result ≡ d.rows = c.rows-rows.ensures.value in let l : row < c.rows-rows.result = c.loop-row-test.true in omega arith) in
     let number : c.basic_number-number.result ≡ v row = c.basic_number-number.ensures.value in
-    let put = rw (result_back c.basic_number-number.result c.basic_number-number.type_inv) at c.put.ensures in
+    let put = rw (read_result c.basic_number-number.result c.basic_number-number.type_inv) at c.put.ensures in
     let whole : IsPut (basic_at d row) (v row) c.loop-row.numbers.items c.put.new.numbers.items =
     subst (λ z. IsPut (basic_at d row) z c.loop-row.numbers.items c.put.new.numbers.items) number
     (subst (λ j. IsPut j c.basic_number-number.result c.loop-row.numbers.items c.put.new.numbers.items) c.basic.ensures.value put) in

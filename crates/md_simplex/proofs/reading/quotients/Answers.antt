@@ -2,8 +2,9 @@ use Rattle.std.proofs.Common.{◌≡◌, to_z, of_z}
 use mir.Syntax.{w128}
 use Rattle.std.proofs.lemmas.Int.{to_z-of_z}
 use Rattle.md_math.specs.Lists.{number_at}
+use Rattle.md_math.proofs.Bits.{read_result}
 use Rattle.md_simplex.proofs.Reduced.{AreQuotients-more}
-use Rattle.md_simplex.proofs.ReadSteps.{read_small, result_back}
+use Rattle.md_simplex.proofs.ReadSteps.{read_small}
 use Rattle.md_simplex.proofs.reading.quotients.Goals as goal
 
 pub exact_quotient-requires-clause-exact : goal.exact_quotient-requires-clause-exact
@@ -20,5 +21,5 @@ loop-number-preserved c =
     let by : to_z w128 (of_z w128 c.args.by) ≡ c.args.by = to_z-of_z w128 c.args.by c.ranges.by in
     let quotient = rw (by, back) at c.exact_quotient.ensures.value in
     let before = rw by at c.loop-number.invariant in
-    rw (c.in_ok-push.ensures.ok, by, result_back c.exact_quotient.result c.exact_quotient.type_inv)
+    rw (c.in_ok-push.ensures.ok, by, read_result c.exact_quotient.result c.exact_quotient.type_inv)
     (AreQuotients-more i c.args.by (number_at c.args.numbers.now) c.loop-number.divided c.exact_quotient.result before quotient)

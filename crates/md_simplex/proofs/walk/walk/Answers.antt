@@ -2,11 +2,11 @@ use Rattle.std.proofs.Common.{◌<◌, List, sym, subst}
 use Rattle.std.proofs.lemmas.Result.{err_from_is_err_and}
 use Rattle.md_lp.specs.declared.pivot.Pivot.{Pivot}
 use Rattle.md_dict.specs.Condensed.{IsShapedDictionary, entry_at}
+use Rattle.md_dict.proofs.Values.{IsNarrow-shaped}
 use Rattle.md_simplex.specs.declared.step.Step.TheVariants as steps
 use Rattle.md_simplex.specs.Rules.{IsNext}
 use Rattle.md_simplex.specs.Runs.{IsFirstWideIn}
 use Rattle.md_simplex.specs.Walk.{IsReached}
-use Rattle.md_simplex.proofs.Shaped.{IsNarrow-shaped}
 use Rattle.md_simplex.proofs.WalkLaws.{IsReached-first, IsReached-more, left_over, left_over-less, wide_next}
 use Rattle.md_simplex.proofs.walk.walk.Goals as goal
 

@@ -1,10 +1,11 @@
 use Rattle.std.proofs.Common.{sym, ◌∙◌, subst}
+use Rattle.md_rows.proofs.RowForms.{if_ok}
 use Rattle.md_simplex.specs.Runs.{IsLeft, basis_of}
 use Rattle.md_solve.specs.Answered.{ClaimsEnd}
 use Rattle.md_solve.specs.Certifies.{IsCertifiedAnswer}
 use Rattle.md_solve.specs.Shown.{IsSo}
 use Rattle.md_solve.specs.Solved.{TellsCertificate}
-use Rattle.md_solve.proofs.Claims.{if_ok, not-memory, so, certified, claims-end}
+use Rattle.md_solve.proofs.Claims.{not-memory, so, certified, claims-end}
 use Rattle.md_solve.proofs.WideSizes.{wide-fits}
 use Rattle.md_solve.proofs.solving.answer.Goals as goal
 

@@ -3,6 +3,8 @@ use Rattle.std.proofs.lemmas.Int.{ints}
 use Rattle.std.proofs.Common.{pos, ◌≤ℤ◌}
 use Rattle.md_setting.specs.Meaning.{total_of}
 use Rattle.md_mech.proofs.WorthLaws.{total-positive}
+use Rattle.md_rows.proofs.RowForms.{if_ok}
+use Rattle.md_rows.proofs.OneProgram.{same_program}
 use Rattle.md_solve.specs.Certifies.{IsCertifiedAnswer}
 use Rattle.md_solve.specs.Shown.{IsSo}
 use Rattle.md_solve.specs.Solved.{IsSolvedBy}
@@ -11,10 +13,9 @@ use Rattle.md_mech.specs.Admissible.{IsAdmissible}
 use Rattle.md_mech.specs.Optimal.{IsInfeasible}
 use Rattle.md_solve.specs.Bounds.{HasNoBound}
 use Rattle.std.proofs.Common.{◌↔◌}
-use Rattle.md_solve.proofs.Claims.{if_both, if_ok, exactly_infeasible, exactly_unbounded, so-admissible, so-claims, certified-every}
+use Rattle.md_solve.proofs.Claims.{if_both, exactly_infeasible, exactly_unbounded, so-admissible, so-claims, certified-every}
 use Rattle.md_solve.proofs.OneAnswer.{one_answer}
 use Rattle.md_solve.proofs.SameAnswers.{solved-every}
-use Rattle.md_solve.proofs.SamePrograms.{same_program}
 use Rattle.md_solve.proofs.SamePaths.{path_of-same, begins-same, narrow-same, wide_at-same}
 use Rattle.md_solve.proofs.solving.solve.Goals as goal
 

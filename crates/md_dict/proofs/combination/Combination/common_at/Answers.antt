@@ -1,4 +1,4 @@
-use Rattle.md_dict.proofs.Reading.{read_result}
+use Rattle.md_math.proofs.Bits.{read_result}
 use Rattle.md_dict.proofs.Reducing.{IsAttempt-common}
 use Rattle.md_dict.proofs.combination.Combination.common_at.Goals as goal
 

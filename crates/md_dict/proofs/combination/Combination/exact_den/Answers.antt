@@ -1,6 +1,6 @@
 use Rattle.std.proofs.Common.{◌≡◌, ◌*ℤ◌}
+use Rattle.md_math.proofs.Bits.{read_result}
 use Rattle.md_dict.specs.Combination.{combined_den}
-use Rattle.md_dict.proofs.Reading.{read_result}
 use Rattle.md_dict.proofs.Reducing.{IsLeastDen-divided}
 use Rattle.md_dict.proofs.combination.Combination.exact_den.Goals as goal
 

@@ -1,6 +1,6 @@
 use Rattle.std.proofs.Common.{pos, refl, arith}
+use Rattle.md_math.proofs.Bits.{read_result}
 use Rattle.md_dict.specs.Combination.{combined}
-use Rattle.md_dict.proofs.Reading.{read_result}
 use Rattle.md_dict.proofs.Reducing.{IsCommonDivisor-next}
 use Rattle.md_dict.proofs.combination.Combination.first_undivided.Goals as goal
 

@@ -1,18 +1,15 @@
-use Rattle.std.proofs.Common.{◌≡◌, ◌*ℤ◌, ◌<◌, ◌≤◌, ◌^◌, pos, ◌<ℤ◌, ℤ, length, unsigned_abs, refl, arith}
+use Rattle.std.proofs.Common.{◌≡◌, ◌*ℤ◌, ◌^◌, pos, length, refl, arith}
 use Rattle.std.proofs.lemmas.Int.{ints, to_z_pos}
 use mir.Syntax.{w64}
 use Rattle.md_math.specs.Sizes.{IsWithin}
 use Rattle.md_math.proofs.SizeLaws.{IsWithin-wider}
+use Rattle.md_math.proofs.Bits.{read_result}
 use Rattle.md_dict.specs.Combination.{combined_den}
-use Rattle.md_dict.proofs.Reading.{read_result, read_short, read_wide}
+use Rattle.md_dict.proofs.Reading.{read_short, read_wide}
 use Rattle.md_dict.proofs.Change.{above_from_not}
-use Rattle.md_dict.proofs.NewNumbers.{factor_size}
+use Rattle.md_dict.proofs.NewNumbers.{quotient_small}
 use Rattle.md_dict.proofs.Reducing.{IsReducedTo-divided, IsRowSize-greatest, IsTooWideRow-den, IsWithin-greatest}
 use Rattle.md_dict.proofs.combination.Combination.least_row.Goals as goal
-
--- the quotient of a number of 126 bits has as many
-small : (d q x : ℤ) → pos 0 <ℤ d → d *ℤ q ≡ x → unsigned_abs x < 2 ^ 126 → unsigned_abs q < 2 ^ 126
-small d q x p e l = let size : unsigned_abs q ≤ unsigned_abs x = factor_size d q x p e in omega arith
 
 pub quotient-den-requires-clause-exact : goal.quotient-den-requires-clause-exact
 quotient-den-requires-clause-exact c = rw (read_result c.whole_den.result c.whole_den.type_inv, c.whole_den.ensures.value) c.requires.attempt.of_den
@@ -20,14 +17,14 @@ quotient-den-requires-clause-exact c = rw (read_result c.whole_den.result c.whol
 pub returns-then-not-is_within-clause-wide : goal.returns-then-not-is_within-clause-wide
 returns-then-not-is_within-clause-wide c =
     let value : c.args.divider.now.value *ℤ c.quotient-den.result ≡ combined_den c.args.self.now = rw (read_result c.whole_den.result c.whole_den.type_inv, c.whole_den.ensures.value) at c.quotient-den.ensures in
-    let size = small c.args.divider.now.value c.quotient-den.result _ c.requires.attempt.positive value (rw c.whole_den.ensures.value at c.whole_den.ensures.size) in
+    let size = quotient_small c.args.divider.now.value c.quotient-den.result _ c.requires.attempt.positive value (rw c.whole_den.ensures.value at c.whole_den.ensures.size) in
     let outside : IsWithin c.args.limit c.quotient-den.result → ⊥ = (λ w. let clash = (rw (c.from.ensures, read_wide c.quotient-den.result size) at c.if-not-is_within.ensures.1) w in cc) in
     IsTooWideRow-den c.args.self.now c.args.own.now c.args.taken.now c.args.limit c.args.divider.now.value c.quotient-den.result c.requires.attempt value (above_from_not c.args.limit c.quotient-den.result outside)
 
 pub returns-clause-row : goal.returns-clause-row
 returns-clause-row c =
     let value : c.args.divider.now.value *ℤ c.quotient-den.result ≡ combined_den c.args.self.now = rw (read_result c.whole_den.result c.whole_den.type_inv, c.whole_den.ensures.value) at c.quotient-den.ensures in
-    let size = small c.args.divider.now.value c.quotient-den.result _ c.requires.attempt.positive value (rw c.whole_den.ensures.value at c.whole_den.ensures.size) in
+    let size = quotient_small c.args.divider.now.value c.quotient-den.result _ c.requires.attempt.positive value (rw c.whole_den.ensures.value at c.whole_den.ensures.size) in
     let within : IsWithin c.args.limit c.quotient-den.result = rw (c.from.ensures, read_wide c.quotient-den.result size) at c.if-not-is_within.ensures.0 refl in
     let short : IsWithin (2 ^ 62) c.quotient-den.result = IsWithin-wider c.args.limit (2 ^ 62) c.quotient-den.result c.requires.limit within in
     let most = (IsWithin-greatest (length c.args.own.now) c.args.limit c.args.fresh.now c.args.size c.requires.fresh c.requires.size).within in

@@ -1,15 +1,16 @@
-use Rattle.std.proofs.Common.{◌^◌, sym, ◌∙◌}
+use Rattle.std.proofs.Common.{◌^◌, sym, ◌∙◌, refl}
 use Rattle.md_math.specs.Lists.{number_at}
 use Rattle.md_math.specs.Sizes.{IsWithin}
 use Rattle.md_math.proofs.SizeLaws.{AllWithin-number_at}
-use Rattle.md_dict.proofs.Reading.{read_result, read_short}
+use Rattle.md_math.proofs.Bits.{read_result}
+use Rattle.md_dict.proofs.Reading.{read_short}
 use Rattle.md_dict.proofs.Reducing.{combined_beside, combined_here}
 use Rattle.md_dict.proofs.combination.Combination.number.Goals as goal
 
 pub returns-then-place-self-clause-value : goal.returns-then-place-self-clause-value
 returns-then-place-self-clause-value c =
     let made = rw (read_short c.args.self.now.leaving c.requires.combination.leaving_size, read_short c.args.self.now.pivot_den c.requires.combination.pivot_den_size) at c.mixed.ensures.value in
-    rw (read_result c.mixed.result c.mixed.type_inv, c.if-place-self.true) (made ∙ sym (combined_here c.args.self.now c.args.own.now c.args.taken.now))
+    rw (read_result c.mixed.result c.mixed.type_inv, c.if-place-self.true) (made ∙ sym (combined_here c.args.self.now c.args.own.now c.args.taken.now c.args.self.now.place refl))
 
 pub returns-else-place-self-clause-value : goal.returns-else-place-self-clause-value
 returns-else-place-self-clause-value c =

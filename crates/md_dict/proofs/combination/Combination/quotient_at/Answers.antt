@@ -1,21 +1,18 @@
-use Rattle.std.proofs.Common.{◌≡◌, ◌*ℤ◌, ◌<◌, ◌≤◌, ◌^◌, pos, ◌<ℤ◌, ℤ, unsigned_abs, refl, arith}
+use Rattle.std.proofs.Common.{◌≡◌, ◌*ℤ◌, ◌^◌, refl}
 use Rattle.md_math.specs.Sizes.{IsWithin}
 use Rattle.md_math.proofs.SizeLaws.{IsWithin-wider}
+use Rattle.md_math.proofs.Bits.{read_result}
 use Rattle.md_dict.specs.Combination.{combined}
-use Rattle.md_dict.proofs.Reading.{read_result, read_short, read_wide}
+use Rattle.md_dict.proofs.Reading.{read_short, read_wide}
 use Rattle.md_dict.proofs.Change.{above_from_not}
-use Rattle.md_dict.proofs.NewNumbers.{above_quotient, factor_size}
+use Rattle.md_dict.proofs.NewNumbers.{above_quotient, quotient_small}
 use Rattle.md_dict.proofs.combination.Combination.quotient_at.Goals as goal
-
--- the quotient of a number of 126 bits has as many
-small : (d q x : ℤ) → pos 0 <ℤ d → d *ℤ q ≡ x → unsigned_abs x < 2 ^ 126 → unsigned_abs q < 2 ^ 126
-small d q x p e l = let size : unsigned_abs q ≤ unsigned_abs x = factor_size d q x p e in omega arith
 
 pub returns-then-not-is_within-clause-obstacle : goal.returns-then-not-is_within-clause-obstacle
 returns-then-not-is_within-clause-obstacle c =
     let value : c.args.attempt.now.divider.value *ℤ c.in-Some-exact.quotient ≡ combined c.args.self.now c.args.own.now c.args.taken.now c.args.place =
     rw (read_result c.number-number.result c.number-number.type_inv, c.number-number.ensures.value) at c.in-Some-exact.ensures in
-    let size = small c.args.attempt.now.divider.value c.in-Some-exact.quotient _ c.requires.attempt.positive value (rw c.number-number.ensures.value at c.number-number.ensures.size) in
+    let size = quotient_small c.args.attempt.now.divider.value c.in-Some-exact.quotient _ c.requires.attempt.positive value (rw c.number-number.ensures.value at c.number-number.ensures.size) in
     let outside : IsWithin c.args.attempt.now.limit c.in-Some-exact.quotient → ⊥ = (λ w. let clash = (rw (c.from.ensures, read_wide c.in-Some-exact.quotient size) at c.if-not-is_within.ensures.1) w in cc) in
     record {
       place = c.args.place;
@@ -27,6 +24,6 @@ pub returns-clause-number : goal.returns-clause-number
 returns-clause-number c =
     let value : c.args.attempt.now.divider.value *ℤ c.in-Some-exact.quotient ≡ combined c.args.self.now c.args.own.now c.args.taken.now c.args.place =
     rw (read_result c.number-number.result c.number-number.type_inv, c.number-number.ensures.value) at c.in-Some-exact.ensures in
-    let size = small c.args.attempt.now.divider.value c.in-Some-exact.quotient _ c.requires.attempt.positive value (rw c.number-number.ensures.value at c.number-number.ensures.size) in
+    let size = quotient_small c.args.attempt.now.divider.value c.in-Some-exact.quotient _ c.requires.attempt.positive value (rw c.number-number.ensures.value at c.number-number.ensures.size) in
     let within : IsWithin c.args.attempt.now.limit c.in-Some-exact.quotient = rw (c.from.ensures, read_wide c.in-Some-exact.quotient size) at c.if-not-is_within.ensures.0 refl in
     rw (read_wide c.in-Some-exact.quotient size, read_short c.in-Some-exact.quotient (IsWithin-wider c.args.attempt.now.limit (2 ^ 62) c.in-Some-exact.quotient c.requires.attempt.limit_size within)) (value, within)

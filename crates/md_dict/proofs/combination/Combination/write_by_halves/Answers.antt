@@ -4,7 +4,8 @@ use mir.Syntax.{w32, w64}
 use Rattle.md_math.specs.Lists.{number_at}
 use Rattle.md_math.specs.Sizes.{IsWithin}
 use Rattle.md_math.proofs.SizeLaws.{AllWithin-number_at}
-use Rattle.md_dict.proofs.HalfSizes.{IsShort-from_within, IsWithin-short, read_half, read_within}
+use Rattle.md_math.proofs.Bits.{read_short_within}
+use Rattle.md_dict.proofs.HalfSizes.{IsShort-from_within, IsWithin-short, read_half}
 use Rattle.md_dict.proofs.Reducing.{AreDivided-tested, IsGreatestSize-more, KeepsSizes-more, combined_beside}
 use Rattle.md_dict.proofs.combination.Combination.write_by_halves.Goals as goal
 
@@ -17,7 +18,7 @@ number_at-zeros (suc n) (suc k) = number_at-zeros n k
 -- a number to which a zero of the row is added
 with_zero : (z : ℤ) (zeros : List ℤ) (n k : ℕ) → IsWithin (2 ^ 31 - 1) z → zeros ≡ replicate n (pos 0) → to_z w64 (of_z w64 (to_z w64 (of_z w64 z) +ℤ to_z w64 (of_z w64 (number_at zeros k)))) ≡ z
 with_zero z zeros n k h e =
-    let read = read_within (2 ^ 31 - 1) z (lit< tt) h in
+    let read = read_short_within (2 ^ 31 - 1) z h (lit< tt) in
     let same : z +ℤ pos 0 ≡ z = omega (arith, ints) in
     rw (e, number_at-zeros n k, read) (ap (λ y. to_z w64 (of_z w64 y)) same ∙ read)
 
@@ -34,10 +35,10 @@ pub loop-place-preserved : goal.loop-place-preserved
 loop-place-preserved c =
     let inside : c.loop-place.place < length c.loop-place.fresh = omega (arith, c.loop-place.invariant.1.length_is) in
     let size = IsWithin-short c.guess-quotient.result c.guess-quotient.ensures in
-    let q = read_within (2 ^ 31) c.guess-quotient.result (lit< tt) size in
+    let q = read_short_within (2 ^ 31) c.guess-quotient.result size (lit< tt) in
     let own : IsWithin (2 ^ 31 - 1) (number_at c.args.own.now c.loop-place.place) = AllWithin-number_at (2 ^ 31 - 1) c.args.own.now c.loop-place.place c.requires.own in
-    let a = read_within (2 ^ 31 - 1) (number_at c.args.own.now c.loop-place.place) (lit< tt) own in
-    let b = read_within (2 ^ 31 - 1) (number_at c.args.taken.now c.loop-place.place) (lit< tt) (AllWithin-number_at (2 ^ 31 - 1) c.args.taken.now c.loop-place.place c.requires.taken) in
+    let a = read_short_within (2 ^ 31 - 1) (number_at c.args.own.now c.loop-place.place) own (lit< tt) in
+    let b = read_short_within (2 ^ 31 - 1) (number_at c.args.taken.now c.loop-place.place) (AllWithin-number_at (2 ^ 31 - 1) c.args.taken.now c.loop-place.place c.requires.taken) (lit< tt) in
     let number = to_z-of_z w64 c.cross-number.result (record { sfits = c.cross-number.type_inv }) in
     let gap = rw (with_zero c.args.quick.now.value c.args.zeros.now (length c.args.own.now) c.loop-place.place c.requires.value c.requires.zeros, q, number) at c.gap-wrong.ensures in
     let cross = rw (with_zero c.args.self.now.multiplier c.args.zeros.now (length c.args.own.now) c.loop-place.place c.requires.multiplier c.requires.zeros, with_zero c.args.self.now.factor c.args.zeros.now (length c.args.own.now) c.loop-place.place c.requires.factor c.requires.zeros, a, b) at c.cross-number.ensures in

@@ -2,7 +2,8 @@ use Rattle.std.proofs.Common.{◌≡◌, ◌-ℤ◌, ◌*ℤ◌, ◌<◌, ◌^�
 use Rattle.md_math.specs.Lists.{number_at}
 use Rattle.md_math.specs.Sizes.{IsWithin}
 use Rattle.md_math.proofs.SizeLaws.{AllWithin-number_at, IsWithin-wider}
-use Rattle.md_dict.proofs.Reading.{read_result, read_short}
+use Rattle.md_math.proofs.Bits.{read_result}
+use Rattle.md_dict.proofs.Reading.{read_short}
 use Rattle.md_dict.proofs.Reducing.{AreDivided-more, KeepsSizes-more, combined_beside}
 use Rattle.md_dict.proofs.combination.Combination.write_quickly.Goals as goal
 

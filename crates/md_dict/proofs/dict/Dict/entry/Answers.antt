@@ -1,8 +1,8 @@
 use Rattle.std.proofs.Common.{◌≡◌, ◌<◌, ◌≤◌, ◌+◌, length, slice_index, ◌∙◌, sym, ap, subst, arith}
 use Rattle.std.proofs.lemmas.List.{get_or_read}
+use Rattle.md_math.proofs.Bits.{read_result}
 use Rattle.md_dict.specs.contracts.dict.Dict.{the_view}
 use Rattle.md_dict.specs.Condensed.{entry_at, kept_number}
-use Rattle.md_dict.proofs.Reading.{read_result}
 use Rattle.md_dict.proofs.Exchange.{entry-basic, entry-kept, entry-right}
 use Rattle.md_dict.proofs.Values.{read_den}
 use Rattle.md_dict.proofs.Readers.{only_entry}

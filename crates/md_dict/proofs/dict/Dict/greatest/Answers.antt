@@ -1,8 +1,8 @@
 use Rattle.std.proofs.Common.{◌==◌, if◌then◌else◌, pos, unsigned_abs, refl, ◌∙◌, ap, subst}
 use Rattle.md_math.proofs.Order.{≤ℤ_trans}
+use Rattle.md_math.proofs.Bits.{read_result}
 use Rattle.md_dict.specs.contracts.dict.Dict.{the_view}
 use Rattle.md_dict.specs.Condensed.{IsGreatestSize}
-use Rattle.md_dict.proofs.Reading.{read_result}
 use Rattle.md_dict.proofs.Values.{read_den}
 use Rattle.md_dict.proofs.Tables.{IsGreatestProduct, IsGreatestSize-product, IsLeastSize, IsLeastSize-of}
 use Rattle.md_dict.proofs.dict.Dict.greatest.Goals as goal

@@ -1,6 +1,6 @@
 use Rattle.std.proofs.Common.{◌<◌, ◌+◌, ◌∙◌, refl, sym, subst}
+use Rattle.md_math.proofs.Bits.{read_result}
 use Rattle.md_dict.specs.contracts.dict.Dict.{the_view}
-use Rattle.md_dict.proofs.Reading.{read_result}
 use Rattle.md_dict.proofs.Values.{number_for, within_for}
 use Rattle.md_dict.proofs.Tables.{IsRowNumber-of}
 use Rattle.md_dict.proofs.dict.Dict.kept_number.Goals as goal

@@ -1,9 +1,9 @@
 use Rattle.std.proofs.Common.{◌≡◌, ◌<◌, ◌+◌, length, slice_index, ◌∙◌, sym, ap, subst, arith}
 use Rattle.std.proofs.lemmas.List.{get_or_read}
+use Rattle.md_math.proofs.Bits.{read_result}
 use Rattle.md_dict.specs.contracts.dict.Dict.{the_view}
 use Rattle.md_dict.specs.Condensed.{basic_at, kept_number}
 use Rattle.md_dict.specs.Exchange.{IsExchange}
-use Rattle.md_dict.proofs.Reading.{read_result}
 use Rattle.md_dict.proofs.Values.{read_den, read_limit, step_is, step_for}
 use Rattle.md_dict.proofs.dict.Dict.plain_step.Goals as goal
 

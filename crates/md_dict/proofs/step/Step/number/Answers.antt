@@ -1,5 +1,5 @@
 use Rattle.std.proofs.Common.{sym, ◌∙◌}
-use Rattle.md_dict.proofs.Reading.{read_result}
+use Rattle.md_math.proofs.Bits.{read_result}
 use Rattle.md_dict.proofs.RowNumbers.{number_inside, shared_size}
 use Rattle.md_dict.proofs.RowSteps.{number_in-rows}
 use Rattle.md_dict.proofs.step.Step.number.Goals as goal

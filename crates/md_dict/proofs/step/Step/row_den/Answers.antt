@@ -1,6 +1,6 @@
 use Rattle.std.proofs.Common.{◌==◌, if◌then◌else◌, sym, refl, ◌∙◌, arith, eq-eqb, ne_eqb}
+use Rattle.md_math.proofs.Bits.{read_result}
 use Rattle.md_dict.specs.Rows.{own_den, own_number}
-use Rattle.md_dict.proofs.Reading.{read_result}
 use Rattle.md_dict.proofs.OldRows.{own_of_part, read_den, read_factor, wide_enough}
 use Rattle.md_dict.proofs.Filling.{combination_of, den_combined, staying}
 use Rattle.md_dict.proofs.LeastRows.{AreLeastRows-of}

@@ -4,11 +4,12 @@ use Rattle.md_math.specs.Lists.{number_at}
 use Rattle.md_math.proofs.Division.{Divides-from_product}
 use Rattle.md_math.proofs.Order.{*ℤ_cancel}
 use Rattle.md_math.proofs.SizeLaws.{AllWithin-number_at}
+use Rattle.md_math.proofs.Bits.{read_result}
 use Rattle.md_dict.specs.declared.rows.Rows.{Rows}
 use Rattle.md_dict.specs.Step.{number_in}
 use Rattle.md_dict.specs.Rows.{own_den, own_number}
 use Rattle.md_dict.specs.RowStep.{AreOldRows, CanBeTurnedBack}
-use Rattle.md_dict.proofs.Reading.{product_small, read_result, sizes_small}
+use Rattle.md_dict.proofs.Reading.{product_small, sizes_small}
 use Rattle.md_dict.proofs.Parts.{AllWithin-part, end_inside, in_part, length_part, within_part, Leaves-part, IsTable-part}
 use Rattle.md_dict.proofs.OldRows.{read_den, read_factor}
 use Rattle.md_dict.proofs.RowSteps.{pivot_row_in}

@@ -2,8 +2,9 @@ use Rattle.std.proofs.Common.{◌≡◌, length-set, pos, to_z, of_z, refl, lit<
 use mir.Syntax.{w128}
 use Rattle.md_math.proofs.Division.{Divides_refl}
 use Rattle.md_math.proofs.SizeLaws.{AllWithin-set}
+use Rattle.md_math.proofs.Bits.{read_result}
 use Rattle.md_dict.specs.Multiples.{IsMultipleOfTwo}
-use Rattle.md_dict.proofs.Reading.{read_result, read_short}
+use Rattle.md_dict.proofs.Reading.{read_short}
 use Rattle.md_dict.proofs.OldRows.{AreOldFrom-next, AreOldFrom-same}
 use Rattle.md_dict.proofs.Filling.{rows_room, AreFilledBy-left, AreFilledBy-more, AreFilledBy-none, IsRowsMultiple-filled}
 use Rattle.md_dict.proofs.step.Step.write_rows.Goals as goal

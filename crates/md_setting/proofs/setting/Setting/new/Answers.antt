@@ -1,7 +1,7 @@
 use Rattle.std.proofs.Common.{sym, ◌∙◌, subst, lit<}
 use Rattle.md_math.specs.Sizes.{IsWithin}
+use Rattle.md_math.proofs.Bits.{read_short_within}
 use Rattle.md_setting.specs.Shaped.{IsShaped}
-use Rattle.md_setting.proofs.Reading.{read_within}
 use Rattle.md_setting.specs.Setting.{written}
 use Rattle.md_setting.proofs.Accepted.{listed, small}
 use Rattle.md_setting.proofs.FirstRefusal.{none, totals_shaped}
@@ -23,6 +23,6 @@ invariant_of-result c =
       shaped = shaped;
       sizes_are = c.in_ok-space.ensures.ok;
       weights_are = c.in-Ok.ensures;
-      total_is = read_within 1000000 c.in_ok-totals.totals.total small (lit< tt) ∙ c.in_ok-totals.ensures.total;
+      total_is = read_short_within 1000000 c.in_ok-totals.totals.total small (lit< tt) ∙ c.in_ok-totals.ensures.total;
       rows_are = c.in_ok-totals.ensures.rows;
     }

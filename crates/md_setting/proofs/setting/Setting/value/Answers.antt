@@ -2,12 +2,12 @@ use Rattle.std.proofs.Common.{◌≡◌, ℕ, ◌<◌, to_z, of_z, ap, sym, ◌�
 use mir.Syntax.{w64}
 use Rattle.md_math.specs.Sizes.{IsWithin}
 use Rattle.md_math.proofs.SizeLaws.{fits_from_IsWithin}
+use Rattle.md_math.proofs.Bits.{read_result, read_short_within}
 use Rattle.md_space.specs.Profiles.{profile_count, profile_at}
 use Rattle.md_space.proofs.Ranks.{profile_at-IsProfile}
 use Rattle.md_setting.specs.Setting.{GeneralSetting, written}
 use Rattle.md_setting.specs.Meaning.{outcome_count, sizes_of, value_of}
 use Rattle.md_setting.specs.Shaped.{IsShaped}
-use Rattle.md_setting.proofs.Reading.{read_result, read_within}
 use Rattle.md_setting.proofs.setting.Setting.value.Goals as goal
 
 -- a value within the limits, at a rank
@@ -27,5 +27,5 @@ pub returns-clause-value : goal.returns-clause-value
 returns-clause-value c =
     let s = written c.self.inside.raw in
     ap (λ z. to_z w64 (of_z w64 z)) (read_result c.value_in.result c.value_in.type_inv ∙ c.value_in.ensures)
-    ∙ read_within 10000000 _ (small_value s c.args.self.now c.self.invariant.shaped c.self.view_is c.args.rank c.args.outcome c.requires.rank_in c.requires.outcome_in) (lit< tt)
+    ∙ read_short_within 10000000 _ (small_value s c.args.self.now c.self.invariant.shaped c.self.view_is c.args.rank c.args.outcome c.requires.rank_in c.requires.outcome_in) (lit< tt)
     ∙ ap (λ v. value_of v (profile_at (sizes_of v) c.args.rank) c.args.outcome) c.self.view_is

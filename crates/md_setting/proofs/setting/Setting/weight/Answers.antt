@@ -1,10 +1,10 @@
 use Rattle.std.proofs.Common.{◌≡◌, ℕ, ◌<◌, ℤ, pos, List, length, to_z, of_z, ap, sym, ◌∙◌, subst, arith, lit<}
 use Rattle.md_math.specs.Lists.{number_at, list_to}
 use Rattle.md_math.proofs.Builders.{length-list_to, get_or-list_to}
+use Rattle.md_math.proofs.Bits.{read_short_within}
 use Rattle.md_space.specs.Profiles.{profile_count, profile_at}
 use mir.Syntax.{w64}
 use Rattle.md_space.proofs.Ranks.{profile_at-IsProfile}
-use Rattle.md_setting.proofs.Reading.{read_within}
 use Rattle.md_setting.specs.Setting.{GeneralSetting, written}
 use Rattle.md_setting.specs.Meaning.{sizes_of, weight_of}
 use Rattle.md_setting.proofs.setting.Setting.weight.Goals as goal
@@ -32,5 +32,5 @@ returns-clause-value c =
     let t = profile_at (sizes_of s) c.args.rank in
     ap (λ xs. to_z w64 (of_z w64 (number_at xs c.args.rank))) c.as_slice.ensures.value
     ∙ ap (λ z. to_z w64 (of_z w64 z)) (at_rank s c.self.inside.weights.items c.args.rank c.self.invariant.weights_are below)
-    ∙ read_within 1000000 (weight_of s t) (c.self.invariant.shaped.weight t (profile_at-IsProfile (sizes_of s) c.args.rank below)).within (lit< tt)
+    ∙ read_short_within 1000000 (weight_of s t) (c.self.invariant.shaped.weight t (profile_at-IsProfile (sizes_of s) c.args.rank below)).within (lit< tt)
     ∙ ap (λ v. weight_of v (profile_at (sizes_of v) c.args.rank)) c.self.view_is
