@@ -15,6 +15,7 @@ mod stored_row;
 mod stored_term;
 mod sums;
 mod term;
+mod wide;
 
 pub use entry::Entry;
 pub use lp::Lp;
@@ -24,6 +25,7 @@ pub use pivot::Pivot;
 pub use row_kind::RowKind;
 pub use sets::Sets;
 pub use term::Term;
+pub use wide::Wide;
 
 #[cfg(test)]
 mod tests;
