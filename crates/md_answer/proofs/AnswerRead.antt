@@ -1,5 +1,5 @@
 -- What is known of an answer that was read.
-use Rattle.std.proofs.Common.{◌≡◌, ℕ, zero, suc, ◌+◌, ◌<◌, ◌≤◌, ◌^◌, ◌-◌, ℤ, pos, ◌≤ℤ◌, ◌<ℤ◌, Bool, true, false, List, [], ◌∷◌, map, length, get_or, replicate, codes, Some, Result, Ok, Err, if◌then◌else◌, int_le, unsigned_abs, refl, sym, ap, subst, arith, All, lit≤, lit<}
+use Rattle.std.proofs.Common.{◌≡◌, ℕ, zero, suc, ◌+◌, ◌<◌, ◌≤◌, ◌^◌, ◌-◌, ℤ, pos, ◌≤ℤ◌, ◌<ℤ◌, Bool, true, false, List, [], ◌∷◌, map, length, get_or, replicate, codes, Option, None, Some, Result, Ok, Err, if◌then◌else◌, int_le, unsigned_abs, refl, sym, ap, subst, arith, All, IfSome, lit≤, lit<}
 use Rattle.std.proofs.lemmas.Int.{ints}
 use Rattle.std.proofs.lemmas.List.{length-replicate}
 use Rattle.std.proofs.lemmas.List.Elements.{All-nil, All-cons, All-head, All-tail}
@@ -13,11 +13,14 @@ use Rattle.md_setting.specs.Setting.{GeneralSetting}
 use Rattle.md_setting.specs.Rows.{row_count}
 use Rattle.md_lp.specs.declared.pivot.Pivot.{Pivot}
 use Rattle.md_lp.specs.declared.entry.Entry.{Entry}
+use Rattle.md_lp.specs.declared.wide.Wide.{Wide}
 use Rattle.md_cert.specs.declared.bound.Bound.{Bound}
 use Rattle.md_cert.specs.Fitting.{IsDenominator}
 use Rattle.md_answer.specs.declared.answer.Answer.{Answer}
 use Rattle.md_answer.specs.declared.answer.Answer.TheVariants.{Table, Optimal, Infeasible, Unbounded, TooWide}
 use Rattle.md_answer.specs.declared.answer.AnswerRefusal.{AnswerRefusal}
+use Rattle.md_answer.specs.declared.version.Version.{Version}
+use Rattle.md_answer.specs.declared.version.Version.TheVariants.{One, Two}
 use Rattle.md_answer.specs.declared.kind.Kind.{Kind}
 use Rattle.md_answer.specs.declared.kind.Kind.TheVariants as kind
 use Rattle.md_answer.specs.Fields.{Field, numbers_of, number_field, any_number, denominator_field, wide_number, wide_denominator, is_place, table_place}
@@ -25,9 +28,9 @@ use Rattle.md_answer.specs.Reading.{Rest, then_read, read_record}
 use Rattle.md_answer.specs.Repeated.{has_word, after_first, repeated_in, repeated}
 use Rattle.md_answer.specs.Table.{mechanism_of, ray_of, value_of}
 use Rattle.md_answer.specs.Multipliers.{row_fields, record_of, number_in, number_for, numbers_for, row_records, bound_denominator, bound_of, face_of}
-use Rattle.md_answer.specs.Path.{pivot_fields, pivot_of, path_of, entry_of}
-use Rattle.md_answer.specs.Answers.{answer_by}
-use Rattle.md_answer.specs.AnswerTo.{IsFraction, AreMultipliers, IsBoundFor, IsRayFor, IsAnswerTo, IsTablePlace, HasPlaces}
+use Rattle.md_answer.specs.Path.{pivot_fields, pivot_of, path_of, entry_of, wide_of}
+use Rattle.md_answer.specs.Answers.{second_of, answer_by}
+use Rattle.md_answer.specs.AnswerTo.{IsFraction, AreMultipliers, IsBoundFor, IsRayFor, HasFraction, IsAnswerTo, IsTablePlace, HasWidePlaces, HasPlaces}
 use Rattle.md_answer.proofs.NumbersRead.{IsInField, number_field-is, numbers-first, record-was_read}
 use Rattle.md_answer.proofs.Blocks.{in_two}
 use Rattle.md_answer.proofs.MechanismRead.{mechanism-accepted, pays-known}
@@ -218,6 +221,28 @@ path-known rest after path h =
     let pair : (map pivot_of two.one, two.mid) ≡ (path, after) = cc in
     subst (λ (ps : List Pivot). All IsPlaced ps) (ap (λ (p : List Pivot × Rest). p.0) pair) (all-pivots two.one all)
 
+wide-known : (rest after : Rest) (wide : Wide) → wide_of rest ≡ Ok (wide, after) → HasFraction wide × HasWidePlaces wide
+wide-known rest after wide h =
+    let path = in_two (path_of rest) _ wide after h in
+    let entry = in_two (entry_of path.mid) _ wide after path.next_is in
+    let made : Wide = record { path = path.one; entry = entry.one } in
+    let pair : (made, entry.mid) ≡ (wide, after) = cc in
+    let known = entry-known path.mid entry.mid entry.one entry.first_is in
+    subst (λ (w : Wide). HasFraction w × HasWidePlaces w) (ap (λ (p : Wide × Rest). p.0) pair) (known.0, (path-known rest path.mid path.one path.first_is, known.1))
+
+-- a second part, where there is one
+second-known : (version : Version) (rest after : Rest) (second : Option Wide) → second_of version rest ≡ Ok (second, after) → IfSome second HasFraction × IfSome second HasWidePlaces
+second-known One rest after second h =
+    let none : Option Wide = None in
+    let pair : (none, rest) ≡ (second, after) = cc in
+    subst (λ (o : Option Wide). IfSome o HasFraction × IfSome o HasWidePlaces) (ap (λ (p : Option Wide × Rest). p.0) pair) (tt, tt)
+second-known Two rest after second h =
+    let again = in_two (read_record (codes "again") [] rest) _ second after h in
+    let wide = in_two (wide_of again.mid) _ second after again.next_is in
+    let some : Option Wide = Some wide.one in
+    let pair : (some, wide.mid) ≡ (second, after) = cc in
+    subst (λ (o : Option Wide). IfSome o HasFraction × IfSome o HasWidePlaces) (ap (λ (p : Option Wide × Rest). p.0) pair) (wide-known again.mid wide.mid wide.one wide.first_is)
+
 -- ---- answers
 
 abbrev IsKnown : GeneralSetting → Answer → Type 0
@@ -228,26 +253,27 @@ known-as s made answer mid after h known =
     let pair : (made, mid) ≡ (answer, after) = cc in
     subst (IsKnown s) (ap (λ (p : Answer × Rest). p.0) pair) known
 
-pub answer-known : (s : GeneralSetting) (k : Kind) (rest after : Rest) (answer : Answer) → answer_by s k rest ≡ Ok (answer, after) → IsAnswerTo s answer × HasPlaces answer
-answer-known s kind.Table rest after answer h =
+pub answer-known : (s : GeneralSetting) (version : Version) (k : Kind) (rest after : Rest) (answer : Answer) → answer_by s version k rest ≡ Ok (answer, after) → IsAnswerTo s answer × HasPlaces answer
+answer-known s version kind.Table rest after answer h =
     let one = in_two (mechanism_of s rest) _ answer after h in
     known-as s (Table one.one) answer one.mid after one.next_is (mechanism-accepted s one.one rest one.mid one.first_is, tt)
-answer-known s kind.Optimal rest after answer h =
+answer-known s version kind.Optimal rest after answer h =
     let value = in_two (value_of rest) _ answer after h in
     let mechanism = in_two (mechanism_of s value.mid) _ answer after value.next_is in
     let bound = in_two (bound_of s mechanism.mid) _ answer after mechanism.next_is in
     known-as s (Optimal value.one mechanism.one bound.one) answer bound.mid after bound.next_is
     ((value-known rest value.mid value.one value.first_is, mechanism-accepted s mechanism.one value.mid mechanism.mid mechanism.first_is, bound-known s mechanism.mid bound.mid bound.one bound.first_is), tt)
-answer-known s kind.Infeasible rest after answer h =
+answer-known s version kind.Infeasible rest after answer h =
     let one = in_two (face_of s rest) _ answer after h in
     known-as s (Infeasible one.one) answer one.mid after one.next_is (face-known s rest one.mid one.one one.first_is, tt)
-answer-known s kind.Unbounded rest after answer h =
+answer-known s version kind.Unbounded rest after answer h =
     let mechanism = in_two (mechanism_of s rest) _ answer after h in
     let ray = in_two (ray_of s mechanism.mid) _ answer after mechanism.next_is in
     known-as s (Unbounded mechanism.one ray.one) answer ray.mid after ray.next_is
     ((mechanism-accepted s mechanism.one rest mechanism.mid mechanism.first_is, ray-known s mechanism.mid ray.mid ray.one ray.first_is), tt)
-answer-known s kind.TooWide rest after answer h =
-    let path = in_two (path_of rest) _ answer after h in
-    let entry = in_two (entry_of path.mid) _ answer after path.next_is in
-    let known = entry-known path.mid entry.mid entry.one entry.first_is in
-    known-as s (TooWide [] path.one entry.one) answer entry.mid after entry.next_is ((refl, known.0), (path-known rest path.mid path.one path.first_is, known.1))
+answer-known s version kind.TooWide rest after answer h =
+    let first = in_two (wide_of rest) _ answer after h in
+    let second = in_two (second_of version first.mid) _ answer after first.next_is in
+    let known = wide-known rest first.mid first.one first.first_is in
+    let more = second-known version first.mid second.mid second.one second.first_is in
+    known-as s (TooWide [] first.one second.one) answer second.mid after second.next_is ((refl, known.0, more.0), (known.1, more.1))

@@ -1,5 +1,5 @@
 -- An answer that is written is read as the same answer.
-use Rattle.std.proofs.Common.{◌≡◌, ℕ, zero, suc, ◌+◌, ◌*◌, ◌/◌, ◌%◌, ◌<◌, ◌≤◌, ◌-◌, ◌^◌, ℤ, pos, ◌≤ℤ◌, ◌<ℤ◌, int_le, unsigned_abs, Bool, true, false, List, [], ◌∷◌, ◌++◌, map, length, codes, Some, Ok, if◌then◌else◌, refl, sym, ap, ap₂, subst, ◌∙◌, arith, All, append-nil, lit≤}
+use Rattle.std.proofs.Common.{◌≡◌, ℕ, zero, suc, ◌+◌, ◌*◌, ◌/◌, ◌%◌, ◌<◌, ◌≤◌, ◌-◌, ◌^◌, ℤ, pos, ◌≤ℤ◌, ◌<ℤ◌, int_le, unsigned_abs, Bool, true, false, List, [], ◌∷◌, ◌++◌, map, length, codes, Option, None, Some, IfSome, Ok, if◌then◌else◌, refl, sym, ap, ap₂, subst, ◌∙◌, arith, All, append-nil, add-zero, lit≤}
 use Rattle.std.proofs.Math.Nat.{div-mul-le_self}
 use Rattle.std.proofs.lemmas.Int.{ints}
 use Rattle.std.proofs.lemmas.List.{length-map}
@@ -22,23 +22,27 @@ use Rattle.md_mech.specs.declared.mechanism.Mechanism.{Mechanism}
 use Rattle.md_mech.specs.Accepted.{IsAccepted}
 use Rattle.md_lp.specs.declared.pivot.Pivot.{Pivot}
 use Rattle.md_lp.specs.declared.entry.Entry.{Entry}
+use Rattle.md_lp.specs.declared.wide.Wide.{Wide}
 use Rattle.md_cert.specs.declared.bound.Bound.{Bound}
 use Rattle.md_records.specs.Written.{IsReadBack}
 use Rattle.md_records.proofs.RecordTexts.{records_of-text}
 use Rattle.md_answer.specs.declared.answer.Answer.{Answer}
 use Rattle.md_answer.specs.declared.answer.Answer.TheVariants.{Table, Optimal, Infeasible, Unbounded, TooWide}
+use Rattle.md_answer.specs.declared.version.Version.{Version}
+use Rattle.md_answer.specs.declared.version.Version.TheVariants.{One, Two}
+use Rattle.md_answer.specs.declared.kind.Head.{Head}
 use Rattle.md_answer.specs.declared.kind.Kind.{Kind}
 use Rattle.md_answer.specs.declared.kind.Kind.TheVariants as kind
-use Rattle.md_answer.specs.Kinds.{word_of, number_of, kind_of, kind_field}
+use Rattle.md_answer.specs.Kinds.{version_text, version_number, version_of, version_field, word_of, number_of, kind_of, kind_field, stands_in}
 use Rattle.md_answer.specs.Fields.{Field, word_field, denominator_field, wide_number, wide_denominator, table_place}
 use Rattle.md_answer.specs.Reading.{◌>>=◌, nothing_more, read_record}
 use Rattle.md_answer.specs.Repeated.{comes_next, repeated}
 use Rattle.md_answer.specs.Table.{denominator_of, lottery_of, each_profile, all_payments_of, mechanism_of, ray_of, value_of}
 use Rattle.md_answer.specs.Multipliers.{row_fields, number_for, numbers_for, row_records, bound_denominator, bound_of, face_of}
-use Rattle.md_answer.specs.Path.{pivot_fields, pivot_of, path_of, entry_of}
-use Rattle.md_answer.specs.Answers.{read_head, read_end, answer_by, whole_answer, answered, answer_of}
-use Rattle.md_answer.specs.AnswerTo.{IsFraction, AreMultipliers, IsBoundFor, IsRayFor, IsAnswerTo, IsTablePlace, HasPlaces}
-use Rattle.md_answer.specs.Rows.{number_row, head_row, end_row, profile_row, profile_rows, payment_rows, mechanism_rows, ray_rows, value_row, row_unless_zero, face_rows, bound_rows, pivot_row, entry_row, inner_rows, kind_in, answer_rows, text_of_answer}
+use Rattle.md_answer.specs.Path.{pivot_fields, pivot_of, path_of, entry_of, wide_of}
+use Rattle.md_answer.specs.Answers.{in_version, read_head, read_end, second_of, answer_by, whole_answer, answered, answer_of}
+use Rattle.md_answer.specs.AnswerTo.{IsFraction, AreMultipliers, IsBoundFor, IsRayFor, HasFraction, IsAnswerTo, IsTablePlace, HasWidePlaces, HasPlaces}
+use Rattle.md_answer.specs.Rows.{number_row, head_row, end_row, profile_row, profile_rows, payment_rows, mechanism_rows, ray_rows, value_row, row_unless_zero, face_rows, bound_rows, pivot_row, entry_row, wide_rows, again_row, second_rows, inner_rows, version_in, kind_in, answer_rows, text_of_answer}
 use Rattle.md_answer.proofs.NumbersRead.{IsInField}
 use Rattle.md_answer.proofs.WrittenRecords.{Holds, holds-none, holds-cons, holds-names, number_field-holds}
 use Rattle.md_answer.proofs.WrittenRows.{HoldFrom, repeated-written, records_from, rows-written, place-holds, hold-from, number-from}
@@ -94,13 +98,31 @@ kind-number kind.Infeasible = refl
 kind-number kind.Unbounded = refl
 kind-number kind.TooWide = refl
 
-head-written : (others : Rows) (k : Kind) → IsWrittenBefore others read_head (head_row k ∷ []) k
-head-written others k =
-    let h = holds-names (codes "1" ∷ codes "general" ∷ []) (kind_field ∷ []) (word_of k ∷ []) (number_of k ∷ []) (holds-cons kind_field [] (word_of k) [] (number_of k) [] (kind-word k) holds-none) in
-    let fields : List Field = word_field (codes "1") ∷ word_field (codes "general") ∷ kind_field ∷ [] in
-    subst (λ (found : Kind). IsWrittenBefore others read_head (head_row k ∷ []) found) (kind-number k)
-    (written-as others (read_record (codes "answer") fields) (λ numbers. kind_of (number_at numbers 2)) (head_row k ∷ []) (pos 0 ∷ pos 0 ∷ number_of k ∷ [])
-    (written-record others (codes "answer") fields (codes "1" ∷ codes "general" ∷ word_of k ∷ []) (pos 0 ∷ pos 0 ∷ number_of k ∷ []) h))
+version-text : (v : Version) → version_field (version_text v) ≡ Some (version_number v)
+version-text One = refl
+version-text Two = refl
+
+version-number : (v : Version) → version_of (version_number v) ≡ v
+version-number One = refl
+version-number Two = refl
+
+head-holds : (v : Version) (k : Kind)
+    → Holds (version_field ∷ word_field (codes "general") ∷ kind_field ∷ []) (version_text v ∷ codes "general" ∷ word_of k ∷ []) (version_number v ∷ pos 0 ∷ number_of k ∷ [])
+head-holds v k =
+    holds-cons version_field (word_field (codes "general") ∷ kind_field ∷ []) (version_text v) (codes "general" ∷ word_of k ∷ []) (version_number v) (pos 0 ∷ number_of k ∷ []) (version-text v)
+    (holds-names (codes "general" ∷ []) (kind_field ∷ []) (word_of k ∷ []) (number_of k ∷ []) (holds-cons kind_field [] (word_of k) [] (number_of k) [] (kind-word k) holds-none))
+
+-- a kind that stands in the version is read as it is
+stands-written : (others : Rows) (v : Version) (k : Kind) → stands_in v k ≡ true → IsWrittenBefore others (in_version v k) [] (record { version = v; kind = k })
+stands-written others v k stands = record { read = λ n. rw (stands, add-zero n) refl }
+
+head-written : (others : Rows) (v : Version) (k : Kind) → stands_in v k ≡ true → IsWrittenBefore others read_head (head_row v k ∷ []) (record { version = v; kind = k })
+head-written others v k stands =
+    let fields : List Field = version_field ∷ word_field (codes "general") ∷ kind_field ∷ [] in
+    let numbers : List ℤ = version_number v ∷ pos 0 ∷ number_of k ∷ [] in
+    written-then others (read_record (codes "answer") fields) (λ found. in_version (version_of (number_at found 0)) (kind_of (number_at found 2))) (head_row v k ∷ []) [] numbers (record { version = v; kind = k })
+    (written-record others (codes "answer") fields (version_text v ∷ codes "general" ∷ word_of k ∷ []) numbers (head-holds v k))
+    (rw (version-number v, kind-number k) (stands-written others v k stands))
 
 end-written : IsWrittenBefore [] read_end (end_row ∷ []) tt
 end-written = record { read = λ n. refl }
@@ -252,12 +274,35 @@ entry-written entry others h p =
     (written-record others (codes "wide") fields (map text_of numbers) numbers
     (places-hold entry.row entry.column (wide_number ∷ wide_denominator ∷ []) (text_of entry.num ∷ text_of entry.den ∷ []) (entry.num ∷ entry.den ∷ []) p (fraction-holds entry.num entry.den h)))
 
+wide-written : (wide : Wide) (others : Rows) → HasFraction wide → HasWidePlaces wide → IsWrittenBefore others wide_of (wide_rows wide) wide
+wide-written wide others h p =
+    let last = entry_row wide.entry ∷ [] in
+    written-then others path_of (λ ps. entry_of >>= (λ e. nothing_more (record { path = ps; entry = e }))) (map pivot_row wide.path) last wide.path wide
+    (path-written wide.path (last ++ others) p.0 refl)
+    (written-as others entry_of (λ e. record { path = wide.path; entry = e }) last wide.entry (entry-written wide.entry others h p.1))
+
+-- a second part, where there is one, and the version in which it is read
+abbrev version_with : Option Wide → Version
+version_with None = One
+version_with (Some second) = Two
+
+second-written : (second : Option Wide) (others : Rows) → IfSome second HasFraction → IfSome second HasWidePlaces → IsWrittenBefore others (second_of (version_with second)) (second_rows second) second
+second-written None others h p = record { read = λ n. rw (add-zero n) refl }
+second-written (Some second) others h p =
+    written-then others (read_record (codes "again") []) (λ _. wide_of >>= (λ w. nothing_more (Some w))) (again_row ∷ []) (wide_rows second) [] (Some second)
+    (written-record (wide_rows second ++ others) (codes "again") [] [] [] holds-none)
+    (written-as others wide_of (λ w. Some w) (wide_rows second) second (wide-written second others h p))
+
+version-with : (cuts : List ℕ) (first : Wide) (second : Option Wide) → version_in (TooWide cuts first second) ≡ version_with second
+version-with cuts first None = refl
+version-with cuts first (Some second) = refl
+
 -- ---- answers
 
 abbrev the_end : Rows
 the_end = end_row ∷ []
 
-inner-written : (s : GeneralSetting) (a : Answer) → row_count s ≤ 2 ^ 32 → IsAnswerTo s a → HasPlaces a → IsWrittenBefore the_end (answer_by s (kind_in a)) (inner_rows s a) a
+inner-written : (s : GeneralSetting) (a : Answer) → row_count s ≤ 2 ^ 32 → IsAnswerTo s a → HasPlaces a → IsWrittenBefore the_end (answer_by s (version_in a) (kind_in a)) (inner_rows s a) a
 inner-written s (Table mechanism) few h p =
     written-as the_end (mechanism_of s) (λ m. Table m) (mechanism_rows s mechanism) mechanism (mechanism-written s mechanism the_end h)
 inner-written s (Optimal value mechanism bound) few h p =
@@ -272,17 +317,29 @@ inner-written s (Unbounded mechanism ray) few h p =
     written-then the_end (mechanism_of s) (λ m. ray_of s >>= (λ r. nothing_more (Unbounded m r))) (mechanism_rows s mechanism) (ray_rows s ray) mechanism (Unbounded mechanism ray)
     (mechanism-written s mechanism (ray_rows s ray ++ the_end) h.0)
     (written-as the_end (ray_of s) (λ r. Unbounded mechanism r) (ray_rows s ray) ray (ray-written s ray the_end h.1))
-inner-written s (TooWide cuts path entry) few h p =
-    subst (λ (c : List ℕ). IsWrittenBefore the_end (answer_by s kind.TooWide) (inner_rows s (TooWide cuts path entry)) (TooWide c path entry)) (sym h.0)
-    (written-then the_end path_of (λ ps. entry_of >>= (λ e. nothing_more (TooWide [] ps e))) (map pivot_row path) (entry_row entry ∷ []) path (TooWide [] path entry)
-    (path-written path (entry_row entry ∷ the_end) p.0 refl)
-    (written-as the_end entry_of (λ e. TooWide [] path e) (entry_row entry ∷ []) entry (entry-written entry the_end h.1 p.1)))
+inner-written s (TooWide cuts first second) few h p =
+    let version = version_with second in
+    rw (version-with cuts first second)
+    (subst (λ (c : List ℕ). IsWrittenBefore the_end (answer_by s version kind.TooWide) (inner_rows s (TooWide cuts first second)) (TooWide c first second)) (sym h.0)
+    (written-then the_end wide_of (λ w. second_of version >>= (λ o. nothing_more (TooWide [] w o))) (wide_rows first) (second_rows second) first (TooWide [] first second)
+    (wide-written first (second_rows second ++ the_end) h.1 p.0)
+    (written-as the_end (second_of version) (λ o. TooWide [] first o) (second_rows second) second (second-written second the_end h.2 p.1))))
+
+-- each answer stands in its version
+answer-stands : (a : Answer) → stands_in (version_in a) (kind_in a) ≡ true
+answer-stands (Table mechanism) = refl
+answer-stands (Optimal value mechanism bound) = refl
+answer-stands (Infeasible face) = refl
+answer-stands (Unbounded mechanism ray) = refl
+answer-stands (TooWide cuts first None) = refl
+answer-stands (TooWide cuts first (Some second)) = refl
 
 whole-written : (s : GeneralSetting) (a : Answer) → row_count s ≤ 2 ^ 32 → IsAnswerTo s a → HasPlaces a → IsWrittenBefore [] (whole_answer s) (answer_rows s a) a
 whole-written s a few h p =
-    written-then [] read_head (λ which. answer_by s which >>= (λ found. read_end >>= (λ _. nothing_more found))) (head_row (kind_in a) ∷ []) (inner_rows s a ++ the_end) (kind_in a) a
-    (head-written ((inner_rows s a ++ the_end) ++ []) (kind_in a))
-    (written-then [] (answer_by s (kind_in a)) (λ found. read_end >>= (λ _. nothing_more found)) (inner_rows s a) the_end a a
+    let head : Head = record { version = version_in a; kind = kind_in a } in
+    written-then [] read_head (λ found. answer_by s found.version found.kind >>= (λ answer. read_end >>= (λ _. nothing_more answer))) (head_row (version_in a) (kind_in a) ∷ []) (inner_rows s a ++ the_end) head a
+    (head-written ((inner_rows s a ++ the_end) ++ []) (version_in a) (kind_in a) (answer-stands a))
+    (written-then [] (answer_by s (version_in a) (kind_in a)) (λ found. read_end >>= (λ _. nothing_more found)) (inner_rows s a) the_end a a
     (inner-written s a few h p)
     (written-as [] read_end (λ _. a) the_end tt end-written))
 
@@ -320,6 +377,13 @@ pivots-some : (path : List Pivot) → All IsSome (map pivot_row path)
 pivots-some [] = All-nil IsSome
 pivots-some (p ∷ path) = All-cons IsSome (pivot_row p) (map pivot_row path) (omega arith) (pivots-some path)
 
+wide-some : (wide : Wide) → All IsSome (wide_rows wide)
+wide-some wide = All-append IsSome (map pivot_row wide.path) (entry_row wide.entry ∷ []) (pivots-some wide.path) (All-cons IsSome (entry_row wide.entry) [] (omega arith) (All-nil IsSome))
+
+second-some : (second : Option Wide) → All IsSome (second_rows second)
+second-some None = All-nil IsSome
+second-some (Some second) = All-cons IsSome again_row (wide_rows second) (omega arith) (wide-some second)
+
 inner-some : (s : GeneralSetting) (a : Answer) → All IsSome (inner_rows s a)
 inner-some s (Table mechanism) = mechanism-some s mechanism
 inner-some s (Optimal value mechanism bound) =
@@ -329,11 +393,11 @@ inner-some s (Optimal value mechanism bound) =
     (All-cons IsSome (number_row (codes "bound") (bound.den ∷ [])) rows (omega arith) (rows-some (row_count s) (both_row bound))))
 inner-some s (Infeasible face) = rows-some (row_count s) (face_row face)
 inner-some s (Unbounded mechanism ray) = All-append IsSome (mechanism_rows s mechanism) (ray_rows s ray) (mechanism-some s mechanism) (payments-some (codes "ray") s ray s.payments)
-inner-some s (TooWide cuts path entry) = All-append IsSome (map pivot_row path) (entry_row entry ∷ []) (pivots-some path) (All-cons IsSome (entry_row entry) [] (omega arith) (All-nil IsSome))
+inner-some s (TooWide cuts first second) = All-append IsSome (wide_rows first) (second_rows second) (wide-some first) (second-some second)
 
 answer-read_back : (s : GeneralSetting) (a : Answer) → IsReadBack (answer_rows s a)
 answer-read_back s a = record {
-  fields = All-cons IsSome (head_row (kind_in a)) (inner_rows s a ++ the_end) (omega arith)
+  fields = All-cons IsSome (head_row (version_in a) (kind_in a)) (inner_rows s a ++ the_end) (omega arith)
       (All-append IsSome (inner_rows s a) the_end (inner-some s a) (All-cons IsSome end_row [] (omega arith) (All-nil IsSome)));
   no_mark = λ e. first_byte e;
 }

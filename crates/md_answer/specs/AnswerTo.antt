@@ -1,5 +1,5 @@
 -- What is known of an answer that was read for a setting, and what an answer must be to be written.
-use Rattle.std.specs.Prelude.{◌≡◌, ℕ, ◌*◌, ◌-◌, ◌^◌, ◌<◌, ℤ, pos, ◌≤ℤ◌, false, List, [], length, All}
+use Rattle.std.specs.Prelude.{◌≡◌, ℕ, ◌*◌, ◌-◌, ◌^◌, ◌<◌, ℤ, pos, ◌≤ℤ◌, false, List, [], length, All, IfSome}
 use Rattle.md_math.specs.Lists.{number_at}
 use Rattle.md_math.specs.Sizes.{IsWithin, AllWithin}
 use Rattle.md_space.specs.Profiles.{profile_count}
@@ -8,6 +8,7 @@ use Rattle.md_setting.specs.Meaning.{agent_count, sizes_of}
 use Rattle.md_setting.specs.Rows.{row_count}
 use Rattle.md_mech.specs.Accepted.{IsAccepted}
 use Rattle.md_lp.specs.declared.pivot.Pivot.{Pivot}
+use Rattle.md_lp.specs.declared.wide.Wide.{Wide}
 use Rattle.md_cert.specs.declared.bound.Bound.{Bound}
 use Rattle.md_cert.specs.Fitting.{IsDenominator}
 use Rattle.md_answer.specs.declared.answer.Answer.{Answer}
@@ -36,20 +37,28 @@ pub record IsRayFor (s : GeneralSetting) (ray : List ℤ) : Type 0 where
   pub sizes : AllWithin (2 ^ 62 - 1) ray
   pub off : s.payments ≡ false → (k : ℕ) → number_at ray k ≡ pos 0
 
+-- the entry is a fraction
+abbrev pub HasFraction : Wide → Type 0
+HasFraction wide = IsFraction wide.entry.num wide.entry.den
+
 -- the answer has the setting's sizes, and its numbers are in their ranges
 abbrev pub IsAnswerTo : GeneralSetting → Answer → Type 0
 IsAnswerTo s (Table mechanism) = IsAccepted s mechanism
 IsAnswerTo s (Optimal value mechanism bound) = IsFraction value.num value.den × IsAccepted s mechanism × IsBoundFor s bound
 IsAnswerTo s (Infeasible face) = AreMultipliers (row_count s) face
 IsAnswerTo s (Unbounded mechanism ray) = IsAccepted s mechanism × IsRayFor s ray
-IsAnswerTo s (TooWide cuts path entry) = (cuts ≡ []) × IsFraction entry.num entry.den
+IsAnswerTo s (TooWide cuts first second) = (cuts ≡ []) × HasFraction first × IfSome second HasFraction
 
 -- a row and a column, as the types of pivots and entries hold them
 pub record IsTablePlace (row column : ℕ) : Type 0 where
   pub row_in : row < 2 ^ 32
   pub column_in : column < 2 ^ 32
 
+-- the places of a path and of the entry at its end are as their types hold them
+abbrev pub HasWidePlaces : Wide → Type 0
+HasWidePlaces wide = All (λ (p : Pivot). IsTablePlace p.row p.column) wide.path × IsTablePlace wide.entry.row wide.entry.column
+
 -- the places that an answer names are as its types hold them
 abbrev pub HasPlaces : Answer → Type 0
-HasPlaces (TooWide cuts path entry) = All (λ (p : Pivot). IsTablePlace p.row p.column) path × IsTablePlace entry.row entry.column
+HasPlaces (TooWide cuts first second) = HasWidePlaces first × IfSome second HasWidePlaces
 HasPlaces _ = Unit {0}

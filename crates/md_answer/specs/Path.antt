@@ -1,8 +1,9 @@
--- The records of a path of pivots, and of an entry that is too wide.
+-- The records of a path of pivots, and of an entry that is too wide at its end.
 use Rattle.std.specs.Prelude.{ℕ, ℤ, List, [], ◌∷◌, map, codes, unsigned_abs}
 use Rattle.md_math.specs.Lists.{number_at}
 use Rattle.md_lp.specs.declared.pivot.Pivot.{Pivot}
 use Rattle.md_lp.specs.declared.entry.Entry.{Entry}
+use Rattle.md_lp.specs.declared.wide.Wide.{Wide}
 use Rattle.md_answer.specs.Fields.{Field, table_place, wide_number, wide_denominator}
 use Rattle.md_answer.specs.Reading.{Reading, ◌>>=◌, nothing_more, read_record}
 use Rattle.md_answer.specs.Repeated.{repeated}
@@ -29,3 +30,10 @@ entry_of = do
     num = number_at numbers 2;
     den = number_at numbers 3;
   }
+
+-- a path, and the entry at its end
+abbrev pub wide_of : Reading Wide
+wide_of = do
+  path ← path_of
+  entry ← entry_of
+  nothing_more record { path = path; entry = entry }

@@ -1,5 +1,5 @@
 -- The records that an answer is written as.
-use Rattle.std.specs.Prelude.{ℕ, ◌+◌, ◌*◌, ℤ, pos, Bool, true, false, List, [], ◌∷◌, ◌++◌, map, codes, if◌then◌else◌}
+use Rattle.std.specs.Prelude.{ℕ, ◌+◌, ◌*◌, ℤ, pos, Bool, true, false, List, [], ◌∷◌, ◌++◌, map, codes, Option, None, Some, if◌then◌else◌}
 use Rattle.std.specs.List.{list_all}
 use Rattle.std.specs.Ordering.{int_eq}
 use Rattle.md_math.specs.Lists.{number_at, list_to, up_to}
@@ -14,21 +14,24 @@ use Rattle.md_mech.specs.declared.mechanism.Mechanism.{Mechanism}
 use Rattle.md_mech.specs.RowName.{type_names}
 use Rattle.md_lp.specs.declared.pivot.Pivot.{Pivot}
 use Rattle.md_lp.specs.declared.entry.Entry.{Entry}
+use Rattle.md_lp.specs.declared.wide.Wide.{Wide}
 use Rattle.md_cert.specs.declared.bound.Bound.{Bound}
 use Rattle.md_records.specs.Written.{text_of_records}
 use Rattle.md_answer.specs.declared.answer.Answer.{Answer}
 use Rattle.md_answer.specs.declared.answer.Answer.TheVariants.{Table, Optimal, Infeasible, Unbounded, TooWide}
+use Rattle.md_answer.specs.declared.version.Version.{Version}
+use Rattle.md_answer.specs.declared.version.Version.TheVariants.{One, Two}
 use Rattle.md_answer.specs.declared.kind.Kind.{Kind}
 use Rattle.md_answer.specs.declared.kind.Kind.TheVariants as kind
-use Rattle.md_answer.specs.Kinds.{word_of}
+use Rattle.md_answer.specs.Kinds.{version_text, word_of}
 
 -- a record of numbers after a word
 abbrev pub number_row : List ℕ → List ℤ → List (List ℕ)
 number_row word numbers = word ∷ map text_of numbers
 
 -- the version of the format, the kind of setting, and which answer it is
-abbrev pub head_row : Kind → List (List ℕ)
-head_row which = codes "answer" ∷ codes "1" ∷ codes "general" ∷ word_of which ∷ []
+abbrev pub head_row : Version → Kind → List (List ℕ)
+head_row version which = codes "answer" ∷ version_text version ∷ codes "general" ∷ word_of which ∷ []
 
 abbrev pub end_row : List (List ℕ)
 end_row = codes "end" ∷ []
@@ -81,6 +84,18 @@ pivot_row pivot = number_row (codes "pivot") (pos pivot.row ∷ pos pivot.column
 abbrev pub entry_row : Entry → List (List ℕ)
 entry_row entry = number_row (codes "wide") (pos entry.row ∷ pos entry.column ∷ entry.num ∷ entry.den ∷ [])
 
+-- a path, and the entry at its end
+abbrev pub wide_rows : Wide → List (List (List ℕ))
+wide_rows wide = map pivot_row wide.path ++ entry_row wide.entry ∷ []
+
+abbrev pub again_row : List (List ℕ)
+again_row = codes "again" ∷ []
+
+-- the part about the second path, where there is one
+abbrev pub second_rows : Option Wide → List (List (List ℕ))
+second_rows None = []
+second_rows (Some second) = again_row ∷ wide_rows second
+
 -- ---- answers
 
 -- what stands between the first record and the last
@@ -89,17 +104,26 @@ inner_rows s (Table mechanism) = mechanism_rows s mechanism
 inner_rows s (Optimal value mechanism bound) = value_row value ∷ (mechanism_rows s mechanism ++ bound_rows s bound)
 inner_rows s (Infeasible face) = face_rows s face
 inner_rows s (Unbounded mechanism ray) = mechanism_rows s mechanism ++ ray_rows s ray
-inner_rows s (TooWide cuts path entry) = map pivot_row path ++ entry_row entry ∷ []
+inner_rows s (TooWide cuts first second) = wide_rows first ++ second_rows second
+
+-- an answer of two parts stands in the second version
+abbrev pub version_in : Answer → Version
+version_in (Table mechanism) = One
+version_in (Optimal value mechanism bound) = One
+version_in (Infeasible face) = One
+version_in (Unbounded mechanism ray) = One
+version_in (TooWide cuts first None) = One
+version_in (TooWide cuts first (Some second)) = Two
 
 abbrev pub kind_in : Answer → Kind
 kind_in (Table mechanism) = kind.Table
 kind_in (Optimal value mechanism bound) = kind.Optimal
 kind_in (Infeasible face) = kind.Infeasible
 kind_in (Unbounded mechanism ray) = kind.Unbounded
-kind_in (TooWide cuts path entry) = kind.TooWide
+kind_in (TooWide cuts first second) = kind.TooWide
 
 abbrev pub answer_rows : GeneralSetting → Answer → List (List (List ℕ))
-answer_rows s answer = head_row (kind_in answer) ∷ (inner_rows s answer ++ end_row ∷ [])
+answer_rows s answer = head_row (version_in answer) (kind_in answer) ∷ (inner_rows s answer ++ end_row ∷ [])
 
 -- the one text of an answer
 abbrev pub text_of_answer : GeneralSetting → Answer → List ℕ

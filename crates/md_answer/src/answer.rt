@@ -3,7 +3,7 @@ ghost use Rattle.std.specs.Prelude.{◌≡◌};
 ghost use Rattle.md_answer.specs.declared.answer.AnswerRefusal.TheVariants.{Memory};
 
 use md_cert::Bound;
-use md_lp::{Entry, Path, Sets};
+use md_lp::{Sets, Wide};
 use md_mech::Mechanism;
 use md_num::{Frac, NoMemory, Nums};
 use std::alloc::AllocError;
@@ -30,12 +30,13 @@ pub enum Answer {
         mechanism: Mechanism,
         ray: Nums,
     },
-    /// The pivots that lead to the first dictionary with an entry too wide, and that entry. The cuts are the rows
-    /// that were added to the program: none for a general setting.
+    /// Where the forward path becomes too wide, and where the backward path does. The cuts are the rows that were
+    /// added to the program: none for a general setting. An answer without a second part is one of the first version
+    /// of the format: it is still read and written, and is never the answer of `solve`.
     TooWide {
         cuts: Sets,
-        path: Path,
-        entry: Entry,
+        first: Wide,
+        second: Option<Wide>,
     },
 }
 

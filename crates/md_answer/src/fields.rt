@@ -4,13 +4,14 @@ ghost use Rattle.md_math.specs.Sums.{total};
 ghost use Rattle.md_num.specs.Limits.{limit_of};
 ghost use Rattle.md_answer.specs.Fields.{word_field, place_field, table_place};
 ghost use Rattle.md_answer.specs.Records.{fields_after_word};
-ghost use Rattle.md_answer.specs.Kinds.{kind_field, number_of};
+ghost use Rattle.md_answer.specs.Kinds.{version_field, version_number, kind_field, number_of};
 ghost use Rattle.md_answer.specs.Ranges.{ranged_field, in_range};
 ghost use Rattle.md_answer.specs.FieldsRead.{Reads, FailsIn};
 
 use crate::AnswerRefusal;
 use crate::kind::Kind;
 use crate::range::Range;
+use crate::version::Version;
 use md_num::{Nums, read_whole};
 use md_records::Record;
 use std::marker::Model;
@@ -91,6 +92,23 @@ impl Fields {
         }
         self.step();
         Ok(())
+    }
+
+    /// The next field must be a version of the format.
+    #[tactic(auto, using(crate::proofs::FieldSteps::field_steps))]
+    pub(crate) fn version(&mut self) -> Result<Version, AnswerRefusal>
+        requires { 0 < length self.old.texts }
+        ensures { MatchResult result
+            (λ version. Reads (version_field ∷ []) self.old self.new (version_number version ∷ []))
+            (λ refusal. FailsIn (version_field ∷ []) self.old refusal) }
+    {
+        match Version::named(self.text()) {
+            Some(version) => {
+                self.step();
+                Ok(version)
+            }
+            None => Err(self.refusal()),
+        }
     }
 
     /// The next field must be the word of a kind of answers.

@@ -1,6 +1,8 @@
 //! Which answer a file holds.
 ghost use Rattle.std.specs.Prelude.{◌≡◌, option_map};
 
+use crate::version::Version;
+
 /// The kinds of answers about a setting.
 #[derive(Clone, Copy, Debug, PartialEq, Eq)]
 pub(crate) enum Kind {
@@ -16,9 +18,16 @@ pub(crate) enum Kind {
     TooWide,
 }
 
+/// What the first record of an answer says.
+#[derive(Clone, Copy, Debug, PartialEq, Eq)]
+pub(crate) struct Head {
+    pub(crate) version: Version,
+    pub(crate) kind: Kind,
+}
+
 impl Kind {
     ghost use Rattle.std.specs.Str.{bytes_eq};
-    ghost use Rattle.md_answer.specs.Kinds.{word_of, number_of, kind_field};
+    ghost use Rattle.md_answer.specs.Kinds.{word_of, number_of, kind_field, stands_in};
 
     /// The word that names it.
     pub(crate) fn word(self) -> &'static str
@@ -56,6 +65,16 @@ impl Kind {
             Some(Kind::TooWide)
         } else {
             None
+        }
+    }
+
+    /// Whether answers of the kind stand in a version of the format.
+    pub(crate) fn stands_in(self, version: Version) -> bool
+        ensures { result ≡ stands_in version self }
+    {
+        match version {
+            Version::One => true,
+            Version::Two => self == Kind::TooWide,
         }
     }
 }

@@ -12,6 +12,7 @@ mod read;
 mod reading;
 mod rows;
 mod table;
+mod version;
 mod write;
 
 pub use answer::{Answer, AnswerRefusal};

@@ -1,12 +1,12 @@
-//! Reading the records of a path of pivots, and of an entry that is too wide.
+//! Reading the records of a path of pivots, and of an entry that is too wide at its end.
 ghost use Rattle.std.specs.Prelude.{◌≡◌, ◌≢◌, ◌∷◌, pos, [], Ok, Err, codes, MatchResult};
 ghost use Rattle.md_answer.specs.Reading.{read_record};
-ghost use Rattle.md_answer.specs.Path.{pivot_fields, path_of, entry_of};
+ghost use Rattle.md_answer.specs.Path.{pivot_fields, path_of, entry_of, wide_of};
 
 use crate::AnswerRefusal;
 use crate::range::Range;
 use crate::reading::Reader;
-use md_lp::{Entry, Path, Pivot};
+use md_lp::{Entry, Path, Pivot, Wide};
 use std::alloc::Global;
 
 // The record of a pivot.
@@ -34,8 +34,8 @@ pub(crate) fn read_path(alloc: Global, reader: &mut Reader) -> Result<Path, Answ
     Ok(path)
 }
 
-/// The record of an entry with its place and its denominator.
-pub(crate) fn read_entry(reader: &mut Reader) -> Result<Entry, AnswerRefusal>
+// The record of an entry with its place and its denominator.
+fn read_entry(reader: &mut Reader) -> Result<Entry, AnswerRefusal>
     ensures { MatchResult result
         (λ entry. entry_of reader.old ≡ Ok (entry, reader.new))
         (λ refusal. refusal ≢ AnswerRefusal.Memory → entry_of reader.old ≡ Err refusal) }
@@ -49,4 +49,15 @@ pub(crate) fn read_entry(reader: &mut Reader) -> Result<Entry, AnswerRefusal>
         num,
         den,
     })
+}
+
+/// The records of a path, and of the entry at its end.
+pub(crate) fn read_wide(alloc: Global, reader: &mut Reader) -> Result<Wide, AnswerRefusal>
+    ensures { MatchResult result
+        (λ wide. wide_of reader.old ≡ Ok (wide, reader.new))
+        (λ refusal. refusal ≢ AnswerRefusal.Memory → wide_of reader.old ≡ Err refusal) }
+{
+    let path = read_path(alloc, reader)?;
+    let entry = read_entry(reader)?;
+    Ok(Wide { path, entry })
 }

@@ -1,28 +1,43 @@
 //! Reading a whole answer.
 ghost use Rattle.std.specs.Prelude.{◌≡◌, ◌≢◌, Ok, Err, IfOk, MatchResult};
 ghost use Rattle.md_answer.specs.AnswerTo.{IsAnswerTo, HasPlaces};
-ghost use Rattle.md_answer.specs.Answers.{read_head, read_end, table_answer, optimal_answer, infeasible_answer, unbounded_answer, too_wide_answer, answer_by, answer_of};
+ghost use Rattle.md_answer.specs.Answers.{in_version, read_head, read_end, table_answer, optimal_answer, infeasible_answer, unbounded_answer, second_of, too_wide_answer, answer_by, answer_of};
 
-use crate::kind::Kind;
+use crate::kind::{Head, Kind};
 use crate::multipliers::{read_bound, read_face};
-use crate::path::{read_entry, read_path};
+use crate::path::read_wide;
 use crate::reading::Reader;
 use crate::table::{read_mechanism, read_pays, read_value};
+use crate::version::Version;
 use crate::{Answer, AnswerRefusal};
-use md_lp::Sets;
+use md_lp::{Sets, Wide};
 use md_setting::Setting;
 use std::alloc::Global;
 
-// The version of the format, the kind of setting, and which answer it is.
-fn read_first(reader: &mut Reader) -> Result<Kind, AnswerRefusal>
+// A kind must stand in the version.
+fn stand(reader: &Reader, version: Version, kind: Kind) -> Result<Head, AnswerRefusal>
     ensures { MatchResult result
-        (λ kind. read_head reader.old ≡ Ok (kind, reader.new))
+        (λ head. in_version version kind reader.now ≡ Ok (head, reader.now))
+        (λ refusal. in_version version kind reader.now ≡ Err refusal) }
+{
+    if kind.stands_in(version) {
+        Ok(Head { version, kind })
+    } else {
+        Err(reader.refusal_at(4))
+    }
+}
+
+// The version of the format, the kind of setting, and which answer it is.
+fn read_first(reader: &mut Reader) -> Result<Head, AnswerRefusal>
+    ensures { MatchResult result
+        (λ head. read_head reader.old ≡ Ok (head, reader.new))
         (λ refusal. refusal ≢ AnswerRefusal.Memory → read_head reader.old ≡ Err refusal) }
 {
     let mut fields = reader.next("answer", 3)?;
-    fields.word("1")?;
+    let version = fields.version()?;
     fields.word("general")?;
-    fields.kind()
+    let kind = fields.kind()?;
+    stand(reader, version, kind)
 }
 
 /// The end, after which nothing follows.
@@ -98,18 +113,42 @@ fn read_unbounded(
     Ok(Answer::Unbounded { mechanism, ray })
 }
 
-// A path and an entry.
-fn read_too_wide(alloc: Global, reader: &mut Reader) -> Result<Answer, AnswerRefusal>
+// The part about the second path, which stands in the second version.
+fn read_second(
+    alloc: Global,
+    reader: &mut Reader,
+    version: Version,
+) -> Result<Option<Wide>, AnswerRefusal>
     ensures { MatchResult result
-        (λ answer. too_wide_answer reader.old ≡ Ok (answer, reader.new))
-        (λ refusal. refusal ≢ AnswerRefusal.Memory → too_wide_answer reader.old ≡ Err refusal) }
+        (λ second. second_of version reader.old ≡ Ok (second, reader.new))
+        (λ refusal. refusal ≢ AnswerRefusal.Memory → second_of version reader.old ≡ Err refusal) }
 {
-    let path = read_path(alloc, reader)?;
-    let entry = read_entry(reader)?;
+    match version {
+        Version::One => Ok(None),
+        Version::Two => {
+            let _ = reader.next("again", 0)?;
+            let second = read_wide(alloc, reader)?;
+            Ok(Some(second))
+        }
+    }
+}
+
+// Where the paths become too wide.
+fn read_too_wide(
+    alloc: Global,
+    reader: &mut Reader,
+    version: Version,
+) -> Result<Answer, AnswerRefusal>
+    ensures { MatchResult result
+        (λ answer. too_wide_answer version reader.old ≡ Ok (answer, reader.new))
+        (λ refusal. refusal ≢ AnswerRefusal.Memory → too_wide_answer version reader.old ≡ Err refusal) }
+{
+    let first = read_wide(alloc, reader)?;
+    let second = read_second(alloc, reader, version)?;
     Ok(Answer::TooWide {
         cuts: Sets::new(alloc),
-        path,
-        entry,
+        first,
+        second,
     })
 }
 
@@ -118,18 +157,18 @@ fn read_by_kind(
     alloc: Global,
     reader: &mut Reader,
     setting: &Setting,
-    kind: Kind,
+    head: Head,
 ) -> Result<Answer, AnswerRefusal>
     ensures { MatchResult result
-        (λ answer. answer_by setting.now kind reader.old ≡ Ok (answer, reader.new))
-        (λ refusal. refusal ≢ AnswerRefusal.Memory → answer_by setting.now kind reader.old ≡ Err refusal) }
+        (λ answer. answer_by setting.now head.version head.kind reader.old ≡ Ok (answer, reader.new))
+        (λ refusal. refusal ≢ AnswerRefusal.Memory → answer_by setting.now head.version head.kind reader.old ≡ Err refusal) }
 {
-    match kind {
+    match head.kind {
         Kind::Table => read_table(alloc, reader, setting),
         Kind::Optimal => read_optimal(alloc, reader, setting),
         Kind::Infeasible => read_infeasible(alloc, reader, setting),
         Kind::Unbounded => read_unbounded(alloc, reader, setting),
-        Kind::TooWide => read_too_wide(alloc, reader),
+        Kind::TooWide => read_too_wide(alloc, reader, head.version),
     }
 }
 
@@ -144,8 +183,8 @@ pub fn read_answer(alloc: Global, bytes: &[u8], setting: &Setting) -> Result<Ans
     ensures places { IfOk result HasPlaces }
 {
     let mut reader = Reader::new(alloc, bytes)?;
-    let kind = read_first(&mut reader)?;
-    let answer = read_by_kind(alloc, &mut reader, setting, kind)?;
+    let head = read_first(&mut reader)?;
+    let answer = read_by_kind(alloc, &mut reader, setting, head)?;
     read_last(&mut reader)?;
     Ok(answer)
 }

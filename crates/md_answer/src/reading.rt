@@ -100,6 +100,13 @@ impl<'a> Reader<'a> {
         }
     }
 
+    /// A field of the record that was read last holds something else than it must.
+    pub(crate) fn refusal_at(&self, field: u64) -> AnswerRefusal
+        ensures { result ≡ AnswerRefusal.Cell self.now.read field }
+    {
+        AnswerRefusal::Cell(self.read, field)
+    }
+
     /// The numbers of the record that was read last must add to what they should.
     pub(crate) fn adds(&self, sum: i128, wanted: i128) -> Result<(), AnswerRefusal>
         ensures { MatchResult result

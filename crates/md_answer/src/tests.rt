@@ -145,7 +145,7 @@ fn settings(alloc: Global) -> Result<Vec<Setting>, Fail> {
 }
 
 // A setting and an answer as it is written.
-static WRITTEN: [(usize, &str); 9] = [
+static WRITTEN: [(usize, &str); 11] = [
     (
         BUYER,
         "answer,1,general,optimal\nvalue,3,2\ntable,1\nlottery,low,1,0\nlottery,high,0,1\npay,low,0\npay,high,3\nbound,2\nrow,1,0,1\nrow,2,0,3\nrow,3,0,1\nrow,5,0,6\nend\n",
@@ -175,6 +175,14 @@ static WRITTEN: [(usize, &str); 9] = [
     (
         BUYER,
         "answer,1,general,table\ntable,4\nlottery,low,4,0\nlottery,high,1,3\npay,low,0\npay,high,-2\nend\n",
+    ),
+    (
+        BUYER,
+        "answer,2,general,toowide\nwide,1,1,20,1\nagain\nwide,1,1,20,1\nend\n",
+    ),
+    (
+        BUYER,
+        "answer,2,general,toowide\npivot,4,0\npivot,1,1\nwide,3,3,-25,5\nagain\npivot,3,11\npivot,2,10\npivot,1,9\npivot,0,8\npivot,0,3\npivot,5,6\npivot,5,1\npivot,4,8\npivot,1,5\npivot,2,4\npivot,3,0\nwide,1,2,20,4\nend\n",
     ),
 ];
 
@@ -253,14 +261,14 @@ fn writes_an_answer_in_one_way(rt: HostRuntime) -> Result<(), Fail> {
 }
 
 // A setting, a text and the first reason to refuse it.
-static REFUSED: [(usize, &str, AnswerRefusal); 29] = [
+static REFUSED: [(usize, &str, AnswerRefusal); 43] = [
     (BUYER, "", AnswerRefusal::End(0)),
     (
         BUYER,
         "answer,1,general,best\nend\n",
         AnswerRefusal::Cell(1, 4),
     ),
-    (BUYER, "answer,2,general,table\n", AnswerRefusal::Cell(1, 2)),
+    (BUYER, "answer,2,general,table\n", AnswerRefusal::Cell(1, 4)),
     (
         BUYER,
         "answer,1,auction,optimal\n",
@@ -381,6 +389,76 @@ static REFUSED: [(usize, &str, AnswerRefusal); 29] = [
     (
         BUYER,
         "answer,1,general,toowide\nwide,1,1,20,1\npivot,1,1\nend\n",
+        AnswerRefusal::Line(3),
+    ),
+    (
+        BUYER,
+        "answer,2,general,optimal\n",
+        AnswerRefusal::Cell(1, 4),
+    ),
+    (
+        BUYER,
+        "answer,2,general,rubbish\n",
+        AnswerRefusal::Cell(1, 4),
+    ),
+    (
+        BUYER,
+        "answer,2,auction,toowide\n",
+        AnswerRefusal::Cell(1, 3),
+    ),
+    (
+        BUYER,
+        "answer,3,general,toowide\n",
+        AnswerRefusal::Cell(1, 2),
+    ),
+    (
+        BUYER,
+        "answer,0,auction,toowide\n",
+        AnswerRefusal::Cell(1, 2),
+    ),
+    (
+        BUYER,
+        "answer,02,general,toowide\n",
+        AnswerRefusal::Cell(1, 2),
+    ),
+    (
+        BUYER,
+        "answer,2,general,toowide\nwide,1,1,20,1\nend\n",
+        AnswerRefusal::Line(3),
+    ),
+    (
+        BUYER,
+        "answer,2,general,toowide\nwide,1,1,20,1\nwide,1,1,20,1\nend\n",
+        AnswerRefusal::Line(3),
+    ),
+    (
+        BUYER,
+        "answer,2,general,toowide\nagain\nwide,1,1,20,1\nend\n",
+        AnswerRefusal::Line(2),
+    ),
+    (
+        BUYER,
+        "answer,2,general,toowide\nwide,1,1,20,1\nagain,1\nwide,1,1,20,1\nend\n",
+        AnswerRefusal::Line(3),
+    ),
+    (
+        BUYER,
+        "answer,2,general,toowide\nwide,1,1,20,1\nagain\n",
+        AnswerRefusal::End(3),
+    ),
+    (
+        BUYER,
+        "answer,2,general,toowide\nwide,1,1,20,1\nagain\nend\n",
+        AnswerRefusal::Line(4),
+    ),
+    (
+        BUYER,
+        "answer,2,general,toowide\nwide,1,1,20,1\nagain\nwide,1,1,20,1\nagain\nwide,1,1,20,1\nend\n",
+        AnswerRefusal::Line(5),
+    ),
+    (
+        BUYER,
+        "answer,1,general,toowide\nwide,1,1,20,1\nagain\nwide,1,1,20,1\nend\n",
         AnswerRefusal::Line(3),
     ),
 ];

@@ -1,21 +1,22 @@
 //! Writing a whole answer.
-ghost use Rattle.std.specs.Prelude.{◌≡◌, ◌*◌, ◌++◌, ◌∷◌, [], map, length, IfOk, OnOk, Ok, All};
+ghost use Rattle.std.specs.Prelude.{◌≡◌, ◌*◌, ◌++◌, ◌∷◌, [], map, length, IfOk, OnOk, IfSome, Ok, All};
 ghost use Rattle.md_math.specs.Lists.{up_to};
 ghost use Rattle.md_space.specs.Profiles.{profile_count};
 ghost use Rattle.md_setting.specs.Meaning.{agent_count, sizes_of};
 ghost use Rattle.md_setting.specs.Rows.{row_count};
 ghost use Rattle.md_mech.specs.Accepted.{IsAccepted};
 ghost use Rattle.md_answer.specs.declared.answer.Answer.{Answer};
-ghost use Rattle.md_answer.specs.AnswerTo.{AreMultipliers, IsBoundFor, IsAnswerTo, IsTablePlace, HasPlaces};
+ghost use Rattle.md_answer.specs.AnswerTo.{AreMultipliers, IsBoundFor, IsAnswerTo, IsTablePlace, HasWidePlaces, HasPlaces};
 ghost use Rattle.md_answer.specs.Answers.{answer_of};
-ghost use Rattle.md_answer.specs.Rows.{head_row, payment_rows, mechanism_rows, face_rows, bound_rows, pivot_row, entry_row, inner_rows, kind_in, answer_rows, text_of_answer};
+ghost use Rattle.md_answer.specs.Rows.{head_row, payment_rows, mechanism_rows, face_rows, bound_rows, pivot_row, entry_row, wide_rows, second_rows, inner_rows, version_in, kind_in, answer_rows, text_of_answer};
 
 use crate::Answer;
-use crate::kind::Kind;
+use crate::kind::{Head, Kind};
 use crate::rows::{push_numbers, push_profiles, push_row};
 use crate::table::{agents_of, outcomes_of};
+use crate::version::Version;
 use md_cert::Bound;
-use md_lp::{Entry, Path};
+use md_lp::{Entry, Path, Wide};
 use md_mech::Mechanism;
 use md_num::{NoMemory, Nums};
 use md_records::{Row, write_records};
@@ -132,6 +133,42 @@ fn push_entry(alloc: Global, rows: &mut Vec<Row>, entry: &Entry) -> Result<(), N
     )
 }
 
+// Adds the records of a path, and of the entry at its end.
+fn push_wide(alloc: Global, rows: &mut Vec<Row>, wide: &Wide) -> Result<(), NoMemory>
+    ensures rows { OnOk result (rows.new.items ≡ rows.old.items ++ wide_rows wide.now) }
+    ensures places { OnOk result (HasWidePlaces wide.now) }
+{
+    push_path(alloc, rows, &wide.path)?;
+    push_entry(alloc, rows, &wide.entry)
+}
+
+// Adds the part about the second path, where there is one.
+fn push_second(alloc: Global, rows: &mut Vec<Row>, second: &Option<Wide>) -> Result<(), NoMemory>
+    ensures rows { OnOk result (rows.new.items ≡ rows.old.items ++ second_rows second.now) }
+    ensures places { OnOk result (IfSome second.now HasWidePlaces) }
+{
+    match second {
+        None => Ok(()),
+        Some(wide) => {
+            push_numbers(alloc, rows, "again", &[])?;
+            push_wide(alloc, rows, wide)
+        }
+    }
+}
+
+// The version of the format in which an answer stands.
+fn version_of(answer: &Answer) -> Version
+    ensures { result ≡ version_in answer.now }
+{
+    match answer {
+        Answer::TooWide {
+            second: Some(_),
+            ..
+        } => Version::Two,
+        _ => Version::One,
+    }
+}
+
 // The kind of an answer.
 fn kind_of(answer: &Answer) -> Kind
     ensures { result ≡ kind_in answer.now }
@@ -146,11 +183,13 @@ fn kind_of(answer: &Answer) -> Kind
 }
 
 // Adds the first record.
-fn push_head(alloc: Global, rows: &mut Vec<Row>, kind: Kind) -> Result<(), NoMemory>
-    ensures { OnOk result (rows.new.items ≡ rows.old.items ++ head_row kind ∷ []) }
+fn push_head(alloc: Global, rows: &mut Vec<Row>, head: Head) -> Result<(), NoMemory>
+    ensures { OnOk result (rows.new.items ≡ rows.old.items ++ head_row head.version head.kind ∷ []) }
 {
-    let version = Row::new(alloc).with(b"answer")?.with(b"1")?;
-    let named = version.with(b"general")?.with(kind.word().as_bytes())?;
+    let Head { version, kind } = head;
+    let answer = Row::new(alloc).with(b"answer")?;
+    let versioned = answer.with(version.text().as_bytes())?;
+    let named = versioned.with(b"general")?.with(kind.word().as_bytes())?;
     rows.push(named)?;
     Ok(())
 }
@@ -184,11 +223,11 @@ fn push_inner(
         }
         Answer::TooWide {
             cuts: _,
-            path,
-            entry,
+            first,
+            second,
         } => {
-            push_path(alloc, rows, path)?;
-            push_entry(alloc, rows, entry)
+            push_wide(alloc, rows, first)?;
+            push_second(alloc, rows, second)
         }
     }
 }
@@ -200,7 +239,8 @@ fn rows_of(alloc: Global, setting: &Setting, answer: &Answer) -> Result<Vec<Row>
     ensures places { IfOk result (λ _. HasPlaces answer.now) }
 {
     let mut rows = Vec::new(alloc);
-    push_head(alloc, &mut rows, kind_of(answer))?;
+    let (version, kind) = (version_of(answer), kind_of(answer));
+    push_head(alloc, &mut rows, Head { version, kind })?;
     push_inner(alloc, &mut rows, setting, answer)?;
     push_numbers(alloc, &mut rows, "end", &[])?;
     Ok(rows)

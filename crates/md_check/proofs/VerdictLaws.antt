@@ -156,7 +156,7 @@ sound-valid s p (Table m) v is verdict h = absurd h
 sound-valid s p (Optimal value m bound) v is verdict h = optimal-sound s p value m bound v is verdict h
 sound-valid s p (Infeasible face) v is verdict h = infeasible-sound s p face v is verdict h
 sound-valid s p (Unbounded m ray) v is verdict h = unbounded-sound s p m ray v is verdict h
-sound-valid s p (TooWide cuts path entry) v is verdict h = absurd h
+sound-valid s p (TooWide cuts first second) v is verdict h = absurd h
 
 -- ---- undecided
 
@@ -180,7 +180,7 @@ undecided s (Table m) v is = (λ e. tt, λ n. is)
 undecided s (Optimal value m bound) v is = (λ e. absurd (optimal-decided s value m bound v is e), λ n. absurd n)
 undecided s (Infeasible face) v is = (λ e. absurd (decided s (certificate.Infeasible face) v is e), λ n. absurd n)
 undecided s (Unbounded m ray) v is = (λ e. absurd (unbounded-decided s m ray v is e), λ n. absurd n)
-undecided s (TooWide cuts path entry) v is = (λ e. tt, λ n. is)
+undecided s (TooWide cuts first second) v is = (λ e. tt, λ n. is)
 
 -- ---- the answer of a call
 

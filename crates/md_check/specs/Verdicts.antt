@@ -52,11 +52,11 @@ IsVerdict s (Table m) verdict = verdict ≡ Undecided
 IsVerdict s (Optimal value m bound) verdict = IsOptimalVerdict s value m bound verdict
 IsVerdict s (Infeasible face) verdict = IsJudged s (certificate.Infeasible face) verdict
 IsVerdict s (Unbounded m ray) verdict = IsUnboundedVerdict s m ray verdict
-IsVerdict s (TooWide cuts path entry) verdict = verdict ≡ Undecided
+IsVerdict s (TooWide cuts first second) verdict = verdict ≡ Undecided
 
 abbrev pub ClaimsNothing : Answer → Type 0
 ClaimsNothing (Table m) = Unit {0}
-ClaimsNothing (TooWide cuts path entry) = Unit {0}
+ClaimsNothing (TooWide cuts first second) = Unit {0}
 ClaimsNothing _ = ⊥
 
 -- ---- all conditions hold
@@ -75,7 +75,7 @@ IsSound s p (Table m) = ⊥
 IsSound s p (Optimal value m bound) = IsSoundOptimal s p value m bound
 IsSound s p (Infeasible face) = Certified p (certificate.Infeasible face)
 IsSound s p (Unbounded m ray) = IsSoundUnbounded s p m ray
-IsSound s p (TooWide cuts path entry) = ⊥
+IsSound s p (TooWide cuts first second) = ⊥
 
 -- ---- what is claimed
 
@@ -85,4 +85,4 @@ ClaimHolds s (Table m) = ⊥
 ClaimHolds s (Optimal value m bound) = IsOptimal s m × HasValue s m value
 ClaimHolds s (Infeasible face) = IsInfeasible s
 ClaimHolds s (Unbounded m ray) = Grows s m ray
-ClaimHolds s (TooWide cuts path entry) = ⊥
+ClaimHolds s (TooWide cuts first second) = ⊥

@@ -11,8 +11,9 @@ use Rattle.md_dict.specs.Condensed.{Condensed, Holds, IsShapedDictionary, TakesC
 use Rattle.md_dict.specs.FirstTable.{column_count, first_basis, first_entry}
 use Rattle.md_dict.specs.Pivot.{with_column}
 use Rattle.md_dict.specs.Wide.{IsWideBasis}
+use Rattle.md_replay.specs.declared.outcome.Followed.{Followed}
 use Rattle.md_replay.specs.declared.outcome.Replay.{Replay}
-use Rattle.md_replay.specs.Replay.{AreBasesTold, HasEnded, IsCarriedOut, IsFollowed, IsLawless, IsReplay}
+use Rattle.md_replay.specs.Replay.{AreBasesTold, AreFollowed, HasEnded, IsCarriedOut, IsLawless, IsReplay}
 use Rattle.md_replay.specs.Standing.{CanPivot, IsAt, IsToldTo, IsUntold}
 use Rattle.md_replay.proofs.StandingLaws.{IsWideAfter, at_can, at_more, at_wide, at_within}
 use Rattle.md_replay.proofs.ToldLaws.{bases_kept, told_first}
@@ -37,7 +38,7 @@ split_at xs r q h = sym (take-append-drop (r + 1) xs) ∙ ap (λ ys. ys ++ drop 
 
 -- ---- what is answered
 
-abbrev made : List ℤ → List ℤ → Option Entry → ℕ → Replay
+abbrev made : List ℤ → List ℤ → Option Entry → Followed → Replay
 made dens greatest wide followed = record { dens = dens; greatest = greatest; wide = wide; followed = followed }
 
 -- the first basis is wide
@@ -74,7 +75,7 @@ module _ (p : Program) (width : ℕ) (listed : List Pivot) (r : ℕ) (d : Conden
     pub at_on : (new : Condensed) → CanPivot d q → Holds p new → TakesColumn d new q.row q.column → IsAt p width (take (r + 1) listed) new
     at_on new can holds takes = subst (λ (xs : List Pivot). IsAt p width xs new) (sym (one_more listed r q here)) (at_more p width (take r listed) d at q new shape can holds takes)
 
-    pub told_on : (dens greatest : List ℤ) (wide : Option Entry) (followed : ℕ) → AreBasesTold p (take r listed) dens greatest → length dens ≡ length (take r listed) + 1 → wide ≡ None → IsFollowed p (take r listed ++ q ∷ []) followed → IsToldTo p (take (r + 1) listed) (length (take (r + 1) listed)) (made dens greatest wide followed)
+    pub told_on : (dens greatest : List ℤ) (wide : Option Entry) (followed : Followed) → AreBasesTold p (take r listed) dens greatest → length dens ≡ length (take r listed) + 1 → wide ≡ None → AreFollowed p (take r listed ++ q ∷ []) followed → IsToldTo p (take (r + 1) listed) (length (take (r + 1) listed)) (made dens greatest wide followed)
     told_on dens greatest wide followed bases count none path =
         let longer : length (take r listed ++ q ∷ []) ≡ length (take r listed) + 1 = length_push (take r listed) q in
         subst (λ (xs : List Pivot). IsToldTo p xs (length xs) (made dens greatest wide followed)) (sym (one_more listed r q here))
@@ -86,8 +87,8 @@ module _ (p : Program) (width : ℕ) (listed : List Pivot) (r : ℕ) (d : Conden
         })
 
     -- this pivot leads to a wide basis
-    pub replayed_wide : (dens greatest : List ℤ) (followed : ℕ) (entry : Entry)
-        → AreBasesTold p (take r listed) dens greatest → length dens ≡ length (take r listed) + 1 → IsFollowed p (take r listed ++ q ∷ []) followed → CanPivot d q
+    pub replayed_wide : (dens greatest : List ℤ) (followed : Followed) (entry : Entry)
+        → AreBasesTold p (take r listed) dens greatest → length dens ≡ length (take r listed) + 1 → AreFollowed p (take r listed ++ q ∷ []) followed → CanPivot d q
         → IsWideBasis d.rows d.columns (first_entry p) (with_column (basic_at d) q.row q.column) (limit_of d.bits) entry
         → IsReplay p width listed (made dens greatest (Some entry) followed)
     replayed_wide dens greatest followed entry bases count path can wide =

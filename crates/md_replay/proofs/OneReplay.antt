@@ -12,21 +12,26 @@ use Rattle.md_lp.specs.declared.pivot.Pivot.{Pivot}
 use Rattle.md_num.specs.Limits.{limit_of}
 use Rattle.md_dict.specs.FirstTable.{column_count, first_basis, first_entry}
 use Rattle.md_dict.proofs.Uniqueness.{same_dens, same_entries}
-use Rattle.md_simplex.specs.declared.order.Order.TheVariants.{Forward}
+use Rattle.md_simplex.specs.declared.order.Order.{Order}
+use Rattle.md_simplex.specs.declared.order.Order.TheVariants.{Forward, Backward}
 use Rattle.md_simplex.specs.Path.{AllBefore}
 use Rattle.md_simplex.specs.Runs.{BeginsPath, IsWideAt, IsWithinWidth, basis_of}
 use Rattle.md_simplex.proofs.PathLaws.{path_to}
 use Rattle.md_simplex.proofs.WidePaths.{one_wide_entry}
+use Rattle.md_replay.specs.declared.outcome.Followed.{Followed}
 use Rattle.md_replay.specs.declared.outcome.Replay.{Replay}
 use Rattle.md_replay.specs.declared.outcome.ReplayError.{ReplayError}
 use Rattle.md_replay.specs.declared.outcome.ReplayError.TheVariants as errors
-use Rattle.md_replay.specs.Replay.{AllLawful, AreBasesTold, HasEnded, IsBasisTold, IsFollowed, IsGreatestEntry, IsLawful, IsLawless, IsReplay, Refuses, TellsNumber}
+use Rattle.md_replay.specs.Replay.{AllLawful, AreBasesTold, AreFollowed, HasEnded, IsBasisTold, IsFollowed, IsGreatestEntry, IsLawful, IsLawless, IsReplay, Refuses, TellsNumber}
 use Rattle.md_replay.proofs.PivotLists.{AllBefore-at, AllLawful-at, IsLonger, compared, same_head}
 
 same_sizes : (x y : ℤ) → pos 0 ≤ℤ x → pos 0 ≤ℤ y → unsigned_abs x ≡ unsigned_abs y → x ≡ y
 same_sizes x y a b e = omega (arith, ints)
 
-abbrev made : List ℤ → List ℤ → Option Entry → ℕ → Replay
+abbrev made_followed : ℕ → ℕ → Followed
+made_followed forward backward = record { forward = forward; backward = backward }
+
+abbrev made : List ℤ → List ℤ → Option Entry → Followed → Replay
 made dens greatest wide followed = record { dens = dens; greatest = greatest; wide = wide; followed = followed }
 
 module _ (p : Program) where
@@ -60,20 +65,24 @@ module _ (p : Program) where
 
   -- ---- how many are followed
 
-  not_fewer : (carried : List Pivot) (m n : ℕ) → IsFollowed p carried m → IsFollowed p carried n → m < n → ⊥
-  not_fewer carried m n h k l =
+  not_fewer : (order : Order) (carried : List Pivot) (m n : ℕ) → IsFollowed order p carried m → IsFollowed order p carried n → m < n → ⊥
+  not_fewer order carried m n h k l =
       let inside : n ≤ length carried = k.inside in
       let parts : take n carried ≡ take (suc m) (take n carried) ++ drop (suc m) (take n carried) = sym (take-append-drop (suc m) (take n carried)) in
-      let begins : BeginsPath p (take (suc m) (take n carried)) =
-      path_to Forward (row_count p) (column_count p) (first_entry p) (first_basis p) (take (suc m) (take n carried)) (drop (suc m) (take n carried))
-      (subst (λ (xs : List Pivot). BeginsPath p xs) parts k.path) in
-      h.leaves (omega arith) (subst (λ (xs : List Pivot). BeginsPath p xs) (take-take (suc m) n carried (omega arith)) begins)
+      let begins : BeginsPath order p (take (suc m) (take n carried)) =
+      path_to order (row_count p) (column_count p) (first_entry p) (first_basis p) (take (suc m) (take n carried)) (drop (suc m) (take n carried))
+      (subst (λ (xs : List Pivot). BeginsPath order p xs) parts k.path) in
+      h.leaves (omega arith) (subst (λ (xs : List Pivot). BeginsPath order p xs) (take-take (suc m) n carried (omega arith)) begins)
 
-  same_followed : (carried : List Pivot) (m n : ℕ) → IsFollowed p carried m → IsFollowed p carried n → m ≡ n
-  same_followed carried m n h k = elim (cases_lt m n) [
-    | inl l ↦ absurd (not_fewer carried m n h k l)
-    | inr l ↦ elim (cases_lt n m) [ inl g ↦ absurd (not_fewer carried n m k h g) | inr g ↦ omega arith ]
+  same_count : (order : Order) (carried : List Pivot) (m n : ℕ) → IsFollowed order p carried m → IsFollowed order p carried n → m ≡ n
+  same_count order carried m n h k = elim (cases_lt m n) [
+    | inl l ↦ absurd (not_fewer order carried m n h k l)
+    | inr l ↦ elim (cases_lt n m) [ inl g ↦ absurd (not_fewer order carried n m k h g) | inr g ↦ omega arith ]
   ]
+
+  same_followed : (carried : List Pivot) (a b : Followed) → AreFollowed p carried a → AreFollowed p carried b → a ≡ b
+  same_followed carried a b h k =
+      ap₂ made_followed (same_count Forward carried a.forward b.forward h.forward k.forward) (same_count Backward carried a.backward b.backward h.backward k.backward)
 
   module _ (width : ℕ) (listed : List Pivot) where
     -- ---- where the pivots are left
@@ -119,7 +128,7 @@ module _ (p : Program) where
         let same : k.carried ≡ h.carried = sym (same_carried a b h k) in
         let ended : HasEnded p width listed h.carried (length b.dens) b.wide = subst (λ (xs : List Pivot). HasEnded p width listed xs (length b.dens) b.wide) same k.ended in
         let bases : AreBasesTold p h.carried b.dens b.greatest = subst (λ (xs : List Pivot). AreBasesTold p xs b.dens b.greatest) same k.bases in
-        let followed : IsFollowed p h.carried b.followed = subst (λ (xs : List Pivot). IsFollowed p xs b.followed) same k.followed in
+        let followed : AreFollowed p h.carried b.followed = subst (λ (xs : List Pivot). AreFollowed p xs b.followed) same k.followed in
         let ends = same_end h.carried (length a.dens) (length b.dens) a.wide b.wide h.ended ended in
         let lists = same_bases h.carried a.dens b.dens a.greatest b.greatest ends.0 h.bases bases in
         ap₂ (λ dens greatest. made dens greatest a.wide a.followed) lists.0 lists.1

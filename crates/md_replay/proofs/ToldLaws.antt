@@ -7,9 +7,10 @@ use Rattle.md_math.specs.Lists.{number_at}
 use Rattle.md_lp.specs.Program.{Program}
 use Rattle.md_lp.specs.declared.pivot.Pivot.{Pivot}
 use Rattle.md_dict.specs.Condensed.{Condensed}
+use Rattle.md_simplex.specs.declared.order.Order.TheVariants.{Forward, Backward}
 use Rattle.md_simplex.specs.Runs.{basis_of}
 use Rattle.md_replay.specs.declared.outcome.Replay.{Replay}
-use Rattle.md_replay.specs.Replay.{AreBasesTold, IsBasisTold, IsFollowed}
+use Rattle.md_replay.specs.Replay.{AreBasesTold, AreFollowed, IsBasisTold, IsFollowed}
 use Rattle.md_replay.specs.Standing.{IsAt, IsToldTo, IsUntold, TellsMore}
 use Rattle.md_replay.proofs.FollowedLaws.{followed_first}
 use Rattle.md_replay.proofs.StandingLaws.{at_told}
@@ -21,7 +22,7 @@ told_first p told h =
       bases = record { same_length = ap length h.greatest ∙ sym none; told = λ k b. absurd (omega arith) };
       count_is = none;
       wide = h.wide;
-      followed = subst (IsFollowed p []) (sym h.followed) (followed_first p);
+      followed = record { forward = subst (IsFollowed Forward p []) (sym h.forward) (followed_first Forward p); backward = subst (IsFollowed Backward p []) (sym h.backward) (followed_first Backward p) };
     }
 
 -- ---- one more basis
@@ -58,7 +59,7 @@ told_here p width carried d old new at h more =
       bases = subst (λ y. AreBasesTold p carried new.dens y) (sym more.greatest) (subst (λ x. AreBasesTold p carried x (old.greatest ++ more.size ∷ [])) (sym more.dens) all);
       count_is = ap length more.dens ∙ longer ∙ ap (λ n. n + 1) count;
       wide = more.wide ∙ h.wide;
-      followed = subst (IsFollowed p carried) (sym more.followed) h.followed;
+      followed = subst (AreFollowed p carried) (sym more.followed) h.followed;
     }
 
 -- ---- one more pivot

@@ -3,6 +3,7 @@ use Rattle.std.specs.Prelude.{◌++◌, ◌∷◌, [], ℕ, ◌+◌, ℤ, pos, L
 use Rattle.md_num.specs.WholeText.{text_of}
 use Rattle.md_records.specs.Written.{text_of_records}
 use Rattle.md_lp.specs.declared.entry.Entry.{Entry}
+use Rattle.md_replay.specs.declared.outcome.Followed.{Followed}
 use Rattle.md_replay.specs.declared.outcome.Replay.{Replay}
 
 -- a basis that is not wide, by its number from 0, with the denominator and the greatest entry of its dictionary
@@ -23,9 +24,10 @@ abbrev pub wide_records : Option Entry → List (List (List ℕ))
 wide_records None = []
 wide_records (Some entry) = wide_record entry ∷ []
 
--- how many of the pivots follow the rules, and the end
-abbrev pub last_records : ℕ → List (List (List ℕ))
-last_records followed = (codes "rule" ∷ text_of (pos followed) ∷ []) ∷ (codes "end" ∷ []) ∷ []
+-- how many of the pivots follow the rules of the forward order, and how many those of the backward one, and the end
+abbrev pub last_records : Followed → List (List (List ℕ))
+last_records followed =
+    (codes "rule" ∷ text_of (pos followed.forward) ∷ []) ∷ (codes "again" ∷ text_of (pos followed.backward) ∷ []) ∷ (codes "end" ∷ []) ∷ []
 
 abbrev pub replay_records : Replay → List (List (List ℕ))
 replay_records replay =

@@ -8,7 +8,10 @@ use Rattle.md_lp.specs.declared.pivot.Pivot.{Pivot}
 use Rattle.md_dict.specs.Dictionary.{IsDictionary}
 use Rattle.md_dict.specs.FirstTable.{column_count, first_entry, first_basis}
 use Rattle.md_simplex.specs.Path.{AllBefore, after}
+use Rattle.md_simplex.specs.declared.order.Order.{Order}
+use Rattle.md_simplex.specs.declared.order.Order.TheVariants.{Forward, Backward}
 use Rattle.md_simplex.specs.Runs.{BeginsPath, IsWideAt, IsWithinWidth, basis_of}
+use Rattle.md_replay.specs.declared.outcome.Followed.{Followed}
 use Rattle.md_replay.specs.declared.outcome.Replay.{Replay}
 use Rattle.md_replay.specs.declared.outcome.ReplayError.{ReplayError}
 use Rattle.md_replay.specs.declared.outcome.ReplayError.TheVariants as errors
@@ -59,13 +62,18 @@ pub record AreBasesTold (p : Program) (pivots : List Pivot) (dens greatest : Lis
   pub same_length : length greatest ≡ length dens
   pub told : (k : ℕ) → k < length dens → IsBasisTold p (basis_of p (take k pivots)) (number_at dens k) (number_at greatest k)
 
--- ---- which of the pivots are those of the program's path
+-- ---- which of the pivots are those of the program's paths
 
--- so many of the first pivots are the next ones by the rules, and no more
-pub record IsFollowed (p : Program) (pivots : List Pivot) (followed : ℕ) : Type 0 where
-  pub inside : followed ≤ length pivots
-  pub path : BeginsPath p (take followed pivots)
-  pub leaves : followed < length pivots → ¬ BeginsPath p (take (suc followed) pivots)
+-- so many of the first pivots are the next ones by the rules of the order, and no more
+pub record IsFollowed (order : Order) (p : Program) (pivots : List Pivot) (count : ℕ) : Type 0 where
+  pub inside : count ≤ length pivots
+  pub path : BeginsPath order p (take count pivots)
+  pub leaves : count < length pivots → ¬ BeginsPath order p (take (suc count) pivots)
+
+-- how many of the first pivots are those of each path
+pub record AreFollowed (p : Program) (pivots : List Pivot) (followed : Followed) : Type 0 where
+  pub forward : IsFollowed Forward p pivots followed.forward
+  pub backward : IsFollowed Backward p pivots followed.backward
 
 -- ---- what is answered
 
@@ -82,7 +90,7 @@ pub record IsReplay (p : Program) (width : ℕ) (listed : List Pivot) (replay : 
   pub carried_out : IsCarriedOut p width listed carried
   pub bases : AreBasesTold p carried replay.dens replay.greatest
   pub ended : HasEnded p width listed carried (length replay.dens) replay.wide
-  pub followed : IsFollowed p carried replay.followed
+  pub followed : AreFollowed p carried replay.followed
 
 -- the pivot of this number, counted from 1, is the first that cannot be carried out, and no basis before it is wide
 pub record IsLawless (p : Program) (width : ℕ) (listed : List Pivot) (number : ℕ) : Type 0 where

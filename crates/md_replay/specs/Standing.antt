@@ -7,7 +7,7 @@ use Rattle.md_dict.specs.FirstTable.{first_basis}
 use Rattle.md_simplex.specs.Path.{AllBefore}
 use Rattle.md_simplex.specs.Runs.{IsWithinWidth, basis_of}
 use Rattle.md_replay.specs.declared.outcome.Replay.{Replay}
-use Rattle.md_replay.specs.Replay.{AllLawful, AreBasesTold, IsFollowed}
+use Rattle.md_replay.specs.Replay.{AllLawful, AreBasesTold, AreFollowed}
 
 -- the pivot can be carried out on the dictionary
 pub record CanPivot (d : Condensed) (pivot : Pivot) : Type 0 where
@@ -28,7 +28,8 @@ pub record IsUntold (replay : Replay) : Type 0 where
   pub dens : replay.dens ≡ []
   pub greatest : replay.greatest ≡ []
   pub wide : replay.wide ≡ None
-  pub followed : replay.followed ≡ 0
+  pub forward : replay.followed.forward ≡ 0
+  pub backward : replay.followed.backward ≡ 0
 
 -- the basis of the dictionary is told too
 pub record TellsMore (d : Condensed) (old new : Replay) : Type 0 where
@@ -45,4 +46,4 @@ pub record IsToldTo (p : Program) (carried : List Pivot) (count : ℕ) (replay :
   pub bases : AreBasesTold p carried replay.dens replay.greatest
   pub count_is : length replay.dens ≡ count
   pub wide : replay.wide ≡ None
-  pub followed : IsFollowed p carried replay.followed
+  pub followed : AreFollowed p carried replay.followed

@@ -8,8 +8,8 @@ ghost use Rattle.md_replay.specs.declared.outcome.ReplayError.{ReplayError};
 ghost use Rattle.md_replay.specs.Replay.{IsLawless, IsReplay, Refuses, TellsNumber};
 ghost use Rattle.md_replay.specs.Standing.{IsUntold};
 
-use crate::outcome::{Replay, ReplayError};
-use crate::standing::{can_pivot, followed_by, tell};
+use crate::outcome::{Followed, Replay, ReplayError};
+use crate::standing::{can_pivot, followed_with, tell};
 use md_dict::{Dict, StartRefusal};
 use md_lp::{Lp, Path};
 use md_num::{Nums, Width};
@@ -23,7 +23,10 @@ fn untold(alloc: Global) -> Replay
         dens: Nums::new(alloc),
         greatest: Nums::new(alloc),
         wide: None,
-        followed: 0,
+        followed: Followed {
+            forward: 0,
+            backward: 0,
+        },
     }
 }
 
@@ -58,7 +61,7 @@ fn carry_out(alloc: Global, lp: &Lp, width: Width, pivots: &Path) -> Result<Repl
         if !can_pivot(&dict, pivot) {
             return Err(ReplayError::Pivot(number));
         }
-        told.followed = followed_by(&dict, pivot, number, told.followed);
+        told.followed = followed_with(&dict, pivot, number, told.followed);
         if let Err(refusal) = dict.pivot(pivot.row, pivot.column) {
             told.wide = Some(refusal.entry);
             return Ok(told);

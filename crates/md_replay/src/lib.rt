@@ -7,7 +7,7 @@ mod standing;
 mod text;
 
 pub use carrying::replay;
-pub use outcome::{Replay, ReplayError};
+pub use outcome::{Followed, Replay, ReplayError};
 pub use text::replay_text;
 
 #[cfg(test)]

@@ -6,6 +6,15 @@ use md_lp::Entry;
 use md_num::{NoMemory, Nums};
 use thiserror::Error;
 
+/// How many of the pivots that were carried out, from the first one on, are the next ones by the rules of each order.
+#[derive(Clone, Copy, Debug, PartialEq, Eq)]
+pub struct Followed {
+    /// Where the least column is tried first.
+    pub forward: u64,
+    /// Where the greatest column is tried first.
+    pub backward: u64,
+}
+
 /// What came of listed pivots that were carried out from the first basis of a program on.
 #[derive(Debug, Drop)]
 pub struct Replay {
@@ -15,8 +24,8 @@ pub struct Replay {
     pub greatest: Nums,
     /// The first wide entry of the basis at which the pivots were left, if that basis is wide.
     pub wide: Option<Entry>,
-    /// How many of the pivots that were carried out, from the first one on, are the next ones by the rules of the path.
-    pub followed: u64,
+    /// How many of the pivots that were carried out are those of the program's paths.
+    pub followed: Followed,
 }
 
 /// Why pivots are refused.

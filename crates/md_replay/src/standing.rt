@@ -7,14 +7,14 @@ ghost use Rattle.md_dict.specs.FirstTable.{first_entry};
 ghost use Rattle.md_simplex.specs.declared.order.Order.{Order};
 ghost use Rattle.md_simplex.specs.declared.step.Step.{Step};
 ghost use Rattle.md_simplex.specs.Rules.{HasNext, IsNext};
-ghost use Rattle.md_replay.specs.Replay.{IsFollowed};
+ghost use Rattle.md_replay.specs.Replay.{AreFollowed, IsFollowed};
 ghost use Rattle.md_replay.specs.Standing.{CanPivot, IsAt, TellsMore};
 
-use crate::outcome::Replay;
+use crate::outcome::{Followed, Replay};
 use md_dict::Dict;
 use md_lp::Pivot;
 use md_num::NoMemory;
-use md_simplex::{Step, next};
+use md_simplex::{Order, Step, next};
 
 // Whether a number is positive.
 fn is_positive(number: i128) -> bool
@@ -33,26 +33,38 @@ pub(crate) fn can_pivot(dict: &Dict, pivot: Pivot) -> bool
     pivot.column < dict.columns() && is_positive(dict.entry(pivot.row, pivot.column))
 }
 
-// Whether a pivot is the next one by the rules.
-fn is_next(dict: &Dict, pivot: Pivot) -> bool
-    ensures next { IsTrue result → IsNext Order.Forward dict.now.rows dict.now.columns (entry_at dict.now) (Step.Pivot pivot) }
-    ensures only { (p : Program) → Holds p dict.now → HasNext Order.Forward dict.now.rows dict.now.columns (first_entry p) (basic_at dict.now) (Step.Pivot pivot) → IsTrue result }
+// Whether a pivot is the next one by the rules of an order.
+fn is_next(dict: &Dict, order: Order, pivot: Pivot) -> bool
+    ensures next { IsTrue result → IsNext order dict.now.rows dict.now.columns (entry_at dict.now) (Step.Pivot pivot) }
+    ensures only { (p : Program) → Holds p dict.now → HasNext order dict.now.rows dict.now.columns (first_entry p) (basic_at dict.now) (Step.Pivot pivot) → IsTrue result }
 {
-    match next(dict) {
+    match next(dict, order) {
         Step::Pivot(found) => found == pivot,
         _ => false,
     }
 }
 
-/// How many of the pivots are followed, where this one, of the number, is carried out too.
-pub(crate) fn followed_by(dict: &Dict, pivot: Pivot, number: u64, followed: u64) -> u64
+// How many of the pivots follow the rules of an order, where this one, of the number, is carried out too.
+fn followed_by(dict: &Dict, order: Order, pivot: Pivot, number: u64, followed: u64) -> u64
     requires { followed < number }
-    ensures { (p : Program) (width : ℕ) (carried : List Pivot) → IsAt p width carried dict.now → number ≡ length carried + 1 → IsFollowed p carried followed → IsFollowed p (carried ++ pivot ∷ []) result }
+    ensures { (p : Program) (width : ℕ) (carried : List Pivot) → IsAt p width carried dict.now → number ≡ length carried + 1 → IsFollowed order p carried followed → IsFollowed order p (carried ++ pivot ∷ []) result }
 {
-    if followed + 1 == number && is_next(dict, pivot) {
+    if followed + 1 == number && is_next(dict, order, pivot) {
         number
     } else {
         followed
+    }
+}
+
+/// How many of the pivots follow the rules of each order, where this one, of the number, is carried out too.
+pub(crate) fn followed_with(dict: &Dict, pivot: Pivot, number: u64, followed: Followed) -> Followed
+    requires forward { followed.forward < number }
+    requires backward { followed.backward < number }
+    ensures { (p : Program) (width : ℕ) (carried : List Pivot) → IsAt p width carried dict.now → number ≡ length carried + 1 → AreFollowed p carried followed → AreFollowed p (carried ++ pivot ∷ []) result }
+{
+    Followed {
+        forward: followed_by(dict, Order::Forward, pivot, number, followed.forward),
+        backward: followed_by(dict, Order::Backward, pivot, number, followed.backward),
     }
 }
 

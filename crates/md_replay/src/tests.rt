@@ -104,20 +104,20 @@ struct Case {
     text: &'static str,
 }
 
-static CASES: [Case; 9] = [
+static CASES: [Case; 10] = [
     Case {
         high: 3,
         bits: 62,
         pivots: &[(4, 0), (1, 1), (5, 2), (2, 4), (0, 8), (3, 5), (5, 3)],
         refused: None,
-        text: "basis,0,1,4\nbasis,1,1,4\nbasis,2,3,9\nbasis,3,3,12\nbasis,4,2,6\nbasis,5,2,6\nbasis,6,2,6\nbasis,7,2,6\nrule,7\nend\n",
+        text: "basis,0,1,4\nbasis,1,1,4\nbasis,2,3,9\nbasis,3,3,12\nbasis,4,2,6\nbasis,5,2,6\nbasis,6,2,6\nbasis,7,2,6\nrule,7\nagain,0\nend\n",
     },
     Case {
         high: 3,
         bits: 62,
         pivots: &[],
         refused: None,
-        text: "basis,0,1,4\nrule,0\nend\n",
+        text: "basis,0,1,4\nrule,0\nagain,0\nend\n",
     },
     Case {
         high: 3,
@@ -145,28 +145,35 @@ static CASES: [Case; 9] = [
         bits: 62,
         pivots: &[(5, 2), (4, 0)],
         refused: None,
-        text: "basis,0,1,4\nbasis,1,1,5\nbasis,2,1,5\nrule,0\nend\n",
+        text: "basis,0,1,4\nbasis,1,1,5\nbasis,2,1,5\nrule,0\nagain,0\nend\n",
     },
     Case {
         high: 5,
         bits: 4,
         pivots: &[(4, 0), (1, 1)],
         refused: None,
-        text: "basis,0,1,8\nbasis,1,1,8\nwide,3,3,-25,5\nrule,2\nend\n",
+        text: "basis,0,1,8\nbasis,1,1,8\nwide,3,3,-25,5\nrule,2\nagain,0\nend\n",
     },
     Case {
         high: 5,
         bits: 4,
         pivots: &[(4, 0), (1, 1), (0, 0)],
         refused: None,
-        text: "basis,0,1,8\nbasis,1,1,8\nwide,3,3,-25,5\nrule,2\nend\n",
+        text: "basis,0,1,8\nbasis,1,1,8\nwide,3,3,-25,5\nrule,2\nagain,0\nend\n",
+    },
+    Case {
+        high: 5,
+        bits: 4,
+        pivots: &[(3, 11), (4, 0)],
+        refused: None,
+        text: "basis,0,1,8\nbasis,1,1,5\nbasis,2,1,5\nrule,0\nagain,1\nend\n",
     },
     Case {
         high: 20,
         bits: 4,
         pivots: &[(0, 0)],
         refused: None,
-        text: "wide,1,1,20,1\nrule,0\nend\n",
+        text: "wide,1,1,20,1\nrule,0\nagain,0\nend\n",
     },
 ];
 

@@ -32,13 +32,11 @@ fn wide_row(alloc: Global, entry: Entry) -> Result<Row, NoMemory>
         .with_number(entry.den)
 }
 
-// The record of how many pivots follow the rules.
-fn rule_row(alloc: Global, followed: u64) -> Result<Row, NoMemory>
-    ensures { IfOk result (λ fields. fields ≡ codes "rule" ∷ text_of (pos followed) ∷ []) }
+// The record of how many pivots follow the rules of an order, which the word names.
+fn count_row(alloc: Global, word: &[u8], count: u64) -> Result<Row, NoMemory>
+    ensures { IfOk result (λ fields. fields ≡ word.now ∷ text_of (pos count) ∷ []) }
 {
-    Row::new(alloc)
-        .with(b"rule")?
-        .with_number(i128::from(followed))
+    Row::new(alloc).with(word)?.with_number(i128::from(count))
 }
 
 // The records of the bases that are not wide.
@@ -69,13 +67,14 @@ fn rows_of(alloc: Global, replay: &Replay) -> Result<Vec<Row>, NoMemory>
 {
     let bases = basis_rows(alloc, &replay.dens, &replay.greatest)?;
     let mut rows = with_wide(alloc, bases, replay.wide)?;
-    rows.push(rule_row(alloc, replay.followed)?)?;
+    rows.push(count_row(alloc, b"rule", replay.followed.forward)?)?;
+    rows.push(count_row(alloc, b"again", replay.followed.backward)?)?;
     rows.push(Row::new(alloc).with(b"end")?)?;
     Ok(rows)
 }
 
 /// What came of listed pivots as a text of records: one for each basis that is not wide, one for the first wide entry, if there
-/// is one, how many of the pivots follow the rules, and an end. docs/FORMATS.md states them.
+/// is one, how many of the pivots follow the rules of each order, and an end. docs/FORMATS.md states them.
 pub fn replay_text(alloc: Global, replay: &Replay) -> Result<Vec<u8>, NoMemory>
     ensures { IfOk result (λ text. text.items ≡ replay_text replay.now) }
 {

@@ -5,11 +5,10 @@ use Rattle.md_cert.specs.declared.certificate.Certificate.{Certificate}
 use Rattle.md_dict.specs.Condensed.{basic_at, entry_at}
 use Rattle.md_dict.specs.FirstTable.{column_count, first_entry, first_basis}
 use Rattle.md_simplex.specs.declared.order.Order.{Order}
-use Rattle.md_simplex.specs.declared.order.Order.TheVariants.{Forward}
 use Rattle.md_simplex.specs.declared.step.Step.TheVariants as steps
 use Rattle.md_simplex.specs.declared.walk.Walked.{Walked}
 use Rattle.md_simplex.specs.Reading.{HasRightSides, IsLast, IsReading}
-use Rattle.md_simplex.specs.Runs.{IsRun, basis_of}
+use Rattle.md_simplex.specs.Runs.{IsRunIn, basis_of}
 use Rattle.md_simplex.specs.Walk.{IsWalked}
 use Rattle.md_simplex.proofs.FirstRows.{IsPositiveBasis-first}
 use Rattle.md_simplex.proofs.PathLaws.{IsPositiveBasis-path, entering_in}
@@ -35,23 +34,23 @@ module _ (order : Order) (p : Program) (width : ℕ) (walked : Walked) (h : IsWa
   pub last_step : IsLast walked.dict.rows walked.dict.columns (entry_at walked.dict) walked.step
   last_step = record { order = order; next = h.next; ends = h.ends }
 
--- so it is a run
-pub IsRun-walked : (p : Program) (width : ℕ) (walked : Walked) (certificate : Certificate) → IsWalked Forward p width walked → IsReading p (basic_at walked.dict) walked.dict.den (entry_at walked.dict) walked.step certificate → IsRun p width (record { path = walked.path; certificate = certificate })
-IsRun-walked p width walked certificate h read = record {
+-- so it is a run over the path of the order
+pub IsRunIn-walked : (order : Order) (p : Program) (width : ℕ) (walked : Walked) (certificate : Certificate) → IsWalked order p width walked → IsReading p (basic_at walked.dict) walked.dict.den (entry_at walked.dict) walked.step certificate → IsRunIn order p width (record { path = walked.path; certificate = certificate })
+IsRunIn-walked order p width walked certificate h read = record {
   step = walked.step;
   whole = record {
     path = h.reached.path;
-    last = here_next Forward p width walked.path walked.dict walked.step h.reached h.next;
+    last = here_next order p width walked.path walked.dict walked.step h.reached h.next;
     ends = h.ends;
   };
   narrow = record {
     before = h.reached.before;
-    last = here_narrow Forward p width walked.path walked.dict h.reached;
+    last = here_narrow order p width walked.path walked.dict h.reached;
   };
   read = record {
     den = walked.dict.den;
     table = entry_at walked.dict;
-    dictionary = here_dictionary Forward p width walked.path walked.dict h.reached;
+    dictionary = here_dictionary order p width walked.path walked.dict h.reached;
     reading =
         reading-same p (basic_at walked.dict) (basis_of p walked.path) walked.dict.den (entry_at walked.dict) (entry_at walked.dict)
         (λ i a. h.reached.basis i (let e : walked.dict.rows ≡ row_count p = h.reached.holds.rows in omega (arith, e, a))) (λ r j a b. refl)
@@ -59,9 +58,9 @@ IsRun-walked p width walked certificate h read = record {
   };
 }
   where
-    inside : IsWalked Forward p width walked → (column : ℕ) → walked.step ≡ steps.Unbounded column → column < column_count p
+    inside : IsWalked order p width walked → (column : ℕ) → walked.step ≡ steps.Unbounded column → column < column_count p
     inside h column e =
-        let next : IsNext Forward walked.dict.rows walked.dict.columns (entry_at walked.dict) (steps.Unbounded column) = subst (IsNext Forward walked.dict.rows walked.dict.columns (entry_at walked.dict)) e h.next in
-        let b : column < walked.dict.columns = entering_in Forward walked.dict.rows walked.dict.columns (entry_at walked.dict) column next.0 in
+        let next : IsNext order walked.dict.rows walked.dict.columns (entry_at walked.dict) (steps.Unbounded column) = subst (IsNext order walked.dict.rows walked.dict.columns (entry_at walked.dict)) e h.next in
+        let b : column < walked.dict.columns = entering_in order walked.dict.rows walked.dict.columns (entry_at walked.dict) column next.0 in
         let c : walked.dict.columns ≡ column_count p = h.reached.holds.columns in
         omega (arith, b, c)

@@ -25,3 +25,7 @@ pub mod Rise
 pub mod RunLaws
 pub mod WalkLaws
 pub mod WidePaths
+pub mod QuotientSizes
+pub mod SamePaths
+pub mod SameRuns
+pub mod WideSizes

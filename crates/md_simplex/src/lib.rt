@@ -1,4 +1,4 @@
-//! The simplex path of a program: exact, with the lexicographic rule for the leaving row, and proved to end.
+//! The simplex paths of a program, of two orders: exact, with the lexicographic rule for the leaving row, and proved to end.
 #![tactic(auto)]
 
 mod end;
@@ -12,8 +12,10 @@ mod signs;
 mod simplex_error;
 mod step;
 mod walk;
+mod walk_error;
 
 pub use end::End;
+pub use order::Order;
 pub use rules::next;
 pub use runs::run;
 pub use simplex_error::SimplexError;

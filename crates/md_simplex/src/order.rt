@@ -1,6 +1,8 @@
-/// In which order the columns are tried where one is to enter: the least first, or the greatest first.
+/// In which order the columns are tried where one is to enter.
 #[derive(Clone, Copy, Debug, PartialEq, Eq)]
 pub enum Order {
+    /// The least column first.
     Forward,
+    /// The greatest column first.
     Backward,
 }

@@ -1,3 +1,4 @@
+//! The rules by which one basis follows another.
 ghost use Rattle.std.specs.Prelude.{◌≡◌, ◌<◌, ◌↔◌, IsTrue};
 ghost use Rattle.md_lp.specs.Program.{Program};
 ghost use Rattle.md_dict.specs.Condensed.{Holds, basic_at, entry_at};
@@ -35,8 +36,8 @@ fn is_right_negative(dict: &Dict) -> bool
     )
 }
 
-/// What the rules say of a dictionary where the columns are tried in an order.
-pub fn next_in(dict: &Dict, order: Order) -> Step
+// What the rules say of a dictionary.
+fn step_of(dict: &Dict, order: Order) -> Step
     ensures { IsNext order dict.now.rows dict.now.columns (entry_at dict.now) result }
 {
     if let Some(column) = face_column(dict, order) {
@@ -52,12 +53,12 @@ pub fn next_in(dict: &Dict, order: Order) -> Step
 }
 
 /// What the rules say of a dictionary: the next pivot, or how the path ends.
-/// The least column enters, in the face row before the main row, and the row leaves whose list is lexicographically least.
-pub fn next(dict: &Dict) -> Step
-    ensures next { IsNext Order.Forward dict.now.rows dict.now.columns (entry_at dict.now) result }
+/// The first column in the order enters, in the face row before the main row, and the row leaves whose list is lexicographically least.
+pub fn next(dict: &Dict, order: Order) -> Step
+    ensures next { IsNext order dict.now.rows dict.now.columns (entry_at dict.now) result }
 
     // The rules say one thing of a basis.
-    ensures only { (p : Program) (step : Step) → Holds p dict.now → HasNext Order.Forward dict.now.rows dict.now.columns (first_entry p) (basic_at dict.now) step → step ≡ result }
+    ensures only { (p : Program) (step : Step) → Holds p dict.now → HasNext order dict.now.rows dict.now.columns (first_entry p) (basic_at dict.now) step → step ≡ result }
 {
-    next_in(dict, Order::Forward)
+    step_of(dict, order)
 }

@@ -1,25 +1,13 @@
-ghost use Rattle.std.specs.Prelude.{◌≡◌};
-ghost use Rattle.md_simplex.specs.declared.simplex_error.SimplexError.TheVariants.{Memory};
-
-use md_lp::{Entry, Path};
-use md_num::NoMemory;
+use md_lp::Wide;
 use thiserror::Error;
 
-/// Why a path was not walked to its end.
+/// Why no path was followed to its end.
 #[derive(Debug, Drop, Error)]
 pub enum SimplexError {
-    /// A basis of the path is too wide: the pivots that lead to the first such one, and its first entry above the width's limit in size.
-    #[error("a basis is too wide")]
-    TooWide { path: Path, entry: Entry },
+    /// Each of the two paths has a basis that is too wide: where the forward path has its first such one, and where the backward path has.
+    #[error("a basis of each path is too wide")]
+    TooWide { first: Wide, second: Wide },
     /// Memory ran out.
     #[error("out of memory")]
     Memory,
-}
-
-impl From<NoMemory> for SimplexError {
-    ghost from_gives = { λ _ error. error ≡ Memory };
-
-    fn from(_error: NoMemory) -> SimplexError {
-        SimplexError::Memory
-    }
 }

@@ -1,9 +1,7 @@
 use super::*;
-use crate::order::Order;
-use crate::walk::walk;
 use md_cert::{Certificate, check_lp};
 use md_dict::Dict;
-use md_lp::{Entry, Lp, LpRefusal, Path, Pivot, RowKind, Term};
+use md_lp::{Entry, Lp, LpRefusal, Path, Pivot, RowKind, Term, Wide};
 use md_num::{NoMemory, Nums, Width};
 use std::alloc::Global;
 use std::process::Abort;
@@ -162,8 +160,14 @@ enum Told {
     TooWide,
 }
 
-// The pivots are those of the path, or of its part before the first wide basis; where `pivots` is empty they are not compared.
-// Of the other numbers a program takes those at its columns and rows.
+// Where a path becomes too wide.
+struct Left {
+    pivots: &'static [(u32, u32)],
+    entry: Entry,
+}
+
+// The pivots are those of the taken path; where `pivots` is empty they are not compared.
+// Of the other numbers a program takes those at its columns and rows. Where both paths are left, `first` and `second` tell of each.
 struct Case {
     problem: Problem,
     bits: u8,
@@ -174,17 +178,47 @@ struct Case {
     over: i128,
     main: [i128; 12],
     face: [i128; 12],
-    entry: Entry,
+    first: Left,
+    second: Left,
 }
 
 const ZEROS: [i128; 12] = [0; 12];
 
-const NO_ENTRY: Entry = Entry {
-    row: 0,
-    column: 0,
-    num: 0,
-    den: 1,
+const NOT_LEFT: Left = Left {
+    pivots: &[],
+    entry: Entry {
+        row: 0,
+        column: 0,
+        num: 0,
+        den: 1,
+    },
 };
+
+// The first basis is wide where the buyer's value is 20.
+const FIRST_BASIS: Left = Left {
+    pivots: &[],
+    entry: Entry {
+        row: 1,
+        column: 1,
+        num: 20,
+        den: 1,
+    },
+};
+
+// The greatest column first, for a buyer whose value is 4 or 5.
+const BACKWARD: [(u32, u32); 11] = [
+    (3, 11),
+    (2, 10),
+    (1, 9),
+    (0, 8),
+    (0, 3),
+    (5, 6),
+    (5, 1),
+    (4, 8),
+    (1, 5),
+    (2, 4),
+    (3, 0),
+];
 
 static CASES: [Case; 9] = [
     Case {
@@ -197,40 +231,49 @@ static CASES: [Case; 9] = [
         over: 2,
         main: [0, 1, 3, 1, 0, 6, 0, 0, 0, 0, 0, 0],
         face: ZEROS,
-        entry: NO_ENTRY,
+        first: NOT_LEFT,
+        second: NOT_LEFT,
     },
     Case {
         problem: Problem::Buyer(4),
         bits: 4,
-        told: Told::TooWide,
-        pivots: &[(4, 0), (1, 1)],
-        point: [0; 8],
+        told: Told::Optimal,
+        pivots: &BACKWARD,
+        point: [1, 0, 0, 1, 0, 4, 0, 0],
         ray: [0; 8],
-        over: 1,
-        main: ZEROS,
+        over: 3,
+        main: [0, 1, 4, 2, 0, 12, 0, 0, 0, 0, 0, 0],
         face: ZEROS,
-        entry: Entry {
-            row: 3,
-            column: 3,
-            num: -16,
-            den: 4,
-        },
+        first: NOT_LEFT,
+        second: NOT_LEFT,
     },
     Case {
         problem: Problem::Buyer(5),
         bits: 4,
         told: Told::TooWide,
-        pivots: &[(4, 0), (1, 1)],
+        pivots: &[],
         point: [0; 8],
         ray: [0; 8],
         over: 1,
         main: ZEROS,
         face: ZEROS,
-        entry: Entry {
-            row: 3,
-            column: 3,
-            num: -25,
-            den: 5,
+        first: Left {
+            pivots: &[(4, 0), (1, 1)],
+            entry: Entry {
+                row: 3,
+                column: 3,
+                num: -25,
+                den: 5,
+            },
+        },
+        second: Left {
+            pivots: &BACKWARD,
+            entry: Entry {
+                row: 1,
+                column: 2,
+                num: 20,
+                den: 4,
+            },
         },
     },
     Case {
@@ -243,12 +286,8 @@ static CASES: [Case; 9] = [
         over: 1,
         main: ZEROS,
         face: ZEROS,
-        entry: Entry {
-            row: 1,
-            column: 1,
-            num: 20,
-            den: 1,
-        },
+        first: FIRST_BASIS,
+        second: FIRST_BASIS,
     },
     Case {
         problem: Problem::Voters,
@@ -260,7 +299,8 @@ static CASES: [Case; 9] = [
         over: 1,
         main: [0, 0, 0, 0, 0, 0, 0, 0, 2, 1, 1, 2],
         face: ZEROS,
-        entry: NO_ENTRY,
+        first: NOT_LEFT,
+        second: NOT_LEFT,
     },
     Case {
         problem: Problem::Outside,
@@ -272,7 +312,8 @@ static CASES: [Case; 9] = [
         over: 1,
         main: ZEROS,
         face: [1, 0, 0, 0, 0, 0, 0, 0, 0, 0, 0, 0],
-        entry: NO_ENTRY,
+        first: NOT_LEFT,
+        second: NOT_LEFT,
     },
     Case {
         problem: Problem::Payer,
@@ -284,7 +325,8 @@ static CASES: [Case; 9] = [
         over: 1,
         main: ZEROS,
         face: ZEROS,
-        entry: NO_ENTRY,
+        first: NOT_LEFT,
+        second: NOT_LEFT,
     },
     Case {
         problem: Problem::NoDeficit,
@@ -296,7 +338,8 @@ static CASES: [Case; 9] = [
         over: 1,
         main: [1, 0, 0, 0, 0, 0, 0, 0, 0, 0, 0, 0],
         face: ZEROS,
-        entry: NO_ENTRY,
+        first: NOT_LEFT,
+        second: NOT_LEFT,
     },
     Case {
         problem: Problem::Held,
@@ -308,7 +351,8 @@ static CASES: [Case; 9] = [
         over: 1,
         main: ZEROS,
         face: [1, 1, 0, 0, 0, 0, 0, 0, 0, 0, 0, 0],
-        entry: NO_ENTRY,
+        first: NOT_LEFT,
+        second: NOT_LEFT,
     },
 ];
 
@@ -336,6 +380,10 @@ fn has_pivots(pivots: &[(u32, u32)], path: &Path) -> bool {
         same = same && *row == pivot.row && *column == pivot.column;
     }
     same
+}
+
+fn is_left(left: &Left, wide: &Wide) -> bool {
+    has_pivots(left.pivots, &wide.path) && left.entry == wide.entry
 }
 
 fn is_certificate(case: &Case, certificate: &Certificate) -> bool {
@@ -369,10 +417,9 @@ fn judge(rt: &impl Abort, alloc: Global, case: &Case) -> Result<(), Fail> {
             assert!(rt; is_certificate(case, &end.certificate));
             assert_eq!(rt; check_lp(&lp, &end.certificate), None);
         }
-        Err(SimplexError::TooWide { path, entry }) => {
+        Err(SimplexError::TooWide { first, second }) => {
             assert!(rt; case.told == Told::TooWide);
-            assert!(rt; has_pivots(case.pivots, &path));
-            assert_eq!(rt; entry, case.entry);
+            assert!(rt; is_left(&case.first, &first) && is_left(&case.second, &second));
         }
         Err(SimplexError::Memory) => return Err("memory ran out".into()),
     }
@@ -396,58 +443,31 @@ fn pivot_at(dict: &mut Dict, pivot: Pivot) -> bool {
         && dict.pivot(pivot.row, pivot.column).is_ok()
 }
 
-#[test]
-fn names_each_pivot(rt: HostRuntime) -> Result<(), Fail> {
-    let lp = buyer(rt.alloc(), 3)?;
+fn names_pivots(
+    rt: &impl Abort,
+    alloc: Global,
+    high: i64,
+    order: Order,
+    pivots: &[(u32, u32)],
+) -> Result<(), Fail> {
+    let lp = buyer(alloc, high)?;
     let width = Width::new(62).ok_or("no width")?;
-    let mut dict = Dict::start(rt.alloc(), &lp, width)?;
-    for (row, column) in [(4, 0), (1, 1), (5, 2), (2, 4), (0, 8), (3, 5), (5, 3)] {
-        let pivot = Pivot { row, column };
-        assert_eq!(rt; next(&dict), Step::Pivot(pivot));
+    let mut dict = Dict::start(alloc, &lp, width)?;
+    for (row, column) in pivots {
+        let pivot = Pivot {
+            row: *row,
+            column: *column,
+        };
+        assert_eq!(rt; next(&dict, order), Step::Pivot(pivot));
         assert!(rt; pivot_at(&mut dict, pivot));
     }
-    assert_eq!(rt; next(&dict), Step::Optimal);
+    assert_eq!(rt; next(&dict, order), Step::Optimal);
     Ok(())
 }
 
-// ---- the greatest column first
-
-const BACKWARD: [(u32, u32); 11] = [
-    (3, 11),
-    (2, 10),
-    (1, 9),
-    (0, 8),
-    (0, 3),
-    (5, 6),
-    (5, 1),
-    (4, 8),
-    (1, 5),
-    (2, 4),
-    (3, 0),
-];
-
 #[test]
-fn walks_backward(rt: HostRuntime) -> Result<(), Fail> {
-    let width = Width::new(4).ok_or("no width")?;
-    let lp = buyer(rt.alloc(), 5)?;
-    let Err(SimplexError::TooWide { path, entry }) = walk(rt.alloc(), &lp, width, Order::Backward)
-    else {
-        return Err("the walk came to an end".into());
-    };
-    assert!(rt; has_pivots(&BACKWARD, &path));
-    let wide = Entry {
-        row: 1,
-        column: 2,
-        num: 20,
-        den: 4,
-    };
-    assert_eq!(rt; entry, wide);
-    let lp = buyer(rt.alloc(), 4)?;
-    let Ok(walked) = walk(rt.alloc(), &lp, width, Order::Backward) else {
-        return Err("the walk did not come to an end".into());
-    };
-    assert!(rt; has_pivots(&BACKWARD, &walked.path));
-    assert_eq!(rt; walked.step, Step::Optimal);
-    assert_eq!(rt; walked.dict.greatest(), 12);
-    Ok(())
+fn names_each_pivot(rt: HostRuntime) -> Result<(), Fail> {
+    let forward = [(4, 0), (1, 1), (5, 2), (2, 4), (0, 8), (3, 5), (5, 3)];
+    names_pivots(&rt, rt.alloc(), 3, Order::Forward, &forward)?;
+    names_pivots(&rt, rt.alloc(), 4, Order::Backward, &BACKWARD)
 }

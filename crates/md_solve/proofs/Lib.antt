@@ -1,10 +1,9 @@
 pub mod RayLists
 pub mod ValueLaws
-pub mod SamePaths
 pub mod SameForms
 pub mod Certificates
 pub mod Claims
 pub mod BoundFits
-pub mod WideSizes
 pub mod SameAnswers
 pub mod OneAnswer
+pub mod WideFits

@@ -37,7 +37,7 @@ ClaimsUnbounded (Unbounded mechanism ray) = Unit {0}
 ClaimsUnbounded _ = ⊥
 
 abbrev pub IsTooWide : Answer → Type 0
-IsTooWide (TooWide cuts path entry) = Unit {0}
+IsTooWide (TooWide cuts first second) = Unit {0}
 IsTooWide _ = ⊥
 
 -- a mechanism of which nothing is claimed

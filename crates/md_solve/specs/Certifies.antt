@@ -14,4 +14,4 @@ IsCertifiedAnswer s p (Table m) = Unit {0}
 IsCertifiedAnswer s p (Optimal value m bound) = Certified p (certificates.Optimal m.den (point_of s m) bound)
 IsCertifiedAnswer s p (Infeasible face) = Certified p (certificates.Infeasible face)
 IsCertifiedAnswer s p (Unbounded m pays) = Certified p (certificates.Unbounded m.den (point_of s m) (ray_of s pays))
-IsCertifiedAnswer s p (TooWide cuts path entry) = Unit {0}
+IsCertifiedAnswer s p (TooWide cuts first second) = Unit {0}

@@ -11,4 +11,4 @@ IsSo s (Table m) = ⊥
 IsSo s (Optimal value m bound) = IsOptimal s m × IsValueOf s m value
 IsSo s (Infeasible face) = IsInfeasible s
 IsSo s (Unbounded m ray) = Grows s m ray
-IsSo s (TooWide cuts path entry) = Unit {0}
+IsSo s (TooWide cuts first second) = Unit {0}

@@ -1,13 +1,13 @@
-//! The path of a setting's program, and what is told of its end.
+//! The paths of a setting's program, and what is told of their ends.
 ghost use Rattle.std.specs.Prelude.{◌≡◌, ◌↔◌, List, IfOk};
 ghost use Rattle.md_lp.specs.Program.{Program};
 ghost use Rattle.md_lp.specs.declared.pivot.Pivot.{Pivot};
-ghost use Rattle.md_lp.specs.declared.entry.Entry.{Entry};
 ghost use Rattle.md_mech.specs.Admissible.{IsAdmissible};
 ghost use Rattle.md_mech.specs.Optimal.{Grows, IsInfeasible, IsOptimal};
 ghost use Rattle.md_rows.specs.ProgramOf.{IsProgramOf};
+ghost use Rattle.md_simplex.specs.declared.order.Order.{Order};
 ghost use Rattle.md_simplex.specs.declared.step.Step.{Step};
-ghost use Rattle.md_simplex.specs.Runs.{BeginsPath, IsNarrowPath, IsPathOf, IsWideAt, basis_of};
+ghost use Rattle.md_simplex.specs.Runs.{IsTaken, MeetsWideBasis};
 ghost use Rattle.md_answer.specs.AnswerTo.{IsAnswerTo};
 ghost use Rattle.md_answer.specs.declared.answer.Answer.{Answer};
 ghost use Rattle.md_solve.specs.Answered.{ClaimsEnd, ClaimsInfeasible, ClaimsUnbounded, IsMechanismAlone, IsTooWide, WhereInfeasible, WhereOptimal, WhereUnbounded};
@@ -25,11 +25,12 @@ use md_setting::Setting;
 use md_simplex::{SimplexError, run};
 use std::alloc::Global;
 
-/// Solves a setting: the path of its linear program is followed to its end, and what is read off there is told.
+/// Solves a setting: a path of its linear program is followed to its end, and what is read off there is told.
 /// The answer is an optimal mechanism with its value and multipliers that show that no mechanism has a greater one;
 /// or multipliers that show that no mechanism is admissible; or a mechanism with payments that may be added to it again
-/// and again with a gain each time. Where a basis of the path has an entry that is too wide, the pivots to the first such
-/// basis and its first such entry are told instead.
+/// and again with a gain each time. There are two paths, one of each order of columns; the backward one is taken where the
+/// forward one has a basis with an entry that is too wide. Where both have one, the pivots to the first such basis and its
+/// first such entry are told instead, for each path.
 pub fn solve(alloc: Global, setting: &Setting, width: Width) -> Result<Answer, NoMemory>
     ensures solved { IfOk result (IsSolved setting.now width) }
 
@@ -46,15 +47,15 @@ pub fn solve(alloc: Global, setting: &Setting, width: Width) -> Result<Answer, N
     // A mechanism of which nothing is claimed is never the answer.
     ensures claims { IfOk result (λ answer. ¬ IsMechanismAlone answer) }
 
-    // Where no basis of the path is wide, the claim is that of its end, and it is made wherever it is so.
-    ensures narrow { (p : Program) (pivots : List Pivot) (step : Step) → IsProgramOf setting.now p → IsPathOf p pivots step → IsNarrowPath p width pivots → IfOk result (ClaimsEnd step) }
+    // Where a path is taken, the claim is that of its end, and it is made wherever it is so.
+    ensures taken { (p : Program) (order : Order) (pivots : List Pivot) (step : Step) → IsProgramOf setting.now p → IsTaken order p width pivots step → IfOk result (ClaimsEnd step) }
     ensures none { IfOk result (λ answer. ¬ IsTooWide answer → ClaimsInfeasible answer ↔ IsInfeasible setting.now) }
     ensures no_bound { IfOk result (λ answer. ¬ IsTooWide answer → ClaimsUnbounded answer ↔ HasNoBound setting.now) }
 
-    // Where one is wide, this is told, and nothing else.
-    ensures wide { (p : Program) (pivots : List Pivot) (entry : Entry) → IsProgramOf setting.now p → BeginsPath p pivots → IsWideAt p width (basis_of p pivots) entry → IfOk result IsTooWide }
+    // Where a basis of each path is wide, this is told, and nothing else.
+    ensures wide { (p : Program) → IsProgramOf setting.now p → MeetsWideBasis Order.Forward p width → MeetsWideBasis Order.Backward p width → IfOk result IsTooWide }
 
-    // In whatever terms the setting's program is written, its path gives this answer, which is a certificate of its claim.
+    // In whatever terms the setting's program is written, its paths give this answer, which is a certificate of its claim.
     ensures every_program { (p : Program) → IsProgramOf setting.now p → IfOk result (IsSolvedBy setting.now p width) }
     ensures certified { (p : Program) → IsProgramOf setting.now p → IfOk result (IsCertifiedAnswer setting.now p) }
 
@@ -66,13 +67,13 @@ pub fn solve(alloc: Global, setting: &Setting, width: Width) -> Result<Answer, N
     answer(alloc, setting, &lp, width)
 }
 
-// What is told of the path of the setting's program.
+// What is told of the paths of the setting's program.
 fn answer(alloc: Global, setting: &Setting, lp: &Lp, width: Width) -> Result<Answer, NoMemory>
     requires { IsProgramOf setting.now lp.now }
     ensures solved { IfOk result (IsSolvedBy setting.now lp.now width) }
     ensures so { IfOk result (IsSo setting.now) }
-    ensures narrow { (pivots : List Pivot) (step : Step) → IsPathOf lp.now pivots step → IsNarrowPath lp.now width pivots → IfOk result (ClaimsEnd step) }
-    ensures wide { (pivots : List Pivot) (entry : Entry) → BeginsPath lp.now pivots → IsWideAt lp.now width (basis_of lp.now pivots) entry → IfOk result IsTooWide }
+    ensures taken { (order : Order) (pivots : List Pivot) (step : Step) → IsTaken order lp.now width pivots step → IfOk result (ClaimsEnd step) }
+    ensures wide { MeetsWideBasis Order.Forward lp.now width → MeetsWideBasis Order.Backward lp.now width → IfOk result IsTooWide }
     ensures certified { IfOk result (IsCertifiedAnswer setting.now lp.now) }
     ensures writable { IfOk result (IsAnswerTo setting.now) }
 {
@@ -80,10 +81,10 @@ fn answer(alloc: Global, setting: &Setting, lp: &Lp, width: Width) -> Result<Ans
     let _range = width.limit();
     match run(alloc, lp, width) {
         Ok(end) => told(alloc, setting, lp, end.certificate),
-        Err(SimplexError::TooWide { path, entry }) => Ok(Answer::TooWide {
+        Err(SimplexError::TooWide { first, second }) => Ok(Answer::TooWide {
             cuts: Sets::new(alloc),
-            path,
-            entry,
+            first,
+            second: Some(second),
         }),
         Err(SimplexError::Memory) => Err(NoMemory),
     }

@@ -1,18 +1,20 @@
 -- What the answer of the solver shows, by its kind.
-use Rattle.std.proofs.Common.{◌≡◌, ◌↔◌, ℕ, ℤ, List, [], Ok, ap, ◌∙◌, subst, inl, inr, arith}
+use Rattle.std.proofs.Common.{◌≡◌, ◌↔◌, ℕ, ℤ, List, [], Ok, Option, None, Some, ap, ◌∙◌, subst, inl, inr, arith}
 use Rattle.md_num.specs.declared.frac.Frac.{Frac}
 use Rattle.md_setting.specs.Setting.{GeneralSetting}
 use Rattle.md_lp.specs.Program.{Program}
-use Rattle.md_lp.specs.declared.entry.Entry.{Entry}
 use Rattle.md_lp.specs.declared.pivot.Pivot.{Pivot}
+use Rattle.md_lp.specs.declared.wide.Wide.{Wide}
 use Rattle.md_mech.specs.declared.mechanism.Mechanism.{Mechanism}
 use Rattle.md_mech.specs.Optimal.{Grows, IsInfeasible, IsOptimal}
 use Rattle.md_cert.specs.declared.bound.Bound.{Bound}
 use Rattle.md_mech.specs.Admissible.{IsAdmissible}
 use Rattle.md_rows.specs.ProgramOf.{IsProgramOf}
+use Rattle.md_simplex.specs.declared.order.Order.{Order}
+use Rattle.md_simplex.specs.declared.order.Order.TheVariants.{Forward, Backward}
 use Rattle.md_simplex.specs.declared.step.Step.{Step}
 use Rattle.md_simplex.specs.declared.step.Step.TheVariants as steps
-use Rattle.md_simplex.specs.Runs.{BeginsPath, IsNarrowPath, IsPathOf, IsWideAt, basis_of}
+use Rattle.md_simplex.specs.Runs.{IsTaken, MeetsWideBasis}
 use Rattle.md_answer.specs.Answers.{answer_of}
 use Rattle.md_answer.specs.declared.answer.Answer.{Answer}
 use Rattle.md_answer.specs.declared.answer.Answer.TheVariants.{Table, Optimal, Infeasible, Unbounded, TooWide}
@@ -25,17 +27,17 @@ use Rattle.md_solve.specs.Solved.{IsSolved, IsSolvedBy, IsValueOf}
 use Rattle.md_top.specs.Headline.{IsEndStatus, IsHeadline}
 use Rattle.md_top.specs.Solving.{status_of_answer}
 
--- what is known of an answer: what it claims is so, the checker finds it valid, and it tells what the path comes to
+-- what is known of an answer: what it claims is so, the checker finds it valid, and it tells what the paths come to
 pub record IsShownBy (s : GeneralSetting) (width : ℕ) (answer : Answer) : Type 0 where
   pub solved : IsSolved s width answer
   pub optimal : WhereOptimal (λ value mechanism bound. IsOptimal s mechanism) answer
   pub value : WhereOptimal (λ value mechanism bound. IsValueOf s mechanism value) answer
   pub infeasible : WhereInfeasible (λ face. IsInfeasible s) answer
   pub unbounded : WhereUnbounded (λ mechanism ray. Grows s mechanism ray) answer
-  pub narrow : (p : Program) (pivots : List Pivot) (step : Step) → IsProgramOf s p → IsPathOf p pivots step → IsNarrowPath p width pivots → ClaimsEnd step answer
+  pub taken : (p : Program) (order : Order) (pivots : List Pivot) (step : Step) → IsProgramOf s p → IsTaken order p width pivots step → ClaimsEnd step answer
   pub none : ¬ IsTooWide answer → ClaimsInfeasible answer ↔ IsInfeasible s
   pub no_bound : ¬ IsTooWide answer → ClaimsUnbounded answer ↔ HasNoBound s
-  pub wide : (p : Program) (pivots : List Pivot) (entry : Entry) → IsProgramOf s p → BeginsPath p pivots → IsWideAt p width (basis_of p pivots) entry → IsTooWide answer
+  pub wide : (p : Program) → IsProgramOf s p → MeetsWideBasis Forward p width → MeetsWideBasis Backward p width → IsTooWide answer
   pub every_program : (p : Program) → IsProgramOf s p → IsSolvedBy s p width answer
   pub admissible : WhereUnbounded (λ mechanism ray. IsAdmissible s mechanism) answer
   pub claims : ¬ IsMechanismAlone answer
@@ -50,7 +52,7 @@ valid s width (Optimal value m bound) h narrow = (
 )
 valid s width (Infeasible face) h narrow = record { program = h.solved.program; is_program = h.solved.is_program; judged = h.certified }
 valid s width (Unbounded m ray) h narrow = (h.admissible, record { program = h.solved.program; is_program = h.solved.is_program; judged = h.certified })
-valid s width (TooWide cuts path entry) h narrow = absurd (narrow tt)
+valid s width (TooWide cuts first second) h narrow = absurd (narrow tt)
 
 -- the status tells the end of the path
 optimal_end : (value : Frac) (m : Mechanism) (bound : Bound) (status : ℕ) → status ≡ 0 → (step : Step) → ClaimsEnd step (Optimal value m bound) → IsEndStatus step status
@@ -71,24 +73,26 @@ unbounded_end m ray status is steps.Infeasible h = absurd h
 unbounded_end m ray status is (steps.Unbounded column) h = is
 unbounded_end m ray status is (steps.Pivot pivot) h = absurd h
 
-wide_end : (cuts : List ℕ) (path : List Pivot) (entry : Entry) (status : ℕ) (step : Step) → ClaimsEnd step (TooWide cuts path entry) → IsEndStatus step status
-wide_end cuts path entry status steps.Optimal h = absurd h
-wide_end cuts path entry status steps.Infeasible h = absurd h
-wide_end cuts path entry status (steps.Unbounded column) h = absurd h
-wide_end cuts path entry status (steps.Pivot pivot) h = absurd h
+wide_end : (cuts : List ℕ) (first : Wide) (second : Option Wide) (status : ℕ) (step : Step) → ClaimsEnd step (TooWide cuts first second) → IsEndStatus step status
+wide_end cuts first second status steps.Optimal h = absurd h
+wide_end cuts first second status steps.Infeasible h = absurd h
+wide_end cuts first second status (steps.Unbounded column) h = absurd h
+wide_end cuts first second status (steps.Pivot pivot) h = absurd h
 
 module _ (s : GeneralSetting) (width status : ℕ) (text : List ℕ) where
   of_optimal : (value : Frac) (m : Mechanism) (bound : Bound) → IsShownBy s width (Optimal value m bound)
       → status ≡ 0 → answer_of s text ≡ Ok (Optimal value m bound) → IsHeadline s width status text
   of_optimal value m bound h is reads =
       record {
+        program = h.solved.program;
+        is_program = h.solved.is_program;
         optimal = λ _. record { value = value; mechanism = m; bound = bound; read_back = reads; optimal = h.optimal; is_value = h.value; valid = valid s width (Optimal value m bound) h (λ no. no) };
         infeasible = λ other. absurd (omega (arith, is, other));
         unbounded = λ other. absurd (omega (arith, is, other));
         too_wide = λ other. absurd (omega (arith, is, other));
         one_of = inl is;
-        wide = λ p pivots entry program begins wide. absurd (h.wide p pivots entry program begins wide);
-        narrow = λ p pivots step program path narrow. optimal_end value m bound status is step (h.narrow p pivots step program path narrow);
+        wide = λ p program forward backward. absurd (h.wide p program forward backward);
+        taken = λ p order pivots step program way. optimal_end value m bound status is step (h.taken p order pivots step program way);
         none = λ _. (λ other. absurd (omega (arith, is, other)), λ so. absurd ((h.none (λ no. no)).1 so));
         no_bound = λ _. (λ other. absurd (omega (arith, is, other)), λ so. absurd ((h.no_bound (λ no. no)).1 so));
       }
@@ -97,13 +101,15 @@ module _ (s : GeneralSetting) (width status : ℕ) (text : List ℕ) where
       → status ≡ 10 → answer_of s text ≡ Ok (Infeasible face) → IsHeadline s width status text
   of_infeasible face h is reads =
       record {
+        program = h.solved.program;
+        is_program = h.solved.is_program;
         optimal = λ other. absurd (omega (arith, is, other));
         infeasible = λ _. record { face = face; read_back = reads; infeasible = h.infeasible; valid = valid s width (Infeasible face) h (λ no. no) };
         unbounded = λ other. absurd (omega (arith, is, other));
         too_wide = λ other. absurd (omega (arith, is, other));
         one_of = inr (inl is);
-        wide = λ p pivots entry program begins wide. absurd (h.wide p pivots entry program begins wide);
-        narrow = λ p pivots step program path narrow. infeasible_end face status is step (h.narrow p pivots step program path narrow);
+        wide = λ p program forward backward. absurd (h.wide p program forward backward);
+        taken = λ p order pivots step program way. infeasible_end face status is step (h.taken p order pivots step program way);
         none = λ _. (λ _. h.infeasible, λ _. is);
         no_bound = λ _. (λ other. absurd (omega (arith, is, other)), λ so. absurd ((h.no_bound (λ no. no)).1 so));
       }
@@ -112,28 +118,38 @@ module _ (s : GeneralSetting) (width status : ℕ) (text : List ℕ) where
       → status ≡ 11 → answer_of s text ≡ Ok (Unbounded m ray) → IsHeadline s width status text
   of_unbounded m ray h is reads =
       record {
+        program = h.solved.program;
+        is_program = h.solved.is_program;
         optimal = λ other. absurd (omega (arith, is, other));
         infeasible = λ other. absurd (omega (arith, is, other));
         unbounded = λ _. record { mechanism = m; ray = ray; read_back = reads; grows = h.unbounded; valid = valid s width (Unbounded m ray) h (λ no. no) };
         too_wide = λ other. absurd (omega (arith, is, other));
         one_of = inr (inr (inl is));
-        wide = λ p pivots entry program begins wide. absurd (h.wide p pivots entry program begins wide);
-        narrow = λ p pivots step program path narrow. unbounded_end m ray status is step (h.narrow p pivots step program path narrow);
+        wide = λ p program forward backward. absurd (h.wide p program forward backward);
+        taken = λ p order pivots step program way. unbounded_end m ray status is step (h.taken p order pivots step program way);
         none = λ _. (λ other. absurd (omega (arith, is, other)), λ so. absurd ((h.none (λ no. no)).1 so));
         no_bound = λ _. (λ _. (h.no_bound (λ no. no)).0 tt, λ _. is);
       }
 
-  of_too_wide : (path : List Pivot) (entry : Entry) → IsShownBy s width (TooWide [] path entry)
-      → status ≡ 12 → answer_of s text ≡ Ok (TooWide [] path entry) → IsHeadline s width status text
-  of_too_wide path entry h is reads =
+  of_too_wide : (first second : Wide) → IsShownBy s width (TooWide [] first (Some second))
+      → status ≡ 12 → answer_of s text ≡ Ok (TooWide [] first (Some second)) → IsHeadline s width status text
+  of_too_wide first second h is reads =
       record {
+        program = h.solved.program;
+        is_program = h.solved.is_program;
         optimal = λ other. absurd (omega (arith, is, other));
         infeasible = λ other. absurd (omega (arith, is, other));
         unbounded = λ other. absurd (omega (arith, is, other));
-        too_wide = λ _. record { path = path; entry = entry; read_back = reads; first_wide = λ p program. (h.every_program p program).1 };
+        too_wide = λ _. record {
+          first = first;
+          second = second;
+          read_back = reads;
+          forward = λ p program. (h.every_program p program).1;
+          backward = λ p program. (h.every_program p program).2;
+        };
         one_of = inr (inr (inr is));
-        wide = λ p pivots entry program begins wide. is;
-        narrow = λ p pivots step program way narrow. wide_end [] path entry status step (h.narrow p pivots step program way narrow);
+        wide = λ p program forward backward. is;
+        taken = λ p order pivots step program way. wide_end [] first (Some second) status step (h.taken p order pivots step program way);
         none = λ other. absurd (other is);
         no_bound = λ other. absurd (other is);
       }
@@ -144,6 +160,7 @@ module _ (s : GeneralSetting) (width status : ℕ) (text : List ℕ) where
   headline (Optimal value m bound) h is reads = of_optimal value m bound h is reads
   headline (Infeasible face) h is reads = of_infeasible face h is reads
   headline (Unbounded m ray) h is reads = of_unbounded m ray h is reads
-  headline (TooWide cuts path entry) h is reads =
+  headline (TooWide cuts first None) h is reads = absurd h.solved.solved.2
+  headline (TooWide cuts first (Some second)) h is reads =
       let none : cuts ≡ [] = h.solved.solved.0 in
-      of_too_wide path entry (subst (λ c. IsShownBy s width (TooWide c path entry)) none h) is (reads ∙ ap (λ c. Ok (TooWide c path entry)) none)
+      of_too_wide first second (subst (λ c. IsShownBy s width (TooWide c first (Some second))) none h) is (reads ∙ ap (λ c. Ok (TooWide c first (Some second))) none)

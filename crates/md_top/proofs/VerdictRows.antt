@@ -23,7 +23,7 @@ told-in s (Table m) broken h = absurd (let e = h in cc)
 told-in s (Optimal value m bound) broken h = first-in s m broken h
 told-in s (Infeasible face) broken h = absurd (h.judged h.program h.is_program)
 told-in s (Unbounded m ray) broken h = first-in s m broken h
-told-in s (TooWide cuts path entry) broken h = absurd (let e = h in cc)
+told-in s (TooWide cuts first second) broken h = absurd (let e = h in cc)
 
 -- the element at a place
 pub element : {X : Type 0} → (xs : List X) (r : ℕ) → r < length xs → (y : X) × (slice_get xs r ≡ Some y)

@@ -1,17 +1,19 @@
 -- What `solve` prints of a setting, in the words of mechanisms. Each text is read back by the rules for answer files.
-use Rattle.std.specs.Prelude.{◌≡◌, ◌≢◌, ◌⊎◌, ◌↔◌, ℕ, ℤ, List, [], Ok}
+use Rattle.std.specs.Prelude.{◌≡◌, ◌≢◌, ◌⊎◌, ◌↔◌, ℕ, ℤ, List, [], Ok, Some}
 use Rattle.md_num.specs.declared.frac.Frac.{Frac}
 use Rattle.md_setting.specs.Setting.{GeneralSetting}
 use Rattle.md_lp.specs.Program.{Program}
-use Rattle.md_lp.specs.declared.entry.Entry.{Entry}
 use Rattle.md_lp.specs.declared.pivot.Pivot.{Pivot}
+use Rattle.md_lp.specs.declared.wide.Wide.{Wide}
 use Rattle.md_mech.specs.declared.mechanism.Mechanism.{Mechanism}
 use Rattle.md_mech.specs.Optimal.{Grows, IsInfeasible, IsOptimal}
 use Rattle.md_cert.specs.declared.bound.Bound.{Bound}
 use Rattle.md_rows.specs.ProgramOf.{IsProgramOf}
+use Rattle.md_simplex.specs.declared.order.Order.{Order}
+use Rattle.md_simplex.specs.declared.order.Order.TheVariants.{Forward, Backward}
 use Rattle.md_simplex.specs.declared.step.Step.{Step}
 use Rattle.md_simplex.specs.declared.step.Step.TheVariants as steps
-use Rattle.md_simplex.specs.Runs.{BeginsPath, IsFirstWideOf, IsNarrowPath, IsPathOf, IsWideAt, basis_of}
+use Rattle.md_simplex.specs.Runs.{IsFirstWideOf, IsTaken, MeetsWideBasis}
 use Rattle.md_answer.specs.Answers.{answer_of}
 use Rattle.md_answer.specs.declared.answer.Answer.TheVariants.{Optimal, Infeasible, Unbounded, TooWide}
 use Rattle.md_check.specs.Verdicts.{IsVerdict}
@@ -44,12 +46,13 @@ pub record PrintsUnbounded (s : GeneralSetting) (text : List ℕ) : Type 0 where
   pub grows : Grows s mechanism ray
   pub valid : IsVerdict s (Unbounded mechanism ray) Valid
 
--- the pivots of the path of the setting's program to its first wide basis, and the first wide entry of that
+-- of the forward path of the setting's program and of the backward one, the pivots to the first wide basis and the first wide entry of that
 pub record PrintsTooWide (s : GeneralSetting) (width : ℕ) (text : List ℕ) : Type 0 where
-  pub path : List Pivot
-  pub entry : Entry
-  pub read_back : answer_of s text ≡ Ok (TooWide [] path entry)
-  pub first_wide : (p : Program) → IsProgramOf s p → IsFirstWideOf p width path entry
+  pub first : Wide
+  pub second : Wide
+  pub read_back : answer_of s text ≡ Ok (TooWide [] first (Some second))
+  pub forward : (p : Program) → IsProgramOf s p → IsFirstWideOf Forward p width first
+  pub backward : (p : Program) → IsProgramOf s p → IsFirstWideOf Backward p width second
 
 -- the statuses of what is printed
 abbrev pub IsSolveStatus : ℕ → Type 0
@@ -64,14 +67,17 @@ IsEndStatus (steps.Pivot pivot) status = ⊥
 
 -- what is printed with a status, and which status it is
 pub record IsHeadline (s : GeneralSetting) (width status : ℕ) (text : List ℕ) : Type 0 where
+  -- the setting has a program
+  pub program : Program
+  pub is_program : IsProgramOf s program
   pub optimal : status ≡ 0 → PrintsOptimal s text
   pub infeasible : status ≡ 10 → PrintsInfeasible s text
   pub unbounded : status ≡ 11 → PrintsUnbounded s text
   pub too_wide : status ≡ 12 → PrintsTooWide s width text
   pub one_of : IsSolveStatus status
-  -- where the path of the setting's program comes to a wide basis, it is 12, and else it tells how the path ends
-  pub wide : (p : Program) (pivots : List Pivot) (entry : Entry) → IsProgramOf s p → BeginsPath p pivots → IsWideAt p width (basis_of p pivots) entry → status ≡ 12
-  pub narrow : (p : Program) (pivots : List Pivot) (step : Step) → IsProgramOf s p → IsPathOf p pivots step → IsNarrowPath p width pivots → IsEndStatus step status
+  -- where both paths of the setting's program come to a wide basis, it is 12, and where a path is taken, it tells how that ends
+  pub wide : (p : Program) → IsProgramOf s p → MeetsWideBasis Forward p width → MeetsWideBasis Backward p width → status ≡ 12
+  pub taken : (p : Program) (order : Order) (pivots : List Pivot) (step : Step) → IsProgramOf s p → IsTaken order p width pivots step → IsEndStatus step status
   -- where it is not 12, it tells exactly where no mechanism is admissible, and where the values of the admissible ones have no bound
   pub none : status ≢ 12 → (status ≡ 10) ↔ IsInfeasible s
   pub no_bound : status ≢ 12 → (status ≡ 11) ↔ HasNoBound s

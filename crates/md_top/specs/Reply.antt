@@ -66,7 +66,7 @@ mechanism_of (Table mechanism) = Ok mechanism
 mechanism_of (Optimal value mechanism bound) = Ok mechanism
 mechanism_of (Infeasible face) = Err refusal.NoTable
 mechanism_of (Unbounded mechanism ray) = Ok mechanism
-mechanism_of (TooWide cuts path entry) = Err refusal.NoTable
+mechanism_of (TooWide cuts first second) = Err refusal.NoTable
 
 abbrev pub mechanism_or_refusal : Result Answer AnswerRefusal → Result Mechanism Refusal
 mechanism_or_refusal (Ok answer) = mechanism_of answer

@@ -1,4 +1,4 @@
--- What `solve` says of a setting: the answer that the path of its program gives.
+-- What `solve` says of a setting: the answer that the paths of its program give.
 use Rattle.std.specs.Prelude.{◌≡◌, ℕ}
 use Rattle.md_setting.specs.Setting.{GeneralSetting}
 use Rattle.md_answer.specs.Rows.{text_of_answer}
@@ -14,7 +14,7 @@ status_of_answer (Table mechanism) = 0
 status_of_answer (Optimal value mechanism bound) = 0
 status_of_answer (Infeasible face) = 10
 status_of_answer (Unbounded mechanism ray) = 11
-status_of_answer (TooWide cuts path entry) = 12
+status_of_answer (TooWide cuts first second) = 12
 
 -- the one answer of a setting within a width, its status and its text, and what these show
 pub record IsSolving (s : GeneralSetting) (width : ℕ) (saying : Saying) : Type 0 where

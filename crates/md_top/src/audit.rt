@@ -34,8 +34,8 @@ fn mechanism_in(answer: Answer) -> Result<Mechanism, Refusal>
         Answer::Infeasible { face: _ } => Err(Refusal::NoTable),
         Answer::TooWide {
             cuts: _,
-            path: _,
-            entry: _,
+            first: _,
+            second: _,
         } => Err(Refusal::NoTable),
     }
 }

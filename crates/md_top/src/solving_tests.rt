@@ -61,7 +61,7 @@ static WALKS: [Walk; 11] = [
         &["solve", "setting", "--width", "4"],
         "",
         12,
-        "answer,1,general,toowide\nwide,1,1,20,1\nend\n",
+        "answer,2,general,toowide\nwide,1,1,20,1\nagain\nwide,1,1,20,1\nend\n",
         "",
     ),
     (
@@ -69,15 +69,15 @@ static WALKS: [Walk; 11] = [
         &["solve", "setting", "--width", "4"],
         "",
         12,
-        "answer,1,general,toowide\npivot,4,0\npivot,1,1\nwide,3,3,-25,5\nend\n",
+        "answer,2,general,toowide\npivot,4,0\npivot,1,1\nwide,3,3,-25,5\nagain\npivot,3,11\npivot,2,10\npivot,1,9\npivot,0,8\npivot,0,3\npivot,5,6\npivot,5,1\npivot,4,8\npivot,1,5\npivot,2,4\npivot,3,0\nwide,1,2,20,4\nend\n",
         "",
     ),
     (
         "4",
         &["solve", "setting", "--width=4"],
         "",
-        12,
-        "answer,1,general,toowide\npivot,4,0\npivot,1,1\nwide,3,3,-16,4\nend\n",
+        0,
+        "answer,1,general,optimal\nvalue,2,1\ntable,1\nlottery,low,1,0\nlottery,high,0,1\npay,low,0\npay,high,4\nbound,3\nrow,1,0,1\nrow,2,0,4\nrow,3,0,2\nrow,5,0,12\nend\n",
         "",
     ),
     (
@@ -85,7 +85,7 @@ static WALKS: [Walk; 11] = [
         &["replay", "setting", "second", "--width", "4"],
         "pivot,4,0\npivot,1,1\nend\n",
         12,
-        "basis,0,1,8\nbasis,1,1,8\nwide,3,3,-25,5\nrule,2\nend\n",
+        "basis,0,1,8\nbasis,1,1,8\nwide,3,3,-25,5\nrule,2\nagain,0\nend\n",
         "",
     ),
     (
@@ -214,7 +214,7 @@ fn follows_the_path_to_its_end(rt: HostRuntime) -> Result<(), Fail> {
     )?;
     assert_eq!(rt; walked.status, 0);
     assert!(rt; walked.out.bytes().starts_with(b"basis,0,1,4\n"));
-    assert!(rt; walked.out.bytes().ends_with(b"rule,7\nend\n"));
+    assert!(rt; walked.out.bytes().ends_with(b"rule,7\nagain,0\nend\n"));
     Ok(())
 }
 

@@ -237,7 +237,7 @@ static PROGRAMS: [(&str, &str); 2] = [
 ];
 
 // A setting, an answer, the status and what `check` prints.
-static CHECKS: [(&str, &str, u8, &str); 16] = [
+static CHECKS: [(&str, &str, u8, &str); 17] = [
     (ONE_TYPE, ONE_TYPE_TABLE, 22, "undecided\n"),
     (
         POSTED_PRICE,
@@ -326,6 +326,12 @@ static CHECKS: [(&str, &str, u8, &str); 16] = [
     (
         POSTED_PRICE,
         "answer,1,general,toowide\npivot,4,0\npivot,1,1\nwide,3,3,-25,5\nend\n",
+        22,
+        "undecided\n",
+    ),
+    (
+        POSTED_PRICE,
+        "answer,2,general,toowide\nwide,1,1,20,1\nagain\nwide,1,1,20,1\nend\n",
         22,
         "undecided\n",
     ),

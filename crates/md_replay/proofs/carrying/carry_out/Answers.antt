@@ -1,7 +1,7 @@
 use Rattle.std.proofs.Common.{◌≡◌, ◌+◌, ◌++◌, ◌∷◌, [], length, take, length-take-le, IsTrue, Bool, false, subst, arith}
 use Rattle.std.proofs.lemmas.List.{take_all}
 use Rattle.md_dict.specs.Condensed.{IsShapedDictionary}
-use Rattle.md_replay.specs.Replay.{IsFollowed}
+use Rattle.md_replay.specs.Replay.{AreFollowed}
 use Rattle.md_replay.specs.Standing.{CanPivot, IsToldTo}
 use Rattle.md_replay.proofs.Carried.{at_on, refused_here, replayed_wide, replayed_whole, told_on}
 use Rattle.md_replay.proofs.StandingLaws.{IsAt-first}
@@ -31,11 +31,11 @@ returns-in-Err-pivot-clause-replayed c =
     let size : length carried ≡ c.loop-place.place = length-take-le c.loop-place.place c.args.pivots.now (omega arith) in
     let told : IsToldTo c.args.lp.now carried (length carried + 1) c.tell.new.told =
     told_here c.args.lp.now c.args.width carried c.loop-place.dict c.loop-place.told c.tell.new.told c.loop-place.invariant.at c.loop-place.invariant.told c.in_ok-tell.ensures in
-    let followed : IsFollowed c.args.lp.now (carried ++ c.get-pivot.result ∷ []) c.followed_by.result =
-    c.followed_by.ensures c.args.lp.now c.args.width carried c.loop-place.invariant.at (omega arith) told.followed in
+    let followed : AreFollowed c.args.lp.now (carried ++ c.get-pivot.result ∷ []) c.followed_with-told.result =
+    c.followed_with-told.ensures c.args.lp.now c.args.width carried c.loop-place.invariant.at (omega arith) told.followed in
     let can : CanPivot c.loop-place.dict c.get-pivot.result = c.can_pivot.ensures.0 c.if-not-can_pivot.false in
     replayed_wide c.args.lp.now c.args.width c.args.pivots.now c.loop-place.place c.loop-place.dict c.loop-place.invariant.at (subst IsShapedDictionary c.dict.view_is c.dict.invariant.0)
-    c.get-pivot.result c.get-pivot.ensures c.tell.new.told.dens c.tell.new.told.greatest c.followed_by.result c.in-Err-pivot.refusal.entry
+    c.get-pivot.result c.get-pivot.ensures c.tell.new.told.dens c.tell.new.told.greatest c.followed_with-told.result c.in-Err-pivot.refusal.entry
     told.bases told.count_is followed can (c.in-Err-pivot.ensures.too_wide c.args.lp.now c.loop-place.invariant.at.holds)
 
 pub loop-place-preserved : goal.loop-place-preserved
@@ -44,8 +44,8 @@ loop-place-preserved c =
     let size : length carried ≡ c.loop-place.place = length-take-le c.loop-place.place c.args.pivots.now (omega arith) in
     let told : IsToldTo c.args.lp.now carried (length carried + 1) c.tell.new.told =
     told_here c.args.lp.now c.args.width carried c.loop-place.dict c.loop-place.told c.tell.new.told c.loop-place.invariant.at c.loop-place.invariant.told c.in_ok-tell.ensures in
-    let followed : IsFollowed c.args.lp.now (carried ++ c.get-pivot.result ∷ []) c.followed_by.result =
-    c.followed_by.ensures c.args.lp.now c.args.width carried c.loop-place.invariant.at (omega arith) told.followed in
+    let followed : AreFollowed c.args.lp.now (carried ++ c.get-pivot.result ∷ []) c.followed_with-told.result =
+    c.followed_with-told.ensures c.args.lp.now c.args.width carried c.loop-place.invariant.at (omega arith) told.followed in
     let can : CanPivot c.loop-place.dict c.get-pivot.result = c.can_pivot.ensures.0 c.if-not-can_pivot.false in
     record {
       at =
@@ -53,7 +53,7 @@ loop-place-preserved c =
           c.get-pivot.result c.get-pivot.ensures c.pivot.new.self can (c.in_default.ensures.dictionary c.args.lp.now c.loop-place.invariant.at.holds) c.in_default.ensures.basis;
       told =
           told_on c.args.lp.now c.args.width c.args.pivots.now c.loop-place.place c.loop-place.dict c.loop-place.invariant.at (subst IsShapedDictionary c.dict.view_is c.dict.invariant.0)
-          c.get-pivot.result c.get-pivot.ensures c.tell.new.told.dens c.tell.new.told.greatest c.tell.new.told.wide c.followed_by.result
+          c.get-pivot.result c.get-pivot.ensures c.tell.new.told.dens c.tell.new.told.greatest c.tell.new.told.wide c.followed_with-told.result
           told.bases told.count_is told.wide followed;
     }
 

@@ -16,7 +16,7 @@ loop-step-init c = record {
       subst (λ (path : List Pivot). IsReached c.args.order c.args.lp.now c.args.width path c.in_ok-dict.dict) (sym c.new-path.ensures)
       (IsReached-first c.args.order c.args.lp.now c.args.width c.in_ok-dict.dict c.in_ok-dict.ensures.ok
       (IsNarrow-shaped c.in_ok-dict.dict (subst IsShapedDictionary c.dict.view_is c.dict.invariant.0)));
-  next = c.next_in-step.ensures;
+  next = c.next-step.ensures.next;
 }
 
 pub returns-in-Err-clause-left : goal.returns-in-Err-clause-left
@@ -43,7 +43,7 @@ loop-step-preserved c =
           subst (λ (path : List Pivot). IsReached c.args.order c.args.lp.now c.args.width path c.pivot.new.self) (sym c.in_ok-push.ensures.ok)
           (IsReached-more c.args.order c.args.lp.now c.args.width c.loop-step.path c.loop-step.dict c.pivot.new.self c.in-Pivot.pivot c.loop-step.invariant.reached next
           (c.in_default-pivot.ensures.dictionary c.args.lp.now c.loop-step.invariant.reached.holds) c.in_default-pivot.ensures.basis c.in_default-pivot.ensures.narrow);
-      next = c.next_in-step-in-Pivot.ensures;
+      next = c.next-step-in-Pivot.ensures.next;
     }
 
 pub returns-in_err-dict-clause-left : goal.returns-in_err-dict-clause-left

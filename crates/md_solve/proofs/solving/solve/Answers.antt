@@ -16,15 +16,16 @@ use Rattle.std.proofs.Common.{◌↔◌}
 use Rattle.md_solve.proofs.Claims.{if_both, exactly_infeasible, exactly_unbounded, so-admissible, so-claims, certified-every}
 use Rattle.md_solve.proofs.OneAnswer.{one_answer}
 use Rattle.md_solve.proofs.SameAnswers.{solved-every}
-use Rattle.md_solve.proofs.SamePaths.{path_of-same, begins-same, narrow-same, wide_at-same}
+use Rattle.md_simplex.specs.declared.order.Order.TheVariants.{Forward, Backward}
+use Rattle.md_simplex.proofs.SamePaths.{meets-same, taken-same}
 use Rattle.md_solve.proofs.solving.solve.Goals as goal
 
-pub returns-clause-narrow : goal.returns-clause-narrow
-returns-clause-narrow c p pivots step is path narrow =
+pub returns-clause-taken : goal.returns-clause-taken
+returns-clause-taken c p order pivots step is taken =
     let s = c.args.setting.now in
     let lp = c.in_ok-lp.lp in
     let same = same_program s p lp is c.in_ok-lp.ensures.program in
-    c.answer.ensures.narrow pivots step (path_of-same p lp same pivots step path) (narrow-same p lp same c.args.width pivots narrow)
+    c.answer.ensures.taken order pivots step (taken-same p lp same order c.args.width pivots step taken)
 
 pub returns-clause-admissible : goal.returns-clause-admissible
 returns-clause-admissible c =
@@ -48,11 +49,11 @@ returns-clause-no_bound c =
     if_ok c.answer.result (IsSo s) (λ a. ¬ IsTooWide a → ClaimsUnbounded a ↔ HasNoBound s) (λ a h. exactly_unbounded s a total h) c.answer.ensures.so
 
 pub returns-clause-wide : goal.returns-clause-wide
-returns-clause-wide c p pivots entry is begins wide =
+returns-clause-wide c p is forward backward =
     let s = c.args.setting.now in
     let lp = c.in_ok-lp.lp in
     let same = same_program s p lp is c.in_ok-lp.ensures.program in
-    c.answer.ensures.wide pivots entry (begins-same p lp same pivots begins) (wide_at-same p lp same c.args.width pivots entry wide)
+    c.answer.ensures.wide (meets-same p lp same Forward c.args.width forward) (meets-same p lp same Backward c.args.width backward)
 
 pub returns-clause-certified : goal.returns-clause-certified
 returns-clause-certified c p is =

@@ -1,4 +1,4 @@
--- Programs with the same numbers at the same places have the same path.
+-- Programs with the same numbers at the same places have the same paths.
 use Rattle.std.proofs.Common.{◌≡◌, ℕ, zero, suc, ◌+◌, ◌<◌, Bool, ℤ, pos, negsuc, neg_ℤ, ◌+ℤ◌, ◌*ℤ◌, List, [], ◌∷◌, refl, sym, ap, ◌∙◌, subst, inl, inr}
 use Rattle.std.specs.Prelude.{◌&&◌, ◌==◌, nat_lt, int_lt, if◌then◌else◌}
 use Rattle.std.proofs.lemmas.Bool.{cases_lt, lt-ltb, le-ltb}
@@ -12,12 +12,13 @@ use Rattle.md_num.specs.Limits.{limit_of}
 use Rattle.md_dict.specs.Dictionary.{IsDictionary}
 use Rattle.md_dict.specs.FirstTable.{is_at_most, slacks_before, column_count, sign_at, row_entry, main_entry, first_entry, first_basis}
 use Rattle.md_dict.specs.Wide.{IsWideBasis}
-use Rattle.md_simplex.specs.declared.order.Order.TheVariants.{Forward}
+use Rattle.md_simplex.specs.declared.order.Order.{Order}
+use Rattle.md_simplex.specs.declared.order.Order.TheVariants.{Forward, Backward}
 use Rattle.md_simplex.specs.declared.step.Step.{Step}
 use Rattle.md_simplex.specs.declared.step.Step.TheVariants as steps
 use Rattle.md_simplex.specs.Rules.{HasNext}
 use Rattle.md_simplex.specs.Path.{after, basis_after, IsPathFrom, IsWholePath, IsNarrowBasis, AllBefore}
-use Rattle.md_simplex.specs.Runs.{BeginsPath, IsNarrowPath, IsPathOf, IsWideAt, basis_of}
+use Rattle.md_simplex.specs.Runs.{BeginsPath, IsFirstWideIn, IsNarrowPath, IsPathOf, IsTaken, IsTried, IsWideAt, MeetsWideBasis, basis_of}
 
 -- ---- tables
 
@@ -39,12 +40,12 @@ dictionary-same m n t u basis den e same h = record {
   reduced = h.reduced;
 }
 
-next-same : (m n : ℕ) (t u : ℕ → ℕ → ℤ) (basis : ℕ → ℕ) (step : Step) → IsSameTable t u → HasNext Forward m n t basis step → HasNext Forward m n u basis step
-next-same m n t u basis step same h = record { den = h.den; table = h.table; dictionary = dictionary-same m n t u basis h.den h.table same h.dictionary; next = h.next }
+next-same : (order : Order) (m n : ℕ) (t u : ℕ → ℕ → ℤ) (basis : ℕ → ℕ) (step : Step) → IsSameTable t u → HasNext order m n t basis step → HasNext order m n u basis step
+next-same order m n t u basis step same h = record { den = h.den; table = h.table; dictionary = dictionary-same m n t u basis h.den h.table same h.dictionary; next = h.next }
 
-pub path-same : (m n : ℕ) (t u : ℕ → ℕ → ℤ) (basis : ℕ → ℕ) (pivots : List Pivot) → IsSameTable t u → IsPathFrom Forward m n t basis pivots → IsPathFrom Forward m n u basis pivots
-path-same m n t u basis [] same h = tt
-path-same m n t u basis (p ∷ pivots) same h = (next-same m n t u basis (steps.Pivot p) same h.0, path-same m n t u (after basis p) pivots same h.1)
+pub path-same : (order : Order) (m n : ℕ) (t u : ℕ → ℕ → ℤ) (basis : ℕ → ℕ) (pivots : List Pivot) → IsSameTable t u → IsPathFrom order m n t basis pivots → IsPathFrom order m n u basis pivots
+path-same order m n t u basis [] same h = tt
+path-same order m n t u basis (p ∷ pivots) same h = (next-same order m n t u basis (steps.Pivot p) same h.0, path-same order m n t u (after basis p) pivots same h.1)
 
 narrow_basis-same : (m n : ℕ) (t u : ℕ → ℕ → ℤ) (basis : ℕ → ℕ) (limit : ℕ) → IsSameTable t u → IsNarrowBasis m n t basis limit → IsNarrowBasis m n u basis limit
 narrow_basis-same m n t u basis limit same h = record { den = h.den; table = h.table; dictionary = dictionary-same m n t u basis h.den h.table same h.dictionary; narrow = h.narrow }
@@ -121,13 +122,13 @@ module _ (p q : Program) (h : IsSameProgram p q) where
       (subst (λ m. F m (column_count p) (first_entry q) (λ i. column_count p + i)) h.rows
       (moves (row_count p) (column_count p) (first_entry p) (first_entry q) (first_basis p) table-same f))
 
-  pub path_of-same : (pivots : List Pivot) (step : Step) → IsPathOf p pivots step → IsPathOf q pivots step
-  path_of-same pivots step =
-      carry (λ m n t b. IsWholePath Forward m n t b pivots step)
-      (λ m n t u b same f. record { path = path-same m n t u b pivots same f.path; last = next-same m n t u (basis_after b pivots) step same f.last; ends = f.ends })
+  pub path_of-same : (order : Order) (pivots : List Pivot) (step : Step) → IsPathOf order p pivots step → IsPathOf order q pivots step
+  path_of-same order pivots step =
+      carry (λ m n t b. IsWholePath order m n t b pivots step)
+      (λ m n t u b same f. record { path = path-same order m n t u b pivots same f.path; last = next-same order m n t u (basis_after b pivots) step same f.last; ends = f.ends })
 
-  pub begins-same : (pivots : List Pivot) → BeginsPath p pivots → BeginsPath q pivots
-  begins-same pivots = carry (λ m n t b. IsPathFrom Forward m n t b pivots) (λ m n t u b same f. path-same m n t u b pivots same f)
+  begins-same : (order : Order) (pivots : List Pivot) → BeginsPath order p pivots → BeginsPath order q pivots
+  begins-same order pivots = carry (λ m n t b. IsPathFrom order m n t b pivots) (λ m n t u b same f. path-same order m n t u b pivots same f)
 
   pub narrow-same : (width : ℕ) (pivots : List Pivot) → IsNarrowPath p width pivots → IsNarrowPath q width pivots
   narrow-same width pivots f = record {
@@ -135,7 +136,33 @@ module _ (p q : Program) (h : IsSameProgram p q) where
     last = carry (λ m n t b. IsNarrowBasis m n t (basis_after b pivots) (limit_of width)) (λ m n t u b same g. narrow_basis-same m n t u (basis_after b pivots) (limit_of width) same g) f.last;
   }
 
-  pub wide_at-same : (width : ℕ) (pivots : List Pivot) (entry : Entry) → IsWideAt p width (basis_of p pivots) entry → IsWideAt q width (basis_of q pivots) entry
+  wide_at-same : (width : ℕ) (pivots : List Pivot) (entry : Entry) → IsWideAt p width (basis_of p pivots) entry → IsWideAt q width (basis_of q pivots) entry
   wide_at-same width pivots entry =
       carry (λ m n t b. IsWideBasis m n t (basis_after b pivots) (limit_of width) entry)
       (λ m n t u b same g. record { den = g.den; table = g.table; dictionary = dictionary-same m n t u (basis_after b pivots) g.den g.table same g.dictionary; first = g.first })
+
+  pub meets-same : (order : Order) (width : ℕ) → MeetsWideBasis order p width → MeetsWideBasis order q width
+  meets-same order width given = record {
+    pivots = given.pivots;
+    entry = given.entry;
+    begins = begins-same order given.pivots given.begins;
+    wide = wide_at-same width given.pivots given.entry given.wide;
+  }
+
+  pub first_wide-same : (order : Order) (width : ℕ) (pivots : List Pivot) (entry : Entry) → IsFirstWideIn order p width pivots entry → IsFirstWideIn order q width pivots entry
+  first_wide-same order width pivots entry given = record {
+    path = begins-same order pivots given.path;
+    narrow = carry (λ m n t b. AllBefore (λ c. IsNarrowBasis m n t c (limit_of width)) b pivots) (λ m n t u b same f. before-same m n t u b (limit_of width) pivots same f) given.narrow;
+    wide = wide_at-same width pivots entry given.wide;
+  }
+
+  pub tried-same : (order : Order) (width : ℕ) → IsTried order p width → IsTried order q width
+  tried-same Forward width given = tt
+  tried-same Backward width given = record { wide = given.wide; first = first_wide-same Forward width given.wide.path given.wide.entry given.first }
+
+  pub taken-same : (order : Order) (width : ℕ) (pivots : List Pivot) (step : Step) → IsTaken order p width pivots step → IsTaken order q width pivots step
+  taken-same order width pivots step given = record {
+    tried = tried-same order width given.tried;
+    whole = path_of-same order pivots step given.whole;
+    narrow = narrow-same width pivots given.narrow;
+  }

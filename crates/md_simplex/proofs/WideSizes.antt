@@ -25,18 +25,17 @@ use Rattle.md_dict.proofs.Exchange.{limit_le}
 use Rattle.md_dict.proofs.FirstLaws.{first_dictionary, IsFirstTable-first_entry}
 use Rattle.md_dict.proofs.RawPivot.{basic_own, raw_own, raw_other, raw_pivot}
 use Rattle.md_dict.proofs.Uniqueness.{proportional, same_dens, same_entries}
-use Rattle.md_simplex.specs.declared.order.Order.TheVariants.{Forward}
+use Rattle.md_simplex.specs.declared.order.Order.{Order}
 use Rattle.md_simplex.specs.declared.step.Step.TheVariants as steps
 use Rattle.md_simplex.specs.Rules.{HasNext}
 use Rattle.md_simplex.specs.Path.{after, basis_after, IsPathFrom, IsNarrowBasis, AllBefore}
-use Rattle.md_simplex.specs.Runs.{IsFirstWideOf}
+use Rattle.md_simplex.specs.Runs.{IsFirstWideIn}
 use Rattle.md_simplex.proofs.PathLaws.{entering_in}
 use Rattle.md_simplex.proofs.ReadFits.{signed-within}
-use Rattle.md_answer.specs.AnswerTo.{IsFraction}
-use Rattle.md_solve.proofs.ValueLaws.{num-size, den-size}
+use Rattle.md_simplex.proofs.QuotientSizes.{num-size, den-size}
 
 -- the greatest size of a number that is written
-abbrev wide_limit : ℕ
+abbrev pub wide_limit : ℕ
 wide_limit = 2 ^ 126 - 1
 
 abbrev width_limit : ℕ
@@ -102,16 +101,16 @@ module _ (m n : ℕ) (t : ℕ → ℕ → ℤ) (basis : ℕ → ℕ) (den : ℤ)
           Divides-from_coprime_table (m + 2) (n + m + 1) f d (den *ℤ e row column) h.reduced.only_one
           (λ r j a b. Divides-from_product d (raw_entry row column den e r j) ((den *ℤ e row column) *ℤ f r j) (sym (cross d f h r j a b)))
 
-pivot-sizes : (m n : ℕ) (t : ℕ → ℕ → ℤ) (basis : ℕ → ℕ) (limit : ℕ) (p : Pivot) → limit ≤ width_limit → HasNext Forward m n t basis (steps.Pivot p) → IsNarrowBasis m n t basis limit → HasSizes m n t (after basis p)
-pivot-sizes m n t basis limit p few next narrow =
-    after-sizes m n t basis next.den next.table p.row p.column next.dictionary next.next.1.inside (entering_in Forward m n next.table p.column next.next.0) next.next.1.positive
+pivot-sizes : (order : Order) (m n : ℕ) (t : ℕ → ℕ → ℤ) (basis : ℕ → ℕ) (limit : ℕ) (p : Pivot) → limit ≤ width_limit → HasNext order m n t basis (steps.Pivot p) → IsNarrowBasis m n t basis limit → HasSizes m n t (after basis p)
+pivot-sizes order m n t basis limit p few next narrow =
+    after-sizes m n t basis next.den next.table p.row p.column next.dictionary next.next.1.inside (entering_in order m n next.table p.column next.next.0) next.next.1.positive
     (λ r j a b. subst (IsWithin width_limit) (sym (same_entries m n t basis next.den narrow.den next.table narrow.table next.dictionary narrow.dictionary r j a b))
     (IsWithin-wider limit width_limit (narrow.table r j) few (narrow.narrow.entries r j a b)))
 
-path-sizes : (m n : ℕ) (t : ℕ → ℕ → ℤ) (basis : ℕ → ℕ) (limit : ℕ) (pivots : List Pivot) → limit ≤ width_limit → HasSizes m n t basis → IsPathFrom Forward m n t basis pivots → AllBefore (λ b. IsNarrowBasis m n t b limit) basis pivots
+path-sizes : (order : Order) (m n : ℕ) (t : ℕ → ℕ → ℤ) (basis : ℕ → ℕ) (limit : ℕ) (pivots : List Pivot) → limit ≤ width_limit → HasSizes m n t basis → IsPathFrom order m n t basis pivots → AllBefore (λ b. IsNarrowBasis m n t b limit) basis pivots
     → HasSizes m n t (basis_after basis pivots)
-path-sizes m n t basis limit [] few sizes path narrow = sizes
-path-sizes m n t basis limit (p ∷ pivots) few sizes path narrow = path-sizes m n t (after basis p) limit pivots few (pivot-sizes m n t basis limit p few path.0 narrow.0) path.1 narrow.1
+path-sizes order m n t basis limit [] few sizes path narrow = sizes
+path-sizes order m n t basis limit (p ∷ pivots) few sizes path narrow = path-sizes order m n t (after basis p) limit pivots few (pivot-sizes order m n t basis limit p few path.0 narrow.0) path.1 narrow.1
 
 -- ---- the first basis
 
@@ -171,9 +170,15 @@ first-sizes p shaped = record {
 
 -- ---- the first wide entry
 
-pub wide-fits : (p : Program) (width : ℕ) (pivots : List Pivot) (entry : Entry) → IsShaped p → width ≤ 62 → IsFirstWideOf p width pivots entry → IsFraction entry.num entry.den
-wide-fits p width pivots entry shaped few wide =
-    let sizes = path-sizes (row_count p) (column_count p) (first_entry p) (first_basis p) (limit_of width) pivots (limit_le width few) (first-sizes p shaped) wide.path wide.narrow in
+-- the numbers of an entry can be written
+pub record HasEntrySizes (entry : Entry) : Type 0 where
+  pub positive : pos 1 ≤ℤ entry.den
+  pub num_size : IsWithin wide_limit entry.num
+  pub den_size : IsWithin wide_limit entry.den
+
+pub wide-sizes : (order : Order) (p : Program) (width : ℕ) (pivots : List Pivot) (entry : Entry) → IsShaped p → width ≤ 62 → IsFirstWideIn order p width pivots entry → HasEntrySizes entry
+wide-sizes order p width pivots entry shaped few wide =
+    let sizes = path-sizes order (row_count p) (column_count p) (first_entry p) (first_basis p) (limit_of width) pivots (limit_le width few) (first-sizes p shaped) wide.path wide.narrow in
     let basis = wide.wide in
     let above : pos 1 ≤ℤ basis.den = omega (arith, ints, basis.dictionary.scaled.positive) in
     record {

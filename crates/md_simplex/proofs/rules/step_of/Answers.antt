@@ -1,6 +1,6 @@
 use Rattle.md_dict.specs.Condensed.{entry_at}
 use Rattle.md_simplex.proofs.NextLaws.{entering_face, entering_main}
-use Rattle.md_simplex.proofs.rules.next_in.Goals as goal
+use Rattle.md_simplex.proofs.rules.step_of.Goals as goal
 
 pub returns-in-Some : goal.returns-in-Some
 returns-in-Some c = c.step_at.ensures c.args.order (entering_face c.args.order c.args.dict.now.rows c.args.dict.now.columns (entry_at c.args.dict.now) c.in-Some.column c.in-Some.ensures)
