@@ -1,0 +1,15 @@
+pub mod BoundedTests
+pub mod SetLaws
+pub mod Worst
+pub mod Listed
+pub mod Members
+pub mod Rows
+pub mod Bottlenecks
+pub mod SearchLaws
+pub mod LabelLaws
+pub mod Potential
+pub mod Changes
+pub mod Cells
+pub mod PathLaws
+pub mod NetLaws
+pub mod SmallLists

@@ -1,0 +1,5 @@
+use Rattle.md_flow.proofs.LabelLaws.{IsDemandLabelBelow}
+use Rattle.md_flow.proofs.labels.demand_label.Given as goal
+
+abbrev pub invariant-loop-node : goal.invariant-loop-node
+invariant-loop-node l = IsDemandLabelBelow l.net l.nodes.items l.demand l.node l.label

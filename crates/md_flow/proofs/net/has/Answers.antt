@@ -1,0 +1,7 @@
+use Rattle.std.proofs.Common.{refl}
+use Rattle.md_flow.specs.Network.{member}
+use Rattle.md_flow.proofs.net.has.Goals as goal
+
+pub returns : goal.returns
+unfolding member
+returns c = refl

@@ -1,0 +1,10 @@
+pub mod Network
+pub mod Flows
+pub mod Over
+pub mod Labels
+pub mod Paths
+pub mod Tables
+pub mod Costs
+pub mod Search
+pub mod Potential
+pub mod Ends

@@ -1,0 +1,10 @@
+use md_num::Nums;
+
+/// What comes of a net. Amounts are listed by source node, and then by demand.
+#[derive(Debug, Drop)]
+pub enum FlowEnd {
+    /// The amounts of a flow that gives each demand exactly.
+    Full(Nums),
+    /// The largest set that is over its caps by most, and the amounts of a part flow that carries all demands but what the set is over by.
+    Cut { set: u32, amounts: Nums },
+}
