@@ -21,6 +21,7 @@ fn buyer(alloc: Global) -> Result<RawSetting, AllocError> {
         weights: vec![in alloc; 1, 1]?,
         outside: vec![in alloc; 0, 0]?,
         utility: vec![in alloc; vec![in alloc; 0, 1]?, vec![in alloc; 0, 3]?]?,
+        at: None,
     };
     Ok(RawSetting {
         agents: vec![in alloc; agent]?,
@@ -43,6 +44,7 @@ fn voter(alloc: Global, name: &str) -> Result<RawAgent, AllocError> {
         weights: vec![in alloc; 1, 1]?,
         outside: vec![in alloc; 0, 0]?,
         utility: vec![in alloc; vec![in alloc; 1, 0]?, vec![in alloc; 0, 1]?]?,
+        at: None,
     })
 }
 
@@ -75,6 +77,7 @@ fn lone(
         weights: vec![in alloc; 1]?,
         outside: vec![in alloc; 1]?,
         utility: vec![in alloc; vec![in alloc; 0]?]?,
+        at: None,
     };
     Ok(RawSetting {
         agents: vec![in alloc; agent]?,
@@ -98,6 +101,7 @@ fn choice(alloc: Global) -> Result<RawSetting, AllocError> {
         weights: vec![in alloc; 1]?,
         outside: vec![in alloc; 1]?,
         utility: vec![in alloc; vec![in alloc; 1, 0]?]?,
+        at: None,
     };
     Ok(RawSetting {
         agents: vec![in alloc; agent]?,

@@ -24,6 +24,7 @@ fn sale(alloc: Global) -> Result<RawSetting, AllocError> {
         weights: vec![in alloc; 1, 1]?,
         outside: vec![in alloc; 0, 0]?,
         utility: vec![in alloc; vec![in alloc; 0, 1]?, vec![in alloc; 0, 3]?]?,
+        at: None,
     };
     Ok(RawSetting {
         agents: vec![in alloc; buyer]?,
@@ -47,6 +48,7 @@ fn lone(alloc: Global, rational: Rational, payments: bool) -> Result<RawSetting,
         weights: vec![in alloc; 1]?,
         outside: vec![in alloc; 1]?,
         utility: vec![in alloc; vec![in alloc; 0]?]?,
+        at: None,
     };
     Ok(RawSetting {
         agents: vec![in alloc; agent]?,

@@ -5,10 +5,11 @@ use Rattle.std.proofs.lemmas.Int.{ints}
 use Rattle.std.proofs.lemmas.List.{length-replicate}
 use Rattle.md_math.proofs.Ring.{linear}
 use Rattle.md_math.proofs.SumLaws.{sum_to-more, sum_to-zero, sum_to-at_least, sum_to-same, sum_to-neg_ℤ}
+use Rattle.md_math.proofs.BoundedTests.{and-left, and-right, and-both}
+use Rattle.md_math.proofs.Order.{chosen, not_chosen}
 use Rattle.md_flow.specs.Flows.{given_by, got_by}
 use Rattle.md_flow.specs.Paths.{amount_at_pairs, IsShifted, IsRoute, node_at, demand_at, last_of}
 use Rattle.md_flow.specs.Tables.{cell_of, IsGrown, AreKept}
-use Rattle.md_flow.proofs.BoundedTests.{and-left, and-right, and-both, chosen, not_chosen}
 use Rattle.md_flow.proofs.PathLaws.{pairs-none, given-shifted, got-shifted}
 
 -- two places are the same only where node and demand are

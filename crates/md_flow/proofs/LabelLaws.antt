@@ -4,11 +4,10 @@ use Rattle.std.proofs.lemmas.Bool.{cases_lt}
 use Rattle.std.proofs.lemmas.List.{length-replicate}
 use Rattle.std.proofs.lemmas.Int.{ints}
 use Rattle.md_math.proofs.Ring.{linear}
-use Rattle.md_math.proofs.SumLaws.{sum_to-nonneg}
+use Rattle.md_math.proofs.SumLaws.{sum_to-nonneg, sum_to-less}
 use Rattle.md_math.specs.Sums.{sum_to}
 use Rattle.md_flow.specs.Network.{Network, node_count, demand_count, touches}
 use Rattle.md_flow.specs.Labels.{room_at, top_of, label_at, AreLabels, AreRaised, AreReached, AreLinked, IsNodeLabel, IsDemandLabel, ReachesDemand}
-use Rattle.md_flow.proofs.BoundedTests.{sum_to-less}
 use Rattle.md_flow.proofs.Cells.{get_or-zeros}
 
 -- ---- the label of one node, after the first i demands

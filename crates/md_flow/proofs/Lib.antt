@@ -1,4 +1,4 @@
-pub mod BoundedTests
+pub mod AnyBelow
 pub mod SetLaws
 pub mod Worst
 pub mod Listed

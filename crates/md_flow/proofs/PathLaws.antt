@@ -2,11 +2,12 @@
 use Rattle.std.proofs.Common.{◌≡◌, ℕ, suc, ◌+◌, ◌<◌, ◌≤◌, ℤ, pos, ◌+ℤ◌, ◌-ℤ◌, ◌≤ℤ◌, inl, inr, Bool, true, false, ◌&&◌, ◌==◌, if◌then◌else◌, refl, sym, ◌∙◌, arith, eqb-true, eq-eqb, ne_eqb}
 use Rattle.std.proofs.lemmas.Bool.{cases_eq}
 use Rattle.md_math.proofs.Ring.{linear}
-use Rattle.md_math.proofs.SumLaws.{sum_to-same, sum_to-+ℤ, sum_to-zero, sum_to-swap, sum_to-sub, sum_to-at, sum_to-nonneg, sum_to-at_least}
+use Rattle.md_math.proofs.SumLaws.{sum_to-same, sum_to-+ℤ, sum_to-zero, sum_to-swap, sum_to-sub, sum_to-at, sum_to-nonneg, sum_to-at_least, sum_to-front}
 use Rattle.md_math.specs.Sums.{sum_to}
+use Rattle.md_math.proofs.BoundedTests.{and-left, and-right, and-both}
+use Rattle.md_math.proofs.Order.{chosen}
 use Rattle.md_flow.specs.Flows.{given_by, got_by}
 use Rattle.md_flow.specs.Paths.{amount_at_pairs, IsShifted}
-use Rattle.md_flow.proofs.BoundedTests.{and-left, and-right, and-both, sum_to-front, chosen}
 
 -- an amount where two tests hold
 both_tests : (p q : Bool) (z : ℤ) → (if p && q then z else pos 0) ≡ (if q then (if p then z else pos 0) else pos 0)

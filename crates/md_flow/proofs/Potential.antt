@@ -4,8 +4,8 @@ use Rattle.std.proofs.lemmas.Bool.{cases_eq}
 use Rattle.std.proofs.lemmas.Int.{ints, by_lt_z}
 use Rattle.md_math.proofs.Ring.{linear, ring, *ℤ-one, *ℤ-+ℤ}
 use lib.IntN.{*ℤ_comm}
-use Rattle.md_math.proofs.Order.{*ℤ-le, nonneg-*ℤ}
-use Rattle.md_math.proofs.SumLaws.{sum_to-same, sum_to-le, sum_to-nonneg, sum_to-*ℤ}
+use Rattle.md_math.proofs.Order.{*ℤ-le, nonneg-*ℤ, chosen-nonneg}
+use Rattle.md_math.proofs.SumLaws.{sum_to-same, sum_to-le, sum_to-nonneg, sum_to-*ℤ, sum_to-less}
 use Rattle.md_math.specs.Sums.{sum_to}
 use Rattle.md_flow.specs.Network.{Network, node_count, demand_count, cap_of, want_of, touches}
 use Rattle.md_flow.specs.Flows.{given_by, got_by, IsPartFlow}
@@ -13,7 +13,6 @@ use Rattle.md_flow.specs.Labels.{room_at, lack_at, top_of, label_at, AreLabels, 
 use Rattle.md_flow.specs.Paths.{amount_at_pairs, IsShifted, IsRoute, IsLevelled, IsBottleneck, node_at, demand_at, last_of}
 use Rattle.md_flow.specs.Potential.{is_positive, one_if, pair_term, potential}
 use Rattle.md_flow.specs.Costs.{pair_count, vertex_count, edge_count}
-use Rattle.md_flow.proofs.BoundedTests.{sum_to-less}
 use Rattle.md_flow.proofs.Worst.{ones}
 use Rattle.md_flow.proofs.PathLaws.{pairs-none, pairs-nonneg, pairs-here, given-shifted, got-shifted}
 
@@ -206,10 +205,6 @@ cell_term net x y nodes demands path amount h u d b c =
       | inl same ↦ term-level (touches net u d) (y u d) (x u d) (top_of net) (label_at nodes u) (label_at demands d) same
       | inr apart ↦ term-less (touches net u d) (y u d) (x u d) (top_of net) (label_at nodes u) (label_at demands d) (amount-less net x y nodes demands path amount h u d b c apart) (λ t. h.labels.along u d b c t)
     ]
-
-chosen-nonneg : (t : Bool) (z : ℤ) → pos 0 ≤ℤ z → pos 0 ≤ℤ (if t then z else pos 0)
-chosen-nonneg true z p = p
-chosen-nonneg false z p = omega (arith, ints)
 
 room-after : (net : Network) (x y : ℕ → ℕ → ℤ) (nodes demands : List ℕ) (path : List ℤ) (amount : ℤ) → IsStep net x y nodes demands path amount → (u : ℕ) → u < node_count net → room_at net y u ≡ room_at net x u -ℤ (if node_at path 0 == u then amount else pos 0)
 room-after net x y nodes demands path amount h u b =

@@ -1,13 +1,14 @@
 -- What a part flow says of any set of demands.
 use Rattle.std.proofs.Common.{◌≡◌, ℕ, ◌<◌, ℤ, pos, ◌+ℤ◌, ◌-ℤ◌, ◌≤ℤ◌, Bool, true, false, ◌&&◌, if◌then◌else◌, refl, sym, ap, ◌∙◌, arith}
 use Rattle.md_math.proofs.Ring.{linear}
-use Rattle.md_math.proofs.SumLaws.{sum_to-same, sum_to-+ℤ, sum_to-zero, sum_to-swap, sum_to-nonneg, sum_to-all_zero}
+use Rattle.md_math.proofs.SumLaws.{sum_to-same, sum_to-+ℤ, sum_to-zero, sum_to-swap, sum_to-nonneg, sum_to-all_zero, sum_to-by_test, sum_to-if}
 use Rattle.md_math.specs.Sums.{sum_to}
+use Rattle.md_math.proofs.Order.{chosen-nonneg, unchosen-nonneg}
+use Rattle.md_flow.proofs.AnyBelow.{any_below-false}
 use Rattle.md_flow.specs.Network.{Network, node_count, demand_count, cap_of, want_of, touches, want_sum}
 use Rattle.md_flow.specs.Flows.{given_by, got_by, carried, IsPartFlow}
 use Rattle.md_flow.specs.Over.{touches_some, over}
 use Rattle.md_flow.specs.Labels.{room_at, lack_at}
-use Rattle.md_flow.proofs.BoundedTests.{any_below-false, sum_to-by_test, sum_to-if}
 
 -- what a node gives to the demands of a set, and to the others
 abbrev inside : Network → (ℕ → ℕ → ℤ) → (ℕ → Bool) → ℕ → ℤ
@@ -84,14 +85,6 @@ room-nonneg net x u part b = (let h : given_by (demand_count net) x u ≤ℤ cap
 
 pub lack-nonneg : (net : Network) (x : ℕ → ℕ → ℤ) (d : ℕ) → IsPartFlow net x → d < demand_count net → pos 0 ≤ℤ lack_at net x d
 lack-nonneg net x d part b = (let h : got_by (node_count net) x d ≤ℤ want_of net d = part.wants d b in omega (arith, linear))
-
-chosen-nonneg : (t : Bool) (z : ℤ) → pos 0 ≤ℤ z → pos 0 ≤ℤ (if t then z else pos 0)
-chosen-nonneg true z h = h
-chosen-nonneg false z h = omega (arith, linear)
-
-unchosen-nonneg : (t : Bool) (z : ℤ) → pos 0 ≤ℤ z → pos 0 ≤ℤ (if t then pos 0 else z)
-unchosen-nonneg true z h = omega (arith, linear)
-unchosen-nonneg false z h = h
 
 lack_terms : (net : Network) (x : ℕ → ℕ → ℤ) (set : ℕ → Bool) → IsPartFlow net x → (d : ℕ) → d < demand_count net → pos 0 ≤ℤ (if set d then pos 0 else lack_at net x d)
 lack_terms net x set part d b = unchosen-nonneg (set d) (lack_at net x d) (lack-nonneg net x d part b)

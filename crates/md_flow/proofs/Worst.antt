@@ -7,11 +7,12 @@ use Rattle.md_math.proofs.Ring.{linear}
 use Rattle.md_math.proofs.Order.{≤ℤ_antisymm}
 use Rattle.md_math.proofs.SumLaws.{sum_to-same, sum_to-+ℤ, sum_to-zero, sum_to-le, sum_to-at_least, sum_to-positive, sum_to-sub, sum_to-swap}
 use Rattle.md_math.specs.Sums.{sum_to}
+use Rattle.md_math.proofs.BoundedTests.{and-left, and-right, and-both, true_or_false}
+use Rattle.md_flow.proofs.AnyBelow.{any_below-true, any_below-place}
 use Rattle.md_flow.specs.Network.{Network, node_count, demand_count, want_of, touches, want_sum}
 use Rattle.md_flow.specs.Flows.{got_by, carried, IsPartFlow, Meets}
 use Rattle.md_flow.specs.Over.{touches_some, over, NoneOver, IsWorst}
 use Rattle.md_flow.specs.Labels.{room_at, lack_at, top_of, label_at, AreLabels, AreReached, AllFull}
-use Rattle.md_flow.proofs.BoundedTests.{and-left, and-right, and-both, true_or_false, any_below-true, any_below-place}
 use Rattle.md_flow.proofs.SetLaws.{want_sum-parts, lack_outside, room_inside, given_outside, over-le, lack-nonneg, room-nonneg, IsTight, no_room, no_gift}
 
 -- ---- no label is left out: a label below the top is below the number of demands

@@ -12,3 +12,6 @@ pub mod SizeLaws
 pub mod SumLaws
 pub mod TotalLaws
 pub mod Prefixes
+pub mod ProductLaws
+pub mod QuotientSizes
+pub mod BoundedTests

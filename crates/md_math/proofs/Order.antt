@@ -1,5 +1,5 @@
 -- The order of signed numbers, and how products keep it.
-use Rattle.std.proofs.Common.{◌≡◌, ℕ, ◌*◌, ◌<◌, ℤ, pos, negsuc, ◌-ℤ◌, ◌*ℤ◌, neg_ℤ, ◌≤ℤ◌, ◌<ℤ◌, ◌⊎◌, inl, inr, sym, ◌∙◌, arith, mul-pos, Bool, true, false, if◌then◌else◌}
+use Rattle.std.proofs.Common.{◌≡◌, ℕ, ◌*◌, ◌<◌, ℤ, pos, negsuc, ◌-ℤ◌, ◌*ℤ◌, neg_ℤ, ◌≤ℤ◌, ◌<ℤ◌, ◌⊎◌, inl, inr, sym, ◌∙◌, arith, mul-pos, Bool, true, false, if◌then◌else◌, refl}
 use Rattle.std.proofs.lemmas.Int.{ints, by_lt_z}
 use Rattle.md_math.proofs.Ring.{linear, ring}
 
@@ -91,3 +91,15 @@ chosen-nonneg false z h = omega (arith, ints)
 pub chosen-le : (b : Bool) (z : ℤ) → pos 0 ≤ℤ z → (if b then z else pos 0) ≤ℤ z
 chosen-le true z h = omega (arith, ints)
 chosen-le false z h = h
+
+pub unchosen-nonneg : (b : Bool) (z : ℤ) → pos 0 ≤ℤ z → pos 0 ≤ℤ (if b then pos 0 else z)
+unchosen-nonneg true z h = omega (arith, ints)
+unchosen-nonneg false z h = h
+
+pub chosen : (t : Bool) (y z : ℤ) → t ≡ true → (if t then y else z) ≡ y
+chosen true y z h = refl
+chosen false y z h = cc
+
+pub not_chosen : (t : Bool) (y z : ℤ) → t ≡ false → (if t then y else z) ≡ z
+not_chosen true y z h = cc
+not_chosen false y z h = refl

@@ -174,3 +174,32 @@ dot-swap m n u v a =
     sum_to-same m _ (λ i. sum_to n (λ j. u i *ℤ (a i j *ℤ v j))) (λ i b. sym (sum_to-*ℤ n (u i) (λ j. a i j *ℤ v j)))
     ∙ sum_to-swap m n (λ i j. u i *ℤ (a i j *ℤ v j))
     ∙ sum_to-same n _ _ (λ j b. sum_to-same m _ (λ i. v j *ℤ (u i *ℤ a i j)) (λ i c. simp ring) ∙ sum_to-*ℤ m (v j) (λ i. u i *ℤ a i j) ∙ *ℤ_comm (v j) (sum_to m (λ i. u i *ℤ a i j)))
+
+-- ---- sums in which each term is judged
+
+pub sum_to-front : (n : ℕ) (f : ℕ → ℤ) → sum_to (suc n) f ≡ f 0 +ℤ sum_to n (λ j. f (j + 1))
+sum_to-front zero f = omega (arith, linear)
+sum_to-front (suc n) f =
+    let last : f (n + 1) ≡ f (suc n) = ap f (add-one n) in
+    omega (arith, linear, sum_to-front n f, last)
+
+-- one term is smaller by 1, and none is greater
+pub sum_to-less : (n k : ℕ) (f g : ℕ → ℤ) → k < n → ((j : ℕ) → j < n → f j ≤ℤ g j) → (f k +ℤ pos 1) ≤ℤ g k → (sum_to n f +ℤ pos 1) ≤ℤ sum_to n g
+sum_to-less n k f g b h l =
+    let d : (g k -ℤ f k) ≤ℤ sum_to n (λ j. g j -ℤ f j) = sum_to-at_least n k (λ j. g j -ℤ f j) b (λ j c. (let e : f j ≤ℤ g j = h j c in omega (arith, linear))) in
+    omega (arith, linear, d, sum_to-sub n g f)
+
+-- a sum by a test, and the rest
+pub sum_to-by_test : (n : ℕ) (test : ℕ → Bool) (f : ℕ → ℤ) → sum_to n f ≡ sum_to n (λ j. if test j then f j else pos 0) +ℤ sum_to n (λ j. if test j then pos 0 else f j)
+sum_to-by_test n test f =
+    sum_to-same n f _ (λ j b. split (test j) (f j)) ∙ sum_to-+ℤ n (λ j. if test j then f j else pos 0) (λ j. if test j then pos 0 else f j)
+  where
+    split : (t : Bool) (z : ℤ) → z ≡ (if t then z else pos 0) +ℤ (if t then pos 0 else z)
+    split true z = omega (arith, linear)
+    split false z = omega (arith, linear)
+
+-- a sum that counts where a test holds, or else is 0
+pub sum_to-if : (n : ℕ) (t : Bool) (f : ℕ → ℤ) → sum_to n (λ j. if t then f j else pos 0) ≡ (if t then sum_to n f else pos 0)
+sum_to-if n true f = refl
+sum_to-if zero false f = refl
+sum_to-if (suc n) false f = omega (arith, linear, sum_to-if n false f)

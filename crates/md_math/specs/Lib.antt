@@ -2,5 +2,6 @@ pub mod Divisors
 pub mod FirstFailure
 pub mod LexOrder
 pub mod Lists
+pub mod Products
 pub mod Sizes
 pub mod Sums

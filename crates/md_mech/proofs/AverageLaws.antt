@@ -9,11 +9,11 @@ use Rattle.md_space.specs.Profiles.{profile_count, profile_at, replaced}
 use Rattle.md_space.proofs.InOrder.{total_by-profiles}
 use Rattle.md_space.proofs.Ranks.{profile_at-IsProfile}
 use Rattle.md_setting.specs.Setting.{GeneralSetting}
-use Rattle.md_setting.specs.Meaning.{outcome_count, sizes_of, weight_of, marginal_of}
+use Rattle.md_setting.specs.Meaning.{outcome_count, sizes_of, weight_of}
 use Rattle.md_setting.specs.Shaped.{IsShaped}
 use Rattle.md_mech.specs.Accepted.{IsAccepted, number_limit}
 use Rattle.md_mech.specs.declared.mechanism.Mechanism.{Mechanism}
-use Rattle.md_mech.specs.Utility.{utility_as, expected_utility, weighted_given, average_term, marginal_term}
+use Rattle.md_mech.specs.Utility.{expected_utility, weighted_given, average_term}
 use Rattle.md_mech.proofs.RowLaws.{given-same}
 use Rattle.md_mech.proofs.UtilityLaws.{expected-within}
 use Rattle.md_mech.proofs.UtilitySizes.{partial_small}
@@ -23,14 +23,10 @@ pub average-by_rank : (s : GeneralSetting) (m : Mechanism) (i a b : ℕ)
     → weighted_given s i a (λ t. expected_utility s m i t (replaced t i b)) ≡ sum_to (profile_count (sizes_of s)) (λ r. average_term s m i a b (profile_at (sizes_of s) r))
 average-by_rank s m i a b = total_by-profiles (sizes_of s) (average_term s m i a b)
 
-pub marginal-by_rank : (s : GeneralSetting) (i a : ℕ)
-    → marginal_of s i a ≡ sum_to (profile_count (sizes_of s)) (λ r. marginal_term s i a (profile_at (sizes_of s) r))
-marginal-by_rank s i a = total_by-profiles (sizes_of s) (marginal_term s i a)
-
 -- what an agent gets
-pub utility-within : (s : GeneralSetting) (m : Mechanism) (i a : ℕ) (r : List ℕ) → IsAccepted s m → IsShaped s → IsWithin (2 ^ 90) (utility_as s m i a r)
-utility-within s m i a r accepted shaped =
-    let lottery : IsWithin (2 ^ 86) _ = partial_small (outcome_count s) _ shaped.listed.few_outcomes (expected-within s m i a (outcome_count s) r accepted shaped) in
+pub utility-within : (s : GeneralSetting) (m : Mechanism) (i : ℕ) (t r : List ℕ) → IsAccepted s m → IsShaped s → IsWithin (2 ^ 90) (expected_utility s m i t r)
+utility-within s m i t r accepted shaped =
+    let lottery : IsWithin (2 ^ 86) _ = partial_small (outcome_count s) _ shaped.listed.few_outcomes (expected-within s m i (outcome_count s) t r accepted shaped) in
     IsWithin-wider (2 ^ 86 + number_limit) (2 ^ 90) _ (omega arith)
     (IsWithin-sub (2 ^ 86) number_limit _ _ lottery (AllWithin-number_at number_limit m.pays _ accepted.pay_size))
 
@@ -41,7 +37,7 @@ term-within s m i a b r accepted shaped below =
     let t = profile_at (sizes_of s) r in
     let here : IsWithin (1000000 * 2 ^ 90) (weight_of s t *ℤ expected_utility s m i t (replaced t i b)) =
     IsWithin-*ℤ 1000000 (2 ^ 90) (weight_of s t) (expected_utility s m i t (replaced t i b)) (shaped.weight t (profile_at-IsProfile (sizes_of s) r below)).within
-    (utility-within s m i (slice_index t i) (replaced t i b) accepted shaped) in
+    (utility-within s m i t (replaced t i b) accepted shaped) in
     elim (cases_Bool (slice_index t i == a)) [
       | inl same ↦ rw same here
       | inr other ↦ rw other (IsWithin-zero (1000000 * 2 ^ 90))
@@ -61,17 +57,3 @@ average-within s m i a b k accepted shaped fits =
 pub truth-is : (s : GeneralSetting) (m : Mechanism) (i a : ℕ)
     → weighted_given s i a (λ t. expected_utility s m i t (replaced t i a)) ≡ weighted_given s i a (λ t. expected_utility s m i t t)
 truth-is s m i a = given-same s m i a a (eq-eqb a a refl)
-
--- what the first profiles add to the weight of a type
-pub marginal-within : (s : GeneralSetting) (i a k : ℕ) → IsShaped s → k ≤ profile_count (sizes_of s)
-    → IsWithin (1024 * 1000000) (sum_to k (λ r. marginal_term s i a (profile_at (sizes_of s) r)))
-marginal-within s i a k shaped fits =
-    let few : k ≤ 1024 = omega (arith, fits, shaped.listed.space.few_profiles) in
-    IsWithin-wider (k * 1000000) (1024 * 1000000) _ (mul-le-mul few (le_refl 1000000))
-    (sum_to-within k 1000000 (λ r. marginal_term s i a (profile_at (sizes_of s) r)) (λ r below. at r (omega (arith, fits, below))))
-  where
-    at : (r : ℕ) → r < profile_count (sizes_of s) → IsWithin 1000000 (marginal_term s i a (profile_at (sizes_of s) r))
-    at r below = elim (cases_Bool (slice_index (profile_at (sizes_of s) r) i == a)) [
-      | inl same ↦ rw same (shaped.weight (profile_at (sizes_of s) r) (profile_at-IsProfile (sizes_of s) r below)).within
-      | inr other ↦ rw other (IsWithin-zero 1000000)
-    ]

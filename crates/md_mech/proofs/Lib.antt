@@ -8,3 +8,4 @@ pub mod AverageLaws
 pub mod PlaceLaws
 pub mod NameLaws
 pub mod WorthLaws
+pub mod ByProfileLaws

@@ -9,7 +9,7 @@ use Rattle.md_math.proofs.SizeLaws.{AllWithin-number_at, dot-within, sum_to-with
 use Rattle.md_space.specs.Profiles.{profile_count, profile_at}
 use Rattle.md_space.proofs.Ranks.{rank_of-profile_at}
 use Rattle.md_setting.specs.Setting.{GeneralSetting}
-use Rattle.md_setting.specs.Meaning.{agent_count, outcome_count, sizes_of, type_utility}
+use Rattle.md_setting.specs.Meaning.{agent_count, outcome_count, sizes_of, utility_of}
 use Rattle.md_setting.specs.Shaped.{IsShaped}
 use Rattle.md_mech.specs.Accepted.{IsAccepted, number_limit}
 use Rattle.md_mech.specs.declared.mechanism.Mechanism.{Mechanism}
@@ -24,11 +24,11 @@ pub payment-at_rank : (s : GeneralSetting) (m : Mechanism) (r i : ℕ) → r < p
 payment-at_rank s m r i below = ap (λ k. number_at m.pays (k * agent_count s + i)) (sym (rank_of-profile_at (sizes_of s) r below))
 
 -- what an agent expects of the first outcomes of a lottery
-pub expected-within : (s : GeneralSetting) (m : Mechanism) (i a k : ℕ) (t : List ℕ) → IsAccepted s m → IsShaped s
-    → IsWithin (k * (number_limit * 1000000)) (sum_to k (λ o. chance_of s m t o *ℤ type_utility s i a o))
-expected-within s m i a k t accepted shaped =
-    dot-within k number_limit 1000000 (chance_of s m t) (type_utility s i a)
-    (λ o _. AllWithin-number_at number_limit m.chances _ accepted.chance_size) (λ o _. shaped.small.utility i a o)
+pub expected-within : (s : GeneralSetting) (m : Mechanism) (i k : ℕ) (t r : List ℕ) → IsAccepted s m → IsShaped s
+    → IsWithin (k * (number_limit * 1000000)) (sum_to k (λ o. chance_of s m r o *ℤ utility_of s i t o))
+expected-within s m i k t r accepted shaped =
+    dot-within k number_limit 1000000 (chance_of s m r) (utility_of s i t)
+    (λ o _. AllWithin-number_at number_limit m.chances _ accepted.chance_size) (λ o _. shaped.small.utility i t o)
 
 pub ruleset by_rank = (to_z-of_z, chance-at_rank, payment-at_rank)
 

@@ -1,19 +1,14 @@
 -- What the designer gets, added up profile by profile, and how large it can become.
-use Rattle.std.proofs.Common.{◌≡◌, ◌<◌, ◌≤◌, ◌+◌, ◌*◌, ◌^◌, ℕ, ℤ, pos, ◌*ℤ◌, ◌≤ℤ◌, ◌<ℤ◌, slice_index, arith, unsigned_abs, mul-le-mul, le_refl, length}
-use Rattle.std.specs.Prelude.{◌==◌, if◌then◌else◌}
-use Rattle.std.proofs.lemmas.Int.{ints}
+use Rattle.std.proofs.Common.{◌≡◌, ◌<◌, ◌≤◌, ◌+◌, ◌*◌, ◌^◌, ℕ, ℤ, ◌*ℤ◌, arith, unsigned_abs, mul-le-mul, le_refl, length}
 use Rattle.std.proofs.lemmas.List.{length-map}
 use Rattle.md_math.specs.Sizes.{IsWithin}
 use Rattle.md_math.specs.Sums.{sum_to}
 use Rattle.md_math.proofs.SizeLaws.{AllWithin-number_at, dot-within, sum_to-within, IsWithin-+ℤ, IsWithin-*ℤ, IsWithin-wider}
-use Rattle.md_math.proofs.TotalLaws.{total_by-le}
-use Rattle.md_math.proofs.Order.{chosen-le}
 use Rattle.md_space.specs.Profiles.{profile_count, profile_at}
-use Rattle.md_space.specs.AllProfiles.{profiles_of}
 use Rattle.md_space.proofs.Ranks.{profile_at-IsProfile}
-use Rattle.md_space.proofs.InOrder.{total_by-profiles, All-profiles_of}
+use Rattle.md_space.proofs.InOrder.{total_by-profiles}
 use Rattle.md_setting.specs.Setting.{GeneralSetting}
-use Rattle.md_setting.specs.Meaning.{agent_count, outcome_count, sizes_of, weight_of, total_of, marginal_of, value_of}
+use Rattle.md_setting.specs.Meaning.{agent_count, outcome_count, sizes_of, weight_of, value_of}
 use Rattle.md_setting.specs.Shaped.{IsShaped}
 use Rattle.md_mech.specs.Accepted.{IsAccepted, number_limit}
 use Rattle.md_mech.specs.declared.mechanism.Mechanism.{Mechanism}
@@ -71,13 +66,3 @@ worth-within s m k accepted shaped fits =
     (λ r l. IsWithin-*ℤ 1000000 (2 ^ 91) (weight_of s (profile_at (sizes_of s) r)) (objective_at s m (profile_at (sizes_of s) r))
     (shaped.weight (profile_at (sizes_of s) r) (profile_at-IsProfile (sizes_of s) r (omega (arith, l, fits)))).within
     (objective-within s m r accepted shaped (omega (arith, l, fits)))))
-
--- the weight of all profiles is positive
-pub total-positive : (s : GeneralSetting) → IsShaped s → pos 0 <ℤ total_of s
-total-positive s shaped =
-    let some : 0 < agent_count s = omega (arith, shaped.listed.space.some_agent, length-map s.agents (λ a. length a.types)) in
-    let part : pos 0 <ℤ marginal_of s 0 0 = shaped.marginal 0 0 some (shaped.listed.space.some_type 0 0 shaped.listed.space.some_agent) in
-    let whole : marginal_of s 0 0 ≤ℤ total_of s =
-    total_by-le (λ t. if slice_index t 0 == 0 then weight_of s t else pos 0) (weight_of s) (profiles_of (sizes_of s))
-    (λ k d h. chosen-le _ (weight_of s _) (shaped.weight _ (All-profiles_of (sizes_of s) k d h)).nonneg) in
-    omega (arith, ints, part, whole)

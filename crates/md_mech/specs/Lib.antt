@@ -7,6 +7,7 @@ pub mod Optimal
 pub mod Rows
 pub mod RowName
 pub mod Accepted
+pub mod ByProfiles
 pub mod Refusals
 pub mod Scanned
 pub mod Places

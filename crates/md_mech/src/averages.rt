@@ -2,9 +2,9 @@
 ghost use Rattle.std.specs.Prelude.{◌≡◌, ◌<◌, ◌*◌, ◌^◌, ◌*ℤ◌, slice_index};
 ghost use Rattle.md_math.specs.Sizes.{IsWithin};
 ghost use Rattle.md_space.specs.Profiles.{profile_count, profile_at, replaced};
-ghost use Rattle.md_setting.specs.Meaning.{agent_count, sizes_of, outside_of, marginal_of, weight_of};
+ghost use Rattle.md_setting.specs.Meaning.{agent_count, sizes_of, outside_of, marginal_of};
 ghost use Rattle.md_mech.specs.Accepted.{IsAccepted};
-ghost use Rattle.md_mech.specs.Utility.{expected_utility, weighted_given, average_term, marginal_term};
+ghost use Rattle.md_mech.specs.Utility.{expected_utility, weighted_given, average_term};
 
 use crate::Mechanism;
 use crate::utilities::{outside, utility};
@@ -66,19 +66,10 @@ fn term_at(
         setting,
         mechanism,
         agent,
-        kind,
+        rank,
         setting.space().replace(rank, agent, report),
     );
-    product(weight_at(setting, rank), told)
-}
-
-#[tactic(auto, using(crate::proofs::UtilityLaws::by_rank))]
-fn weight_at(setting: &Setting, rank: u32) -> i128
-    requires { rank < profile_count (sizes_of setting.now) }
-    ensures value { result ≡ weight_of setting.now (profile_at (sizes_of setting.now) rank) }
-    ensures size { IsWithin 1000000 result }
-{
-    i128::from(setting.weight(rank))
+    product(setting.weight(rank), told)
 }
 
 /// What an agent of a type has without taking part, by weight, over the profiles in which it has the type.
@@ -90,34 +81,6 @@ pub(crate) fn average_outside(setting: &Setting, mechanism: &Mechanism, agent: u
 {
     product(
         outside(setting, mechanism, agent, kind),
-        marginal(setting, agent, kind),
+        setting.marginal(agent, kind),
     )
-}
-
-// The weight of the profiles in which an agent has a type.
-fn marginal(setting: &Setting, agent: u8, kind: u8) -> i128
-    requires agent_in { agent < agent_count setting.now }
-    requires kind_in { kind < slice_index (sizes_of setting.now) agent }
-    ensures value { result ≡ marginal_of setting.now agent kind }
-    ensures size { IsWithin (1024 * 1000000) result }
-{
-    let mut sum = 0;
-    for rank in 0..setting.space().profiles() {
-        sum += weight_given(setting, agent, kind, rank);
-    }
-    sum
-}
-
-// The weight of one profile, if the agent has the type there.
-fn weight_given(setting: &Setting, agent: u8, kind: u8, rank: u32) -> i128
-    requires agent_in { agent < agent_count setting.now }
-    requires rank_in { rank < profile_count (sizes_of setting.now) }
-    ensures value { result ≡ marginal_term setting.now agent kind (profile_at (sizes_of setting.now) rank) }
-    ensures size { IsWithin 1000000 result }
-{
-    if setting.space().report(rank, agent) == kind {
-        weight_at(setting, rank)
-    } else {
-        0
-    }
 }

@@ -4,7 +4,7 @@ ghost use Rattle.md_math.specs.Divisors.{IsLeastTerms};
 ghost use Rattle.md_math.specs.Sizes.{IsWithin};
 ghost use Rattle.md_math.specs.Sums.{sum_to};
 ghost use Rattle.md_space.specs.Profiles.{profile_count, profile_at};
-ghost use Rattle.md_setting.specs.Meaning.{outcome_count, sizes_of, weight_of, total_of, value_of};
+ghost use Rattle.md_setting.specs.Meaning.{outcome_count, sizes_of, total_of, value_of};
 ghost use Rattle.md_mech.specs.Accepted.{IsAccepted};
 ghost use Rattle.md_mech.specs.Mechanism.{chance_of};
 ghost use Rattle.md_mech.specs.Optimal.{objective_at, worth_of};
@@ -34,15 +34,7 @@ fn whole(setting: &Setting, mechanism: &Mechanism) -> i128
     ensures positive { pos 0 <ℤ result }
     ensures size { IsWithin (2 ^ 82) result }
 {
-    product(mechanism.den, total(setting))
-}
-
-fn total(setting: &Setting) -> i128
-    ensures value { result ≡ total_of setting.now }
-    ensures positive { pos 0 <ℤ result }
-    ensures size { IsWithin 1000000 result }
-{
-    i128::from(setting.total())
+    product(mechanism.den, setting.total())
 }
 
 // What the designer gets over all profiles by weight.
@@ -55,19 +47,11 @@ fn weighted_objective(setting: &Setting, mechanism: &Mechanism) -> i128
     for rank in 0..setting.space().profiles() {
         sum = add_product(
             sum,
-            weight(setting, rank),
+            setting.weight(rank),
             objective(setting, mechanism, rank),
         );
     }
     sum
-}
-
-fn weight(setting: &Setting, rank: u32) -> i128
-    requires { rank < profile_count (sizes_of setting.now) }
-    ensures value { result ≡ weight_of setting.now (profile_at (sizes_of setting.now) rank) }
-    ensures size { IsWithin 1000000 result }
-{
-    i128::from(setting.weight(rank))
 }
 
 // What the designer gets at the profile of a rank.
@@ -79,16 +63,9 @@ fn objective(setting: &Setting, mechanism: &Mechanism, rank: u32) -> i128
 {
     add_product(
         lottery_value(setting, mechanism, rank),
-        revenue(setting),
+        setting.revenue(),
         payments(setting, mechanism, rank),
     )
-}
-
-fn revenue(setting: &Setting) -> i128
-    ensures value { result ≡ setting.now.revenue }
-    ensures size { IsWithin 1000 result }
-{
-    i128::from(setting.revenue())
 }
 
 // What the lottery at the profile of a rank is worth to the designer.
@@ -103,17 +80,8 @@ fn lottery_value(setting: &Setting, mechanism: &Mechanism, rank: u32) -> i128
         sum = add_product(
             sum,
             chance(setting, mechanism, rank, outcome),
-            outcome_value(setting, rank, outcome),
+            setting.value(rank, outcome),
         );
     }
     sum
-}
-
-fn outcome_value(setting: &Setting, rank: u32, outcome: u32) -> i128
-    requires rank_in { rank < profile_count (sizes_of setting.now) }
-    requires outcome_in { outcome < outcome_count setting.now }
-    ensures value { result ≡ value_of setting.now (profile_at (sizes_of setting.now) rank) outcome }
-    ensures size { IsWithin 10000000 result }
-{
-    i128::from(setting.value(rank, outcome))
 }

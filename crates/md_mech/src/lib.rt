@@ -51,6 +51,7 @@ mod tests {
             weights: vec![in alloc; 1, 2]?,
             outside: vec![in alloc; 0, 0]?,
             utility,
+            at: None,
         })?;
         Ok(RawSetting {
             agents,
@@ -84,6 +85,55 @@ mod tests {
         let value = worth(&setting, &mechanism);
         assert_eq!(rt; value.num, 2);
         assert_eq!(rt; value.den, 1);
+        Ok(())
+    }
+
+    // The item is worth 1 or -1 to the buyer, by the seller's type.
+    fn lemon(alloc: Global) -> Result<RawSetting, AllocError> {
+        let mut raw = buyer(alloc)?;
+        let mut agents = Vec::new(alloc);
+        agents.push(RawAgent {
+            name: String::from_str(alloc, "seller")?,
+            types: vec![in alloc;
+                String::from_str(alloc, "good")?,
+                String::from_str(alloc, "bad")?,
+            ]?,
+            weights: vec![in alloc; 1, 1]?,
+            outside: vec![in alloc; 0, 0]?,
+            utility: vec![in alloc; vec![in alloc; 0, 0]?, vec![in alloc; 0, 0]?]?,
+            at: None,
+        })?;
+        agents.push(RawAgent {
+            name: String::from_str(alloc, "buyer")?,
+            types: vec![in alloc; String::from_str(alloc, "any")?]?,
+            weights: vec![in alloc; 1]?,
+            outside: vec![in alloc; 0]?,
+            utility: Vec::new(alloc),
+            at: Some(vec![in alloc; vec![in alloc; 0, 1]?, vec![in alloc; 0, -1]?]?),
+        })?;
+        raw.agents = agents;
+        Ok(raw)
+    }
+
+    // The buyer always gets the item. After two rows of the seller's truth and two of its rationality stand those of the
+    // buyer's rationality, of which the second is at the bad type.
+    #[test]
+    fn a_bad_item_is_not_bought(rt: HostRuntime) -> Result<(), Fail> {
+        let alloc = rt.alloc();
+        let Ok(setting) = Setting::new(alloc, lemon(alloc)?) else {
+            return Err("no setting")?;
+        };
+        let chances = nums(alloc, &[0, 1, 0, 1])?;
+        let pays = nums(alloc, &[0, 0, 0, 0])?;
+        let Ok(mechanism) = Mechanism::new(&setting, 1, chances, pays) else {
+            return Err("no mechanism")?;
+        };
+        let broken = Broken {
+            row: 5,
+            left: -1,
+            right: 0,
+        };
+        assert_eq!(rt; audit(&setting, &mechanism), Some(broken));
         Ok(())
     }
 }

@@ -87,12 +87,12 @@ fn try_dominant(
     if report == kind {
         return Ok(start);
     }
-    let truth = utility(setting, mechanism, agent, kind, rank);
+    let truth = utility(setting, mechanism, agent, rank, rank);
     let lie = utility(
         setting,
         mechanism,
         agent,
-        kind,
+        rank,
         setting.space().replace(rank, agent, report),
     );
     compare(start, truth, lie)
@@ -148,7 +148,7 @@ fn try_ex_post(
     ensures few { IfOk result (λ next. next ≤ start + 1) }
 {
     let kind = setting.space().report(rank, agent);
-    let inside = utility(setting, mechanism, agent, kind, rank);
+    let inside = utility(setting, mechanism, agent, rank, rank);
     compare(start, inside, outside(setting, mechanism, agent, kind))
 }
 

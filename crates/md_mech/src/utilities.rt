@@ -3,53 +3,50 @@ ghost use Rattle.std.specs.Prelude.{◌≡◌, ◌<◌, ◌^◌, ◌*ℤ◌, sli
 ghost use Rattle.md_math.specs.Sizes.{IsWithin};
 ghost use Rattle.md_math.specs.Sums.{sum_to};
 ghost use Rattle.md_space.specs.Profiles.{profile_count, profile_at};
-ghost use Rattle.md_setting.specs.Meaning.{agent_count, outcome_count, sizes_of, type_utility, outside_of};
+ghost use Rattle.md_setting.specs.Meaning.{agent_count, outcome_count, sizes_of, utility_of, outside_of};
 ghost use Rattle.md_mech.specs.Accepted.{IsAccepted};
 ghost use Rattle.md_mech.specs.Mechanism.{chance_of, pay_of};
-ghost use Rattle.md_mech.specs.Utility.{utility_as};
+ghost use Rattle.md_mech.specs.Utility.{expected_utility};
 
 use crate::Mechanism;
 use md_num::{add_product, product};
 use md_setting::Setting;
 
-/// The utility of an agent of a type at the reports of a rank, in units of one over the denominator.
-pub fn utility(setting: &Setting, mechanism: &Mechanism, agent: u8, kind: u8, rank: u32) -> i128
+/// The utility of an agent where the profile of the rank `truth` has the true types and that of the rank `rank` the
+/// reports, in units of one over the denominator.
+pub fn utility(setting: &Setting, mechanism: &Mechanism, agent: u8, truth: u32, rank: u32) -> i128
     requires accepted { IsAccepted setting.now mechanism.now }
     requires agent_in { agent < agent_count setting.now }
-    requires kind_in { kind < slice_index (sizes_of setting.now) agent }
+    requires truth_in { truth < profile_count (sizes_of setting.now) }
     requires rank_in { rank < profile_count (sizes_of setting.now) }
-    ensures value { result ≡ utility_as setting.now mechanism.now agent kind (profile_at (sizes_of setting.now) rank) }
+    ensures value { result ≡ expected_utility setting.now mechanism.now agent (profile_at (sizes_of setting.now) truth) (profile_at (sizes_of setting.now) rank) }
     ensures size { IsWithin (2 ^ 90) result }
 {
-    expected_value(setting, mechanism, agent, kind, rank) - payment(setting, mechanism, agent, rank)
+    expected_value(setting, mechanism, agent, truth, rank)
+        - payment(setting, mechanism, agent, rank)
 }
 
-// What an agent of a type expects of the lottery at the reports of a rank.
-fn expected_value(setting: &Setting, mechanism: &Mechanism, agent: u8, kind: u8, rank: u32) -> i128
+// What an agent expects of the lottery at the reports of a rank, by the true types of another.
+fn expected_value(
+    setting: &Setting,
+    mechanism: &Mechanism,
+    agent: u8,
+    truth: u32,
+    rank: u32,
+) -> i128
     requires accepted { IsAccepted setting.now mechanism.now }
     requires agent_in { agent < agent_count setting.now }
-    requires kind_in { kind < slice_index (sizes_of setting.now) agent }
+    requires truth_in { truth < profile_count (sizes_of setting.now) }
     requires rank_in { rank < profile_count (sizes_of setting.now) }
-    ensures value { result ≡ sum_to (outcome_count setting.now) (λ o. chance_of setting.now mechanism.now (profile_at (sizes_of setting.now) rank) o *ℤ type_utility setting.now agent kind o) }
+    ensures value { result ≡ sum_to (outcome_count setting.now) (λ o. chance_of setting.now mechanism.now (profile_at (sizes_of setting.now) rank) o *ℤ utility_of setting.now agent (profile_at (sizes_of setting.now) truth) o) }
     ensures size { IsWithin (2 ^ 86) result }
 {
     let mut sum = 0;
     for outcome in 0..setting.outcomes() {
         let chance = chance(setting, mechanism, rank, outcome);
-        sum = add_product(sum, chance, utility_at(setting, agent, kind, outcome));
+        sum = add_product(sum, chance, setting.utility(agent, truth, outcome));
     }
     sum
-}
-
-#[tactic(auto, using(crate::proofs::UtilityLaws::by_rank))]
-fn utility_at(setting: &Setting, agent: u8, kind: u8, outcome: u32) -> i128
-    requires agent_in { agent < agent_count setting.now }
-    requires kind_in { kind < slice_index (sizes_of setting.now) agent }
-    requires outcome_in { outcome < outcome_count setting.now }
-    ensures value { result ≡ type_utility setting.now agent kind outcome }
-    ensures size { IsWithin 1000000 result }
-{
-    i128::from(setting.utility(agent, kind, outcome))
 }
 
 /// The chance of an outcome at the reports of a rank.
@@ -84,17 +81,7 @@ pub(crate) fn outside(setting: &Setting, mechanism: &Mechanism, agent: u8, kind:
     ensures value { result ≡ mechanism.now.den *ℤ outside_of setting.now agent kind }
     ensures size { IsWithin (2 ^ 82) result }
 {
-    product(mechanism.den, outside_at(setting, agent, kind))
-}
-
-#[tactic(auto, using(crate::proofs::UtilityLaws::by_rank))]
-fn outside_at(setting: &Setting, agent: u8, kind: u8) -> i128
-    requires agent_in { agent < agent_count setting.now }
-    requires kind_in { kind < slice_index (sizes_of setting.now) agent }
-    ensures value { result ≡ outside_of setting.now agent kind }
-    ensures size { IsWithin 1000000 result }
-{
-    i128::from(setting.outside(agent, kind))
+    product(mechanism.den, setting.outside(agent, kind))
 }
 
 /// What all agents pay together at the reports of a rank.

@@ -1,3 +1,4 @@
+mod Comparison
 mod Decimals
 mod Reduction
 pub mod Texts

@@ -1,4 +1,4 @@
-ghost use Rattle.std.specs.Prelude.{◌≡◌, ℤ, ◌^◌, ◌<◌, ◌≤◌, pos, ◌*ℤ◌, ◌<ℤ◌, unsigned_abs};
+ghost use Rattle.std.specs.Prelude.{◌≡◌, ℤ, ◌^◌, ◌*◌, ◌<◌, ◌≤◌, ◌↔◌, IsTrue, pos, ◌*ℤ◌, ◌≤ℤ◌, ◌<ℤ◌, unsigned_abs};
 ghost use Rattle.md_math.specs.Divisors.{IsLeastTerms};
 
 use crate::division::{exact_quotient, gcd};
@@ -29,5 +29,91 @@ impl Frac {
             num: exact_quotient(num, divisor),
             den: exact_quotient(den, divisor),
         }
+    }
+
+    /// Whether the fraction is at most another one. No number here is greater than those of the fractions.
+    pub fn at_most(&self, other: &Frac) -> bool
+        requires den { pos 0 <ℤ self.now.den }
+        requires other_den { pos 0 <ℤ other.now.den }
+        ensures { IsTrue result ↔ ((self.now.num *ℤ other.now.den) ≤ℤ (other.now.num *ℤ self.now.den)) }
+    {
+        let left = self.num.unsigned_abs();
+        let right = other.num.unsigned_abs();
+        match (self.num < 0, other.num < 0) {
+            (false, false) => are_in_order(left, size(self.den), right, size(other.den)),
+            (true, true) => are_in_order(right, size(other.den), left, size(self.den)),
+            (negative, _) => negative,
+        }
+    }
+}
+
+// Whether the first of two fractions of sizes is at most the second: by their whole parts, and where these are the same,
+// by the remainders turned over.
+fn are_in_order(num: u128, den: u128, other_num: u128, other_den: u128) -> bool
+    requires den { 0 < den }
+    requires other_den { 0 < other_den }
+    ensures { IsTrue result ↔ (num * other_den ≤ other_num * den) }
+{
+    let mut a = num;
+    let mut b = den;
+    let mut c = other_num;
+    let mut d = other_den;
+    while a / b == c / d {
+        let rest = a % b;
+        let other_rest = c % d;
+        if rest == 0 {
+            return true;
+        }
+        if other_rest == 0 {
+            return false;
+        }
+        a = d;
+        c = b;
+        b = other_rest;
+        d = rest;
+    }
+    a / b < c / d
+}
+
+fn size(number: i128) -> u128
+    ensures { result ≡ unsigned_abs number }
+{
+    number.unsigned_abs()
+}
+
+#[cfg(test)]
+mod tests {
+    use super::*;
+    use std::test::Fail;
+
+    // A fraction, another one, and whether the first is at most the other. The last two are 1 and the fraction
+    // 1 / (n - 1), and 1 and 1 / (n - 2), for the greatest number n of 128 bits.
+    static PAIRS: [(i128, i128, i128, i128, bool); 5] = [
+        (1, 3, 1, 2, true),
+        (1, 2, 3, 7, false),
+        (-1, 2, -3, 7, true),
+        (-2, 1, 0, 1, true),
+        (
+            170141183460469231731687303715884105727,
+            170141183460469231731687303715884105726,
+            170141183460469231731687303715884105726,
+            170141183460469231731687303715884105725,
+            true,
+        ),
+    ];
+
+    #[test]
+    fn fractions_are_compared(rt: HostRuntime) -> Result<(), Fail> {
+        for (num, den, other_num, other_den, expected) in PAIRS {
+            let other = Frac {
+                num: other_num,
+                den: other_den,
+            };
+            if den < 1 || other_den < 1 {
+                return Err("a pair with no positive denominator")?;
+            }
+            assert_eq!(rt; Frac { num, den }.at_most(&other), expected);
+        }
+        Ok(())
     }
 }

@@ -1,4 +1,4 @@
-ghost use Rattle.std.specs.Prelude.{◌≡◌, ℕ, ℤ, pos, ◌<◌, ◌↔◌, [], ◌∷◌, ◌++◌, length, slice_index_or, IsTrue, OnOk, OnErr};
+ghost use Rattle.std.specs.Prelude.{◌≡◌, ℕ, ℤ, pos, ◌<◌, ◌↔◌, [], ◌∷◌, ◌++◌, length, slice_index_or, IsTrue, IfOk, OnOk, OnErr};
 
 use crate::no_memory::NoMemory;
 use std::alloc::Global;
@@ -26,6 +26,15 @@ impl Nums {
         Nums {
             items: Vec::new(alloc),
         }
+    }
+
+    /// The list of some numbers.
+    pub fn from_slice(alloc: Global, numbers: &[i128]) -> Result<Nums, NoMemory>
+        ensures { IfOk result (λ nums. nums ≡ numbers.now) }
+    {
+        Ok(Nums {
+            items: Vec::from_slice(alloc, numbers)?,
+        })
     }
 
     /// Appends a number. Where memory ran out the list stays as it was.

@@ -4,16 +4,16 @@ use Rattle.md_math.specs.Sums.{sum_to, total_by}
 use Rattle.md_math.proofs.Ring.{linear, *ℤ_assoc, *ℤ-+ℤ, *ℤ-neg_ℤ, neg_ℤ-*ℤ, one-*ℤ, *ℤ-zero}
 use Rattle.md_math.proofs.SumLaws.{sum_to-same, sum_to-*ℤ, sum_to-+ℤ, sum_to-neg_ℤ, sum_to-zero}
 use Rattle.md_math.proofs.TotalLaws.{total_by-same, total_by-+ℤ, total_by-sub, total_by-zero}
-use Rattle.md_space.specs.Profiles.{profile_count, profile_at}
+use Rattle.md_space.specs.Profiles.{profile_count, profile_at, replaced}
 use Rattle.md_space.proofs.Ranks.{rank_of-profile_at}
 use Rattle.md_setting.specs.Setting.{GeneralSetting}
-use Rattle.md_setting.specs.Meaning.{agent_count, outcome_count, sizes_of, type_utility}
+use Rattle.md_setting.specs.Meaning.{agent_count, outcome_count, sizes_of, utility_of}
 use Rattle.md_lp.specs.declared.term.Term.{Term}
 use Rattle.md_lp.specs.Shape.{HasPlaces}
 use Rattle.md_lp.proofs.SparseRows.{All-below}
 use Rattle.md_mech.specs.Rows.{deficit_row, profile_row}
 use Rattle.md_rows.specs.Columns.{chance_column, plus_column, minus_column, first_plus, first_minus, payment_by, payment_in}
-use Rattle.md_rows.specs.Sides.{utility_in, left_side}
+use Rattle.md_rows.specs.Sides.{utility_as, left_side}
 use Rattle.md_rows.specs.Terms.{sum_at, chances_at, paid_at, part_at, part_of_all}
 
 -- ---- columns by ranks
@@ -30,29 +30,29 @@ minus-at_rank s i r h = ap (λ k. first_minus s + (i * profile_count (sizes_of s
 -- ---- utilities
 
 lottery-form : (s : GeneralSetting) (i a : ℕ) (x : ℕ → ℤ) (h : Term) → h.column < profile_count (sizes_of s)
-    → chances_at s i a x h ≡ h.value *ℤ sum_to (outcome_count s) (λ o. type_utility s i a o *ℤ x (chance_column s (profile_at (sizes_of s) h.column) o))
+    → chances_at s i a x h ≡ h.value *ℤ sum_to (outcome_count s) (λ o. utility_of s i (replaced (profile_at (sizes_of s) h.column) i a) o *ℤ x (chance_column s (profile_at (sizes_of s) h.column) o))
 lottery-form s i a x h below =
-    sum_to-same (outcome_count s) (λ o. (h.value *ℤ type_utility s i a o) *ℤ x (h.column * outcome_count s + o))
-    (λ o. h.value *ℤ (type_utility s i a o *ℤ x (chance_column s (profile_at (sizes_of s) h.column) o)))
-    (λ o l. *ℤ_assoc h.value (type_utility s i a o) (x (h.column * outcome_count s + o))
-    ∙ ap (λ k. h.value *ℤ (type_utility s i a o *ℤ x k)) (sym (chance-at_rank s h.column o below)))
-    ∙ sum_to-*ℤ (outcome_count s) h.value (λ o. type_utility s i a o *ℤ x (chance_column s (profile_at (sizes_of s) h.column) o))
+    sum_to-same (outcome_count s) (λ o. (h.value *ℤ utility_of s i (replaced (profile_at (sizes_of s) h.column) i a) o) *ℤ x (h.column * outcome_count s + o))
+    (λ o. h.value *ℤ (utility_of s i (replaced (profile_at (sizes_of s) h.column) i a) o *ℤ x (chance_column s (profile_at (sizes_of s) h.column) o)))
+    (λ o l. *ℤ_assoc h.value (utility_of s i (replaced (profile_at (sizes_of s) h.column) i a) o) (x (h.column * outcome_count s + o))
+    ∙ ap (λ k. h.value *ℤ (utility_of s i (replaced (profile_at (sizes_of s) h.column) i a) o *ℤ x k)) (sym (chance-at_rank s h.column o below)))
+    ∙ sum_to-*ℤ (outcome_count s) h.value (λ o. utility_of s i (replaced (profile_at (sizes_of s) h.column) i a) o *ℤ x (chance_column s (profile_at (sizes_of s) h.column) o))
 
 share-form : (v u p : ℤ) → v *ℤ u -ℤ v *ℤ p ≡ v *ℤ (u -ℤ p)
 share-form v u p = omega (arith, linear, *ℤ-+ℤ v u (neg_ℤ p), *ℤ-neg_ℤ v p)
 
 -- the lotteries less the payments are the utilities
 pub utility-form : (s : GeneralSetting) (i a : ℕ) (x : ℕ → ℤ) (shares : List Term) → HasPlaces (profile_count (sizes_of s)) shares
-    → total_by (chances_at s i a x) shares +ℤ neg_ℤ (total_by (paid_at s i x) shares) ≡ sum_at (λ r. utility_in s x i a (profile_at (sizes_of s) r)) shares
+    → total_by (chances_at s i a x) shares +ℤ neg_ℤ (total_by (paid_at s i x) shares) ≡ sum_at (λ r. utility_as s x i a (profile_at (sizes_of s) r)) shares
 utility-form s i a x shares places =
     sym (total_by-sub (chances_at s i a x) (paid_at s i x) shares)
-    ∙ total_by-same (λ h. chances_at s i a x h -ℤ paid_at s i x h) (λ h. h.value *ℤ utility_in s x i a (profile_at (sizes_of s) h.column)) shares
+    ∙ total_by-same (λ h. chances_at s i a x h -ℤ paid_at s i x h) (λ h. h.value *ℤ utility_as s x i a (profile_at (sizes_of s) h.column)) shares
     (λ k d l. at (get_or shares k d) (All-below (profile_count (sizes_of s)) shares places k d l))
   where
-    at : (h : Term) → h.column < profile_count (sizes_of s) → chances_at s i a x h -ℤ paid_at s i x h ≡ h.value *ℤ utility_in s x i a (profile_at (sizes_of s) h.column)
+    at : (h : Term) → h.column < profile_count (sizes_of s) → chances_at s i a x h -ℤ paid_at s i x h ≡ h.value *ℤ utility_as s x i a (profile_at (sizes_of s) h.column)
     at h below =
         ap (λ z. z -ℤ paid_at s i x h) (lottery-form s i a x h below)
-        ∙ share-form h.value (sum_to (outcome_count s) (λ o. type_utility s i a o *ℤ x (chance_column s (profile_at (sizes_of s) h.column) o))) (payment_in s x i (profile_at (sizes_of s) h.column))
+        ∙ share-form h.value (sum_to (outcome_count s) (λ o. utility_of s i (replaced (profile_at (sizes_of s) h.column) i a) o *ℤ x (chance_column s (profile_at (sizes_of s) h.column) o))) (payment_in s x i (profile_at (sizes_of s) h.column))
 
 -- ---- payments
 

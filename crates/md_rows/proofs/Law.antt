@@ -21,7 +21,7 @@ use Rattle.md_setting.specs.declared.kinds.Truth.TheVariants.{Dominant, Bayes}
 use Rattle.md_setting.specs.declared.kinds.Rational.{Rational}
 use Rattle.md_setting.specs.declared.kinds.Rational.TheVariants.{None as Free, ExPost, Interim}
 use Rattle.md_setting.specs.Setting.{GeneralSetting}
-use Rattle.md_setting.specs.Meaning.{agent_count, outcome_count, sizes_of, type_utility, outside_of, weight_of, marginal_of, value_of}
+use Rattle.md_setting.specs.Meaning.{agent_count, outcome_count, sizes_of, utility_of, outside_of, weight_of, marginal_of, value_of}
 use Rattle.md_setting.specs.Rows.{column_count}
 use Rattle.md_mech.specs.declared.mechanism.Mechanism.{Mechanism}
 use Rattle.md_mech.specs.Mechanism.{IsMechanism, chance_of, pay_of}
@@ -136,11 +136,11 @@ hold-meets s p den x is point h = record {
 -- ---- the sides of conditions
 
 side-utility : (s : GeneralSetting) (x : ℕ → ℤ) (m : Mechanism) (i : ℕ) (t r : List ℕ) → Agrees s x m → i < agent_count s → IsProfile (sizes_of s) r
-    → utility_in s x i (slice_index t i) r ≡ expected_utility s m i t r
+    → utility_in s x i t r ≡ expected_utility s m i t r
 side-utility s x m i t r a agent p =
-    let sums : sum_to (outcome_count s) (λ o. type_utility s i (slice_index t i) o *ℤ x (chance_column s r o)) ≡ sum_to (outcome_count s) (λ o. chance_of s m r o *ℤ type_utility s i (slice_index t i) o) =
-    sum_to-same (outcome_count s) (λ o. type_utility s i (slice_index t i) o *ℤ x (chance_column s r o)) (λ o. chance_of s m r o *ℤ type_utility s i (slice_index t i) o)
-    (λ o l. *ℤ_comm (type_utility s i (slice_index t i) o) (x (chance_column s r o)) ∙ ap (λ z. z *ℤ type_utility s i (slice_index t i) o) (a.chance r o p l)) in
+    let sums : sum_to (outcome_count s) (λ o. utility_of s i t o *ℤ x (chance_column s r o)) ≡ sum_to (outcome_count s) (λ o. chance_of s m r o *ℤ utility_of s i t o) =
+    sum_to-same (outcome_count s) (λ o. utility_of s i t o *ℤ x (chance_column s r o)) (λ o. chance_of s m r o *ℤ utility_of s i t o)
+    (λ o l. *ℤ_comm (utility_of s i t o) (x (chance_column s r o)) ∙ ap (λ z. z *ℤ utility_of s i t o) (a.chance r o p l)) in
     rw (sums, a.pay i r agent p) refl
 
 agents-length : (s : GeneralSetting) → length (sizes_of s) ≡ agent_count s

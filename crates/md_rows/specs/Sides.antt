@@ -4,25 +4,29 @@ use Rattle.md_math.specs.Sums.{sum_to, total_by}
 use Rattle.md_space.specs.Profiles.{replaced}
 use Rattle.md_space.specs.AllProfiles.{profiles_of}
 use Rattle.md_setting.specs.Setting.{GeneralSetting}
-use Rattle.md_setting.specs.Meaning.{agent_count, outcome_count, sizes_of, type_utility, outside_of, weight_of, marginal_of, value_of}
+use Rattle.md_setting.specs.Meaning.{agent_count, outcome_count, sizes_of, utility_of, outside_of, weight_of, marginal_of, value_of}
 use Rattle.md_mech.specs.Utility.{weighted_given}
 use Rattle.md_mech.specs.Rows.{Row, dominant_row, bayes_row, ex_post_row, interim_row, deficit_row, profile_row}
 use Rattle.md_lp.specs.declared.row_kind.RowKind.{RowKind}
 use Rattle.md_lp.specs.declared.row_kind.RowKind.TheVariants.{AtMost, Exact}
 use Rattle.md_rows.specs.Columns.{chance_column, payment_in}
 
--- the utility of agent i of type a where t has the reports
-abbrev pub utility_in : GeneralSetting → (ℕ → ℤ) → ℕ → ℕ → List ℕ → ℤ
-utility_in s x i a t =
-    sum_to (outcome_count s) (λ o. type_utility s i a o *ℤ x (chance_column s t o)) -ℤ payment_in s x i t
+-- the utility of agent i where t has the true types and r the reports
+abbrev pub utility_in : GeneralSetting → (ℕ → ℤ) → ℕ → List ℕ → List ℕ → ℤ
+utility_in s x i t r =
+    sum_to (outcome_count s) (λ o. utility_of s i t o *ℤ x (chance_column s r o)) -ℤ payment_in s x i r
+
+-- the utility of agent i of type a where r has the reports, and the others report their true types
+abbrev pub utility_as : GeneralSetting → (ℕ → ℤ) → ℕ → ℕ → List ℕ → ℤ
+utility_as s x i a r = utility_in s x i (replaced r i a) r
 
 -- how much better the report b is for agent i than its true type, where t has the true types
 abbrev pub gain_in : GeneralSetting → (ℕ → ℤ) → ℕ → ℕ → List ℕ → ℤ
-gain_in s x i b t = utility_in s x i (slice_index t i) (replaced t i b) -ℤ utility_in s x i (slice_index t i) t
+gain_in s x i b t = utility_in s x i t (replaced t i b) -ℤ utility_in s x i t t
 
 -- how much agent i lacks of utility 0, where t has the true types
 abbrev pub lack_in : GeneralSetting → (ℕ → ℤ) → ℕ → List ℕ → ℤ
-lack_in s x i t = neg_ℤ (utility_in s x i (slice_index t i) t)
+lack_in s x i t = neg_ℤ (utility_in s x i t t)
 
 -- the left side of a row
 abbrev pub left_side : GeneralSetting → Row → (ℕ → ℤ) → ℤ

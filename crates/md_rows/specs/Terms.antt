@@ -2,9 +2,9 @@
 use Rattle.std.specs.Prelude.{ℕ, ◌≡◌, ◌≤◌, ◌+◌, ◌*◌, ℤ, ◌+ℤ◌, ◌*ℤ◌, List, All}
 use Rattle.md_math.specs.Sizes.{IsWithin}
 use Rattle.md_math.specs.Sums.{sum_to, total_by}
-use Rattle.md_space.specs.Profiles.{profile_count, profile_at}
+use Rattle.md_space.specs.Profiles.{profile_count, profile_at, replaced}
 use Rattle.md_setting.specs.Setting.{GeneralSetting}
-use Rattle.md_setting.specs.Meaning.{outcome_count, sizes_of, type_utility}
+use Rattle.md_setting.specs.Meaning.{outcome_count, sizes_of, utility_of}
 use Rattle.md_lp.specs.declared.term.Term.{Term}
 use Rattle.md_lp.specs.Shape.{HasPlaces}
 use Rattle.md_rows.specs.Columns.{payment_in}
@@ -23,10 +23,12 @@ pub record AddsTerms (limit first next : ℕ) (form : (ℕ → ℤ) → ℤ) (ol
   pub below : (start : ℕ) → start ≤ first → AreTermsBelow limit start old → AreTermsBelow limit next new
   pub sum : (x : ℕ → ℤ) → sum_at x new ≡ sum_at x old +ℤ form x
 
--- what a type of an agent has of the lottery at the rank of a share, by the share's weight
+-- what agent i has of the lottery at the rank of a share, by the share's weight, where it is of type a and the others report
+-- their true types
 abbrev pub chances_at : GeneralSetting → ℕ → ℕ → (ℕ → ℤ) → Term → ℤ
 chances_at s i a x share =
-    sum_to (outcome_count s) (λ o. (share.value *ℤ type_utility s i a o) *ℤ x (share.column * outcome_count s + o))
+    sum_to (outcome_count s)
+    (λ o. (share.value *ℤ utility_of s i (replaced (profile_at (sizes_of s) share.column) i a) o) *ℤ x (share.column * outcome_count s + o))
 
 -- what an agent pays at the rank of a share, by the share's weight
 abbrev pub paid_at : GeneralSetting → ℕ → (ℕ → ℤ) → Term → ℤ

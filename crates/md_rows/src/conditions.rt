@@ -4,7 +4,7 @@ ghost use Rattle.md_math.specs.Sizes.{IsWithin};
 ghost use Rattle.md_space.specs.Profiles.{profile_count, profile_at};
 ghost use Rattle.md_setting.specs.declared.kinds.Truth.TheVariants.{Dominant, Bayes};
 ghost use Rattle.md_setting.specs.declared.kinds.Rational.TheVariants.{ExPost, Interim};
-ghost use Rattle.md_setting.specs.Meaning.{agent_count, sizes_of, outside_of};
+ghost use Rattle.md_setting.specs.Meaning.{agent_count, sizes_of};
 ghost use Rattle.md_setting.specs.Rows.{column_count};
 ghost use Rattle.md_mech.specs.Rows.{Row, truth_rows, dominant_rows, dominant_rows_at, dominant_row_of, bayes_rows, bayes_rows_at, bayes_row_of, rational_rows, ex_post_rows, ex_post_row, interim_rows, interim_row, deficit_rows, deficit_row, by_profile, profile_row};
 ghost use Rattle.md_setting.specs.Setting.{GeneralSetting};
@@ -13,7 +13,7 @@ ghost use Rattle.md_rows.specs.Sides.{right_side};
 ghost use Rattle.md_rows.specs.Terms.{AreTermsBelow};
 ghost use Rattle.md_rows.specs.Built.{HasRoom, Extends, IsWritten};
 
-use crate::shares::{bayes_shares, dominant_shares, interim_shares, marginal};
+use crate::shares::{bayes_shares, dominant_shares, interim_shares};
 use crate::terms::{deficit_terms, profile_terms, utility_terms};
 use md_lp::{Lp, LpRefusal, RowKind, Term};
 use md_num::{NoMemory, product};
@@ -222,7 +222,7 @@ fn push_ex_post_row(
         value: -1,
     };
     let terms = utility_terms(alloc, setting, agent, kind, &[share])?;
-    push_row(lp, RowKind::AtMost, &terms, -outside(setting, agent, kind))
+    push_row(lp, RowKind::AtMost, &terms, -setting.outside(agent, kind))
 }
 
 fn push_interim(alloc: Global, setting: &Setting, lp: &mut Lp) -> Result<(), NoMemory>
@@ -275,20 +275,7 @@ fn lacking(setting: &Setting, agent: u8, kind: u8) -> i128
     ensures value { result ≡ right_side setting.now (interim_row agent kind) }
     ensures size { IsWithin (2 ^ 44) result }
 {
-    product(
-        -outside(setting, agent, kind),
-        marginal(setting, agent, kind),
-    )
-}
-
-// What a type of an agent has without taking part.
-fn outside(setting: &Setting, agent: u8, kind: u8) -> i128
-    requires agent_in { agent < agent_count setting.now }
-    requires kind_in { kind < slice_index (sizes_of setting.now) agent }
-    ensures value { result ≡ outside_of setting.now agent kind }
-    ensures size { IsWithin 1000000 result }
-{
-    i128::from(setting.outside(agent, kind))
+    product(-setting.outside(agent, kind), setting.marginal(agent, kind))
 }
 
 /// The condition of no deficit at each profile, where the setting asks for it.

@@ -5,7 +5,6 @@ ghost use Rattle.md_space.specs.Profiles.{profile_count, profile_at};
 ghost use Rattle.md_setting.specs.Meaning.{outcome_count, sizes_of, weight_of, value_of};
 ghost use Rattle.md_rows.specs.Costs.{chance_costs, chance_costs_at, revenue_costs, revenue_costs_of, revenue_cost, payment_costs, written_cost};
 
-use crate::shares::weight;
 use md_num::{NoMemory, Nums, product};
 use md_setting::Setting;
 use std::alloc::Global;
@@ -44,16 +43,7 @@ fn chance_cost(setting: &Setting, rank: u32, outcome: u32) -> i128
     requires outcome_in { outcome < outcome_count setting.now }
     ensures { result ≡ weight_of setting.now (profile_at (sizes_of setting.now) rank) *ℤ value_of setting.now (profile_at (sizes_of setting.now) rank) outcome }
 {
-    product(weight(setting, rank), value(setting, rank, outcome))
-}
-
-fn value(setting: &Setting, rank: u32, outcome: u32) -> i128
-    requires rank_in { rank < profile_count (sizes_of setting.now) }
-    requires outcome_in { outcome < outcome_count setting.now }
-    ensures value { result ≡ value_of setting.now (profile_at (sizes_of setting.now) rank) outcome }
-    ensures size { IsWithin 10000000 result }
-{
-    i128::from(setting.value(rank, outcome))
+    product(setting.weight(rank), setting.value(rank, outcome))
 }
 
 fn push_payment_costs(setting: &Setting, cost: &mut Nums) -> Result<(), NoMemory>
@@ -94,12 +84,5 @@ fn revenue_cost(setting: &Setting, rank: u32, sign: i128) -> i128
     requires sign { IsWithin 1 sign }
     ensures { result ≡ revenue_cost setting.now sign rank }
 {
-    product(sign, product(weight(setting, rank), revenue(setting)))
-}
-
-fn revenue(setting: &Setting) -> i128
-    ensures value { result ≡ setting.now.revenue }
-    ensures size { IsWithin 1000 result }
-{
-    i128::from(setting.revenue())
+    product(sign, product(setting.weight(rank), setting.revenue()))
 }

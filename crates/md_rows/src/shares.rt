@@ -3,8 +3,7 @@ ghost use Rattle.std.specs.Prelude.{◌≡◌, ◌≢◌, ℕ, ◌<◌, ◌+◌,
 ghost use Rattle.md_math.specs.Sizes.{IsWithin};
 ghost use Rattle.md_math.specs.Sums.{sum_to};
 ghost use Rattle.md_space.specs.Profiles.{profile_count, profile_at, rank_of, replaced};
-ghost use Rattle.md_setting.specs.Meaning.{agent_count, sizes_of, weight_of, marginal_of};
-ghost use Rattle.md_mech.specs.Utility.{marginal_term};
+ghost use Rattle.md_setting.specs.Meaning.{agent_count, sizes_of};
 ghost use Rattle.md_rows.specs.Shares.{bayes_share, interim_share};
 ghost use Rattle.md_rows.specs.Terms.{sum_at, AreTermsBelow, AddsTerms};
 
@@ -94,11 +93,11 @@ fn push_bayes_share(
 {
     let told = setting.space().report(rank, agent);
     if told == kind {
-        return push_term(shares, rank, -weight(setting, rank));
+        return push_term(shares, rank, -setting.weight(rank));
     }
     if told == report {
         let truth = setting.space().replace(rank, agent, kind);
-        return push_term(shares, rank, weight(setting, truth));
+        return push_term(shares, rank, setting.weight(truth));
     }
     Ok(())
 }
@@ -134,42 +133,7 @@ fn push_interim_share(
     ensures { OnOk result (AddsTerms 1000000 rank (rank + 1) (λ y. interim_share setting.now agent kind (profile_at (sizes_of setting.now) rank) *ℤ y rank) shares.old.items shares.new.items) }
 {
     if setting.space().report(rank, agent) == kind {
-        push_term(shares, rank, -weight(setting, rank))?;
+        push_term(shares, rank, -setting.weight(rank))?;
     }
     Ok(())
-}
-
-/// The weight of the profile of a rank.
-pub(crate) fn weight(setting: &Setting, rank: u32) -> i128
-    requires { rank < profile_count (sizes_of setting.now) }
-    ensures value { result ≡ weight_of setting.now (profile_at (sizes_of setting.now) rank) }
-    ensures size { IsWithin 1000000 result }
-{
-    i128::from(setting.weight(rank))
-}
-
-/// The weight of the profiles in which an agent has a type.
-pub(crate) fn marginal(setting: &Setting, agent: u8, kind: u8) -> i128
-    requires agent_in { agent < agent_count setting.now }
-    ensures value { result ≡ marginal_of setting.now agent kind }
-    ensures size { IsWithin 1000000 result }
-{
-    let mut sum = 0;
-    for rank in 0..setting.space().profiles() {
-        sum += weight_given(setting, agent, kind, rank);
-    }
-    sum
-}
-
-// The weight of one profile, if the agent has the type there.
-fn weight_given(setting: &Setting, agent: u8, kind: u8, rank: u32) -> i128
-    requires agent_in { agent < agent_count setting.now }
-    requires rank_in { rank < profile_count (sizes_of setting.now) }
-    ensures value { result ≡ marginal_term setting.now agent kind (profile_at (sizes_of setting.now) rank) }
-    ensures size { IsWithin 1000000 result }
-{
-    if setting.space().report(rank, agent) != kind {
-        return 0;
-    }
-    weight(setting, rank)
 }

@@ -3,11 +3,11 @@ ghost use Rattle.std.specs.Prelude.{◌≡◌, ℕ, ◌<◌, ◌≤◌, ◌+◌,
 ghost use Rattle.md_math.specs.Sizes.{IsWithin};
 ghost use Rattle.md_math.specs.Sums.{sum_to, total_by};
 ghost use Rattle.md_space.specs.Profiles.{profile_count, profile_at};
-ghost use Rattle.md_setting.specs.Meaning.{agent_count, outcome_count, sizes_of, type_utility};
+ghost use Rattle.md_setting.specs.Meaning.{agent_count, outcome_count, sizes_of, utility_of};
 ghost use Rattle.md_setting.specs.Rows.{column_count};
 ghost use Rattle.md_mech.specs.Rows.{deficit_row, profile_row};
 ghost use Rattle.md_rows.specs.Columns.{first_plus, first_minus};
-ghost use Rattle.md_rows.specs.Sides.{utility_in, left_side};
+ghost use Rattle.md_rows.specs.Sides.{utility_as, left_side};
 ghost use Rattle.md_rows.specs.Terms.{sum_at, AreTermsBelow, AddsTerms, chances_at, part_at, paid_at, part_of_all};
 
 use crate::layout::{first_minus, first_plus};
@@ -24,7 +24,8 @@ pub(crate) fn push_term(terms: &mut Vec<Term>, column: u32, value: i128) -> Resu
     Ok(())
 }
 
-/// The weighted utility of an agent of a type: `shares` has the weight of each profile's utility, at the profile's rank.
+/// The weighted utility of an agent of a type: `shares` has the weight of its utility at each profile of reports, at the
+/// profile's rank. The others report their true types.
 pub(crate) fn utility_terms(
     alloc: Global,
     setting: &Setting,
@@ -36,7 +37,7 @@ pub(crate) fn utility_terms(
     requires kind_in { kind < slice_index (sizes_of setting.now) agent }
     requires shares { AreTermsBelow 1000000 (profile_count (sizes_of setting.now)) shares.now }
     ensures placed { IfOk result (λ terms. AreTermsBelow (2 ^ 44) (column_count setting.now) terms.items) }
-    ensures sum { IfOk result (λ terms. (x : ℕ → ℤ) → sum_at x terms.items ≡ sum_at (λ r. utility_in setting.now x agent kind (profile_at (sizes_of setting.now) r)) shares.now) }
+    ensures sum { IfOk result (λ terms. (x : ℕ → ℤ) → sum_at x terms.items ≡ sum_at (λ r. utility_as setting.now x agent kind (profile_at (sizes_of setting.now) r)) shares.now) }
 {
     let mut terms = Vec::new(alloc);
     push_lotteries(setting, agent, kind, shares, &mut terms)?;
@@ -63,7 +64,7 @@ fn push_lotteries(
     Ok(())
 }
 
-// The chances of one profile.
+// The chances of one profile, where the agent is of the type.
 fn push_lottery(
     setting: &Setting,
     agent: u8,
@@ -77,34 +78,25 @@ fn push_lottery(
     requires small { IsWithin 1000000 share.now.value }
     ensures { OnOk result (AddsTerms (2 ^ 44) (share.now.column * outcome_count setting.now) (share.now.column * outcome_count setting.now + outcome_count setting.now) (λ x. chances_at setting.now agent kind x share.now) terms.old.items terms.new.items) }
 {
+    let truth = setting.space().replace(share.column, agent, kind);
     let first = share.column * setting.outcomes();
     for outcome in 0..setting.outcomes() {
-        let value = scaled_utility(setting, agent, kind, outcome, share.value);
+        let value = scaled_utility(setting, agent, truth, outcome, share.value);
         push_term(terms, first + outcome, value)?;
     }
     Ok(())
 }
 
-// The utility of a type of an agent at an outcome, times a weight.
-fn scaled_utility(setting: &Setting, agent: u8, kind: u8, outcome: u32, weight: i128) -> i128
+// The utility of an agent at an outcome where the profile of a rank has the true types, times a weight.
+fn scaled_utility(setting: &Setting, agent: u8, truth: u32, outcome: u32, weight: i128) -> i128
     requires agent_in { agent < agent_count setting.now }
-    requires kind_in { kind < slice_index (sizes_of setting.now) agent }
+    requires truth_in { truth < profile_count (sizes_of setting.now) }
     requires outcome_in { outcome < outcome_count setting.now }
     requires small { IsWithin 1000000 weight }
-    ensures value { result ≡ weight *ℤ type_utility setting.now agent kind outcome }
+    ensures value { result ≡ weight *ℤ utility_of setting.now agent (profile_at (sizes_of setting.now) truth) outcome }
     ensures size { IsWithin (2 ^ 44) result }
 {
-    product(weight, utility(setting, agent, kind, outcome))
-}
-
-fn utility(setting: &Setting, agent: u8, kind: u8, outcome: u32) -> i128
-    requires agent_in { agent < agent_count setting.now }
-    requires kind_in { kind < slice_index (sizes_of setting.now) agent }
-    requires outcome_in { outcome < outcome_count setting.now }
-    ensures value { result ≡ type_utility setting.now agent kind outcome }
-    ensures size { IsWithin 1000000 result }
-{
-    i128::from(setting.utility(agent, kind, outcome))
+    product(weight, setting.utility(agent, truth, outcome))
 }
 
 // What an agent pays at the profiles, taken from its utility by the profiles' weights.

@@ -34,6 +34,7 @@ fn guest(alloc: Global, utility: &[i64]) -> Result<RawAgent, AllocError> {
         weights: vec![in alloc; 1]?,
         outside: vec![in alloc; 1]?,
         utility: vec![in alloc; Vec::from_slice(alloc, utility)?]?,
+        at: None,
     })
 }
 
@@ -66,6 +67,7 @@ fn sale(alloc: Global) -> Result<RawSetting, AllocError> {
         weights: vec![in alloc; 1, 2]?,
         outside: vec![in alloc; 0, 0]?,
         utility: vec![in alloc; vec![in alloc; 0, 1]?, vec![in alloc; 0, 3]?]?,
+        at: None,
     };
     Ok(RawSetting {
         agents: vec![in alloc; buyer]?,
@@ -89,6 +91,7 @@ fn pair(alloc: Global) -> Result<RawSetting, AllocError> {
         weights: Vec::new(alloc),
         outside: vec![in alloc; 0, 1]?,
         utility: vec![in alloc; vec![in alloc; 1]?, vec![in alloc; 3]?]?,
+        at: None,
     };
     let second = RawAgent {
         name: String::from_str(alloc, "two")?,
@@ -96,6 +99,7 @@ fn pair(alloc: Global) -> Result<RawSetting, AllocError> {
         weights: Vec::new(alloc),
         outside: vec![in alloc; 1]?,
         utility: vec![in alloc; vec![in alloc; 2]?]?,
+        at: None,
     };
     Ok(RawSetting {
         agents: vec![in alloc; first, second]?,
@@ -108,6 +112,38 @@ fn pair(alloc: Global) -> Result<RawSetting, AllocError> {
         rational: Rational::Interim,
         payments: true,
         no_deficit: true,
+    })
+}
+
+// A good or bad item, and a buyer who has 1 of the good one and loses 1 by the bad one.
+fn sight(alloc: Global) -> Result<RawSetting, AllocError> {
+    let seller = RawAgent {
+        name: String::from_str(alloc, "first")?,
+        types: names(alloc, &["good", "bad"])?,
+        weights: vec![in alloc; 1, 1]?,
+        outside: vec![in alloc; 0, 0]?,
+        utility: vec![in alloc; vec![in alloc; 0, 0]?, vec![in alloc; 0, 0]?]?,
+        at: None,
+    };
+    let buyer = RawAgent {
+        name: String::from_str(alloc, "second")?,
+        types: names(alloc, &["s"])?,
+        weights: vec![in alloc; 1]?,
+        outside: vec![in alloc; 0]?,
+        utility: Vec::new(alloc),
+        at: Some(vec![in alloc; vec![in alloc; 0, 1]?, vec![in alloc; 0, -1]?]?),
+    };
+    Ok(RawSetting {
+        agents: vec![in alloc; seller, buyer]?,
+        outcomes: names(alloc, &["no", "yes"])?,
+        prior: None,
+        values: vec![in alloc; 0, 0]?,
+        welfare: 1,
+        revenue: 0,
+        truth: Truth::Dominant,
+        rational: Rational::ExPost,
+        payments: false,
+        no_deficit: false,
     })
 }
 
@@ -284,6 +320,51 @@ static PAIR: [Wanted; 9] = [
     },
 ];
 
+// The columns: no and yes at good, no and yes at bad. The seller gains and loses nothing, and the buyer has 1 of yes at
+// good and -1 of it at bad.
+static SIGHT: [Wanted; 8] = [
+    Wanted {
+        kind: RowKind::AtMost,
+        numbers: &[0, 0, 0, 0],
+        right: 0,
+    },
+    Wanted {
+        kind: RowKind::AtMost,
+        numbers: &[0, 0, 0, 0],
+        right: 0,
+    },
+    Wanted {
+        kind: RowKind::AtMost,
+        numbers: &[0, 0, 0, 0],
+        right: 0,
+    },
+    Wanted {
+        kind: RowKind::AtMost,
+        numbers: &[0, 0, 0, 0],
+        right: 0,
+    },
+    Wanted {
+        kind: RowKind::AtMost,
+        numbers: &[0, -1, 0, 0],
+        right: 0,
+    },
+    Wanted {
+        kind: RowKind::AtMost,
+        numbers: &[0, 0, 0, 1],
+        right: 0,
+    },
+    Wanted {
+        kind: RowKind::Exact,
+        numbers: &[1, 1, 0, 0],
+        right: 1,
+    },
+    Wanted {
+        kind: RowKind::Exact,
+        numbers: &[0, 0, 1, 1],
+        right: 1,
+    },
+];
+
 #[test]
 fn writes_the_rows_of_settings(rt: HostRuntime) -> Result<(), Fail> {
     let alloc = rt.alloc();
@@ -306,7 +387,8 @@ fn writes_the_rows_of_settings(rt: HostRuntime) -> Result<(), Fail> {
         1,
         &[3, 10, 1, 2, 1, 2, -1, -2, -1, -2],
         &PAIR,
-    )
+    )?;
+    judge(&rt, alloc, sight(alloc)?, 1, &[0, 1, 0, -1], &SIGHT)
 }
 
 // The mechanism of the point of a mechanism that is admissible.

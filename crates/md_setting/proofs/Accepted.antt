@@ -14,9 +14,9 @@ use Rattle.md_space.specs.declared.refusal.SpaceRefusal.{SpaceRefusal}
 use Rattle.md_space.specs.declared.refusal.SpaceRefusal.TheVariants.{Empty, TooManyTypes, TooManyProfiles}
 use Rattle.md_space.proofs.Ranks.{rank_of-below, profile_at-rank_of}
 use Rattle.md_setting.specs.Setting.{Agent, GeneralSetting}
-use Rattle.md_setting.specs.Meaning.{nobody, agent_at, agent_count, outcome_count, sizes_of, weight_of, marginal_of, total_of, value_of}
+use Rattle.md_setting.specs.Meaning.{nobody, agent_at, agent_count, outcome_count, sizes_of, utilities_by, weight_of, marginal_of, total_of, value_of}
 use Rattle.md_setting.specs.Rows.{row_count, cell_count}
-use Rattle.md_setting.specs.Refusals.{all_below, is_small, is_weight, has_agent_shape, has_prior_shape, has_good_sizes, has_good_shape, has_small_numbers, has_small_prior, has_small_lists, has_small_values, has_all_weights, has_small_total, has_few_rows}
+use Rattle.md_setting.specs.Refusals.{all_below, is_small, is_weight, has_agent_shape, has_at_shape, has_rows, has_small_rows, has_small_at, has_prior_shape, has_good_sizes, has_good_shape, has_small_numbers, has_small_prior, has_small_lists, has_small_values, has_all_weights, has_small_total, has_few_rows}
 use Rattle.md_setting.specs.Shaped.{IsListed, IsSmall, IsWeight, IsShaped}
 use Rattle.md_setting.proofs.TestLaws.{and_left, and_right, all_below-at, list_all-at, le_of_test, is_within}
 use Rattle.md_setting.proofs.ValueLaws.{small_values-by_rank}
@@ -25,23 +25,38 @@ use Rattle.md_setting.proofs.WeightLaws.{weight_of-nonneg, weight_of-within, wit
 same_of_eq : (m n : ℕ) → (m == n) ≡ true → m ≡ n
 same_of_eq m n h = grind (arith, nat_tests)
 
--- what the shape of one agent's lists is
-pub record IsAgentListed (has_prior : Bool) (outcomes : ℕ) (agent : Agent) : Type 0 where
-  pub weights : length agent.weights ≡ (if has_prior then 0 else length agent.types)
-  pub outside : length agent.outside ≡ length agent.types
-  pub utility : length agent.utility ≡ length agent.types
-  pub rows : list_all (λ row. length row == outcomes) agent.utility ≡ true
+-- so many lists, each with a number for each outcome
+record AreRows (count outcomes : ℕ) (rows : List (List ℤ)) : Type 0 where
+  count_is : length rows ≡ count
+  row : (a : ℕ) → a < length rows → length (slice_index_or rows a []) ≡ outcomes
 
-agent_listed : (has_prior : Bool) (outcomes : ℕ) (agent : Agent) → has_agent_shape has_prior outcomes agent ≡ true → IsAgentListed has_prior outcomes agent
+are_rows : (count outcomes : ℕ) (rows : List (List ℤ)) → has_rows count outcomes rows ≡ true → AreRows count outcomes rows
+are_rows count outcomes rows h = record {
+  count_is = same_of_eq _ _ (and_left _ _ h);
+  row = λ a l. same_of_eq _ _ (list_all-at (λ row. length row == outcomes) rows a [] (and_right (length rows == count) _ h) l);
+}
+
+at_rows : (profiles outcomes : ℕ) (at : Option (List (List ℤ))) → has_at_shape profiles outcomes at ≡ true → (found : List (List ℤ)) → at ≡ Some found → AreRows profiles outcomes found
+at_rows profiles outcomes None h found e = cc
+at_rows profiles outcomes (Some at) h found e = let f : at ≡ found = cc in subst (AreRows profiles outcomes) f (are_rows profiles outcomes at h)
+
+-- what the shape of one agent's lists is
+record IsAgentListed (has_prior : Bool) (profiles outcomes : ℕ) (agent : Agent) : Type 0 where
+  weights : length agent.weights ≡ (if has_prior then 0 else length agent.types)
+  outside : length agent.outside ≡ length agent.types
+  utility : AreRows (if is_some agent.at then 0 else length agent.types) outcomes agent.utility
+  at : (found : List (List ℤ)) → agent.at ≡ Some found → AreRows profiles outcomes found
+
+agent_listed : (has_prior : Bool) (profiles outcomes : ℕ) (agent : Agent) → has_agent_shape has_prior profiles outcomes agent ≡ true → IsAgentListed has_prior profiles outcomes agent
 unfolding has_agent_shape
-agent_listed has_prior outcomes agent h =
+agent_listed has_prior profiles outcomes agent h =
     let abc = and_left _ _ h in
     let ab = and_left _ _ abc in
     record {
       weights = same_of_eq _ _ (and_left _ _ ab);
       outside = same_of_eq _ _ (and_right _ _ ab);
-      utility = same_of_eq _ _ (and_right _ _ abc);
-      rows = and_right _ _ h;
+      utility = are_rows _ _ _ (and_right _ _ abc);
+      at = at_rows profiles outcomes agent.at (and_right _ _ h);
     }
 
 size_at : (s : GeneralSetting) (i : ℕ) → i < agent_count s → length (agent_at s i).types ≡ slice_index (sizes_of s) i
@@ -102,16 +117,19 @@ pub listed : (s : GeneralSetting) → has_good_sizes s ≡ true → has_good_sha
 unfolding has_good_sizes has_good_shape
 listed s sizes shape =
     let ab = and_left _ _ shape in
-    let agent : (i : ℕ) → i < agent_count s → IsAgentListed (is_some s.prior) (outcome_count s) (agent_at s i) =
-    λ i h. agent_listed (is_some s.prior) (outcome_count s) (agent_at s i) (list_all-at (has_agent_shape (is_some s.prior) (outcome_count s)) s.agents i nobody (and_left _ _ ab) h) in
+    let profiles = profile_count (sizes_of s) in
+    let agent : (i : ℕ) → i < agent_count s → IsAgentListed (is_some s.prior) profiles (outcome_count s) (agent_at s i) =
+    λ i h. agent_listed (is_some s.prior) profiles (outcome_count s) (agent_at s i) (list_all-at (has_agent_shape (is_some s.prior) profiles (outcome_count s)) s.agents i nobody (and_left _ _ ab) h) in
     record {
       space = good_space s sizes;
       some_outcome = le_of_test _ _ (and_right _ _ (and_left _ _ sizes));
       few_outcomes = le_of_test _ _ (and_right _ _ sizes);
       outside = λ i h. (agent i h).outside ∙ size_at s i h;
-      utility = λ i h. (agent i h).utility ∙ size_at s i h;
-      row = λ i a h k. same_of_eq _ _ (list_all-at (λ row. length row == outcome_count s) (agent_at s i).utility a [] (agent i h).rows
-          (rw ((agent i h).utility ∙ size_at s i h) k));
+      utility = λ i h e. (agent i h).utility.count_is ∙ ap (λ b. if b then 0 else length (agent_at s i).types) (ap is_some e) ∙ size_at s i h;
+      row = λ i a h k. (agent i h).utility.row a k;
+      beside_at = λ at i h e. (agent i h).utility.count_is ∙ ap (λ b. if b then 0 else length (agent_at s i).types) (ap is_some e);
+      at = λ at i h e. ((agent i h).at at e).count_is;
+      at_row = λ at i r h e l. ((agent i h).at at e).row r l;
       weights = λ e i h. (rw (no_prior s.prior e) at (agent i h).weights) ∙ size_at s i h;
       beside_prior = λ p e i h. (rw e at (agent i h).weights);
       prior = prior_listed s.prior (profile_count (sizes_of s)) (and_right _ _ ab);
@@ -131,32 +149,37 @@ at_each P p f z [] h k = z
 at_each P p f z (x ∷ xs) h zero = f x (and_left _ _ h)
 at_each P p f z (x ∷ xs) h (suc k) = at_each P p f z xs (and_right (p x) _ h) k
 
-rows_at : (rows : List (List ℤ)) → list_all (list_all (is_small 1000000)) rows ≡ true → (a o : ℕ) → IsWithin 1000000 (number_at (slice_index_or rows a []) o)
+rows_at : (rows : List (List ℤ)) → has_small_rows rows ≡ true → (a o : ℕ) → IsWithin 1000000 (number_at (slice_index_or rows a []) o)
 rows_at [] h a o = IsWithin-zero 1000000
 rows_at (row ∷ rows) h zero o = at_each (IsWithin 1000000) (is_small 1000000) (is_within 1000000) (IsWithin-zero 1000000) row (and_left _ _ h) o
 rows_at (row ∷ rows) h (suc a) o = rows_at rows (and_right (list_all (is_small 1000000) row) _ h) a o
 
+utilities_at : (at : Option (List (List ℤ))) (utility : List (List ℤ)) → has_small_rows utility ≡ true → has_small_at at ≡ true → (r a o : ℕ) → IsWithin 1000000 (number_at (utilities_by at utility r a) o)
+utilities_at None utility h k r a o = rows_at utility h a o
+utilities_at (Some at) utility h k r a o = rows_at at k r o
+
 -- the numbers of one agent
-pub record IsAgentSmall (agent : Agent) : Type 0 where
-  pub weight : (a : ℕ) → IsWeight (number_at agent.weights a)
-  pub outside : (a : ℕ) → IsWithin 1000000 (number_at agent.outside a)
-  pub utility : (a o : ℕ) → IsWithin 1000000 (number_at (slice_index_or agent.utility a []) o)
+record IsAgentSmall (agent : Agent) : Type 0 where
+  weight : (a : ℕ) → IsWeight (number_at agent.weights a)
+  outside : (a : ℕ) → IsWithin 1000000 (number_at agent.outside a)
+  utility : (r a o : ℕ) → IsWithin 1000000 (number_at (utilities_by agent.at agent.utility r a) o)
 
 agent_small : (agent : Agent) → has_small_numbers agent ≡ true → IsAgentSmall agent
 unfolding has_small_numbers
 agent_small agent h =
-    let ab = and_left _ _ h in
+    let abc = and_left _ _ h in
+    let ab = and_left _ _ abc in
     record {
       weight = at_each IsWeight is_weight weight_of_test zero_weight agent.weights (and_left _ _ ab);
       outside = at_each (IsWithin 1000000) (is_small 1000000) (is_within 1000000) (IsWithin-zero 1000000) agent.outside (and_right _ _ ab);
-      utility = rows_at agent.utility (and_right _ _ h);
+      utility = utilities_at agent.at agent.utility (and_right _ _ abc) (and_right _ _ h);
     }
 
 agents_small : (agents : List Agent) → list_all has_small_numbers agents ≡ true → (i : ℕ) → IsAgentSmall (slice_index_or agents i nobody)
 agents_small [] h i = record {
   weight = λ a. zero_weight;
   outside = λ a. IsWithin-zero 1000000;
-  utility = λ a o. IsWithin-zero 1000000;
+  utility = λ r a o. IsWithin-zero 1000000;
 }
 agents_small (agent ∷ agents) h zero = agent_small agent (and_left _ _ h)
 agents_small (agent ∷ agents) h (suc i) = agents_small agents (and_right (has_small_numbers agent) _ h) i
@@ -175,7 +198,7 @@ small s h =
     let ab = and_left _ _ abc in
     let agent : (i : ℕ) → IsAgentSmall (agent_at s i) = agents_small s.agents (and_left _ _ ab) in
     record {
-      utility = λ i a o. (agent i).utility a o;
+      utility = λ i t o. (agent i).utility (rank_of (sizes_of s) t) (slice_index t i) o;
       outside = λ i a. (agent i).outside a;
       value = at_each (IsWithin 1000000) (is_small 1000000) (is_within 1000000) (IsWithin-zero 1000000) s.values (and_right _ _ abc);
       welfare = is_within 1000 s.welfare (and_right _ _ abcd);

@@ -39,7 +39,7 @@ are_apart-append (x ∷ xs) ys h =
     here true b c d e f = refl
     here false b c d e f = none_left (not b) d (f e)
 
-list_any-map : {X : Type 0} → (p : List ℕ → Bool) (f : X → List ℕ) (xs : List X) → list_any p (map f xs) ≡ list_any (λ x. p (f x)) xs
+pub list_any-map : {X : Type 0} → (p : List ℕ → Bool) (f : X → List ℕ) (xs : List X) → list_any p (map f xs) ≡ list_any (λ x. p (f x)) xs
 list_any-map p f [] = refl
 list_any-map p f (x ∷ xs) = ap (λ b. p (f x) || b) (list_any-map p f xs)
 

@@ -3,7 +3,12 @@ pub mod Apart
 pub mod Auctions
 pub mod CountLaws
 pub mod FirstRefusal
+pub mod GeneralLaws
+pub mod IndependentLaws
+pub mod KeptLaws
 pub mod Lookups
+pub mod MarginalLaws
+pub mod NumberLaws
 pub mod RangeTests
 pub mod RowTests
 pub mod SizeTests

@@ -1,5 +1,5 @@
 -- What an outcome is worth to the designer, added up agent by agent.
-use Rattle.std.proofs.Common.{◌≡◌, ℕ, ◌+◌, ◌*◌, ◌^◌, ◌<◌, ℤ, ◌*ℤ◌, unsigned_abs, List, sym, ap, ◌∙◌, subst, arith, slice_index}
+use Rattle.std.proofs.Common.{◌≡◌, ℕ, ◌+◌, ◌*◌, ◌^◌, ◌<◌, ℤ, ◌*ℤ◌, unsigned_abs, List, sym, ap, ◌∙◌, subst, arith}
 use Rattle.std.specs.Prelude.{◌+ℤ◌}
 use Rattle.std.proofs.lemmas.Nat.{mul-le}
 use Rattle.std.proofs.Math.IntN.{+ℤ_assoc}
@@ -25,7 +25,7 @@ pub value_so_far-within : (s : GeneralSetting) (t : List ℕ) (o n : ℕ) → Is
 value_so_far-within s t o n h =
     IsWithin-+ℤ 1000000 (n * 1000000000) (number_at s.values o) (sum_to n (λ i. s.welfare *ℤ utility_of s i t o)) (h.value o)
     (sum_to-within n 1000000000 (λ i. s.welfare *ℤ utility_of s i t o)
-    (λ i l. IsWithin-*ℤ 1000 1000000 s.welfare (utility_of s i t o) h.welfare (h.utility i (slice_index t i) o)))
+    (λ i l. IsWithin-*ℤ 1000 1000000 s.welfare (utility_of s i t o) h.welfare (h.utility i t o)))
 
 -- one agent more fits
 pub value_fits : (s : GeneralSetting) (t : List ℕ) (o n : ℕ) (v w u : ℤ) → IsSmall s → n < 7 → v ≡ value_so_far s t o n → w ≡ s.welfare → u ≡ utility_of s n t o →
@@ -33,7 +33,7 @@ pub value_fits : (s : GeneralSetting) (t : List ℕ) (o n : ℕ) (v w u : ℤ) �
 value_fits s t o n v w u h l e f g =
     let size : IsWithin (1000000 + n * 1000000000) v = subst (IsWithin (1000000 + n * 1000000000)) (sym e) (value_so_far-within s t o n h) in
     let welfare : IsWithin 1000 w = subst (IsWithin 1000) (sym f) h.welfare in
-    let utility : IsWithin 1000000 u = subst (IsWithin 1000000) (sym g) (h.utility n (slice_index t n) o) in
+    let utility : IsWithin 1000000 u = subst (IsWithin 1000000) (sym g) (h.utility n t o) in
     omega (arith, size.within, mul-le (unsigned_abs w) (unsigned_abs u) 1000 1000000 welfare.within utility.within)
 
 pub value_more : (s : GeneralSetting) (t : List ℕ) (o n : ℕ) (v w u : ℤ) → v ≡ value_so_far s t o n → w ≡ s.welfare → u ≡ utility_of s n t o →

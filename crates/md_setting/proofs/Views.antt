@@ -11,7 +11,7 @@ use Rattle.md_setting.specs.declared.raw.RawAgent.{RawAgent}
 use Rattle.md_setting.specs.declared.raw.RawSetting.{RawSetting}
 use Rattle.md_setting.specs.Setting.{Agent, names_of, rows_of, written_agent, written}
 use Rattle.md_setting.specs.Meaning.{sizes_of}
-use Rattle.md_setting.specs.Refusals.{is_name, has_good_names, has_named_types, has_own_names, are_apart, has_good_shape, has_agent_shape, has_prior_shape}
+use Rattle.md_setting.specs.Refusals.{is_name, has_good_names, has_named_types, has_own_names, are_apart, has_good_shape, has_agent_shape, has_rows, has_at_shape, has_prior_shape}
 
 pub all_names : (texts : List (String Global)) → list_all is_name (names_of texts) ≡ list_all (λ text. is_name (string_bytes text)) texts
 all_names texts = list_all-map is_name string_bytes texts
@@ -52,7 +52,7 @@ is_some-items (Some weights) = refl
 
 pub good_shape : (raw : RawSetting) →
     has_good_shape (written raw)
-    ≡ (list_all (λ agent. has_agent_shape (is_some raw.prior) (vec_len raw.outcomes) (written_agent agent)) raw.agents.items
+    ≡ (list_all (λ agent. has_agent_shape (is_some raw.prior) (profile_count (sizes_of (written raw))) (vec_len raw.outcomes) (written_agent agent)) raw.agents.items
     && has_prior_shape (option_map (λ weights. weights.items) raw.prior) (profile_count (sizes_of (written raw)))
     && (vec_len raw.values == vec_len raw.outcomes))
 unfolding has_good_shape
@@ -60,20 +60,28 @@ good_shape raw =
     let outcomes : length (names_of raw.outcomes.items) ≡ vec_len raw.outcomes = length-map raw.outcomes.items string_bytes ∙ omega arith in
     let values : length raw.values.items ≡ vec_len raw.values = omega arith in
     rw (
-      all_agents (has_agent_shape (is_some (option_map (λ weights. weights.items) raw.prior)) (length (names_of raw.outcomes.items))) raw.agents.items,
+      all_agents (has_agent_shape (is_some (option_map (λ weights. weights.items) raw.prior)) (profile_count (sizes_of (written raw))) (length (names_of raw.outcomes.items))) raw.agents.items,
       is_some-items raw.prior,
       outcomes,
       values,
     ) refl
 
-pub agent_shape : (agent : RawAgent) (has_prior : Bool) (outcomes : ℕ) →
-    has_agent_shape has_prior outcomes (written_agent agent)
+pub all_rows : (rows : List (Vec ℤ Global)) (count columns : ℕ) →
+    has_rows count columns (rows_of rows) ≡ ((length rows == count) && list_all (λ row. vec_len row == columns) rows)
+all_rows rows count columns =
+    both _ _ _ _ (ap (λ n. n == count) (length-map rows (λ (row : Vec ℤ Global). row.items))) (all_long rows columns)
+
+has_at : (at : Option (Vec (Vec ℤ Global) Global)) → is_some (option_map (λ rows. rows_of rows.items) at) ≡ is_some at
+has_at None = refl
+has_at (Some rows) = refl
+
+pub agent_shape : (agent : RawAgent) (has_prior : Bool) (profiles outcomes : ℕ) →
+    has_agent_shape has_prior profiles outcomes (written_agent agent)
     ≡ ((vec_len agent.weights == (if has_prior then 0 else vec_len agent.types))
     && (vec_len agent.outside == vec_len agent.types)
-    && (vec_len agent.utility == vec_len agent.types)
-    && list_all (λ row. vec_len row == outcomes) agent.utility.items)
+    && ((length agent.utility.items == (if is_some agent.at then 0 else vec_len agent.types)) && list_all (λ row. vec_len row == outcomes) agent.utility.items)
+    && has_at_shape profiles outcomes (option_map (λ rows. rows_of rows.items) agent.at))
 unfolding has_agent_shape
-agent_shape agent has_prior outcomes =
+agent_shape agent has_prior profiles outcomes =
     let types : length (names_of agent.types.items) ≡ vec_len agent.types = length-map agent.types.items string_bytes ∙ omega arith in
-    let rows : length (rows_of agent.utility.items) ≡ vec_len agent.utility = length-map agent.utility.items (λ row. row.items) ∙ omega arith in
-    rw (types, rows, same_len agent.weights, same_len agent.outside, all_long agent.utility.items outcomes) refl
+    rw (types, has_at agent.at, same_len agent.weights, same_len agent.outside, all_rows agent.utility.items (if is_some agent.at then 0 else vec_len agent.types) outcomes) refl

@@ -2,8 +2,10 @@ pub mod Auction
 pub mod AuctionRefusals
 pub mod AuctionShaped
 pub mod CountLists
+pub mod General
 pub mod Kept
 pub mod Meaning
+pub mod Names
 pub mod Passed
 pub mod Refusals
 pub mod Rows

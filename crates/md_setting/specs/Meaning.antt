@@ -1,15 +1,16 @@
 -- What the numbers of a general setting mean, at an agent, a profile and an outcome.
 -- A profile gives each agent the number of one of its types.
-use Rattle.std.specs.Prelude.{ℕ, ℤ, pos, ◌+ℤ◌, ◌*ℤ◌, List, [], ◌∷◌, map, length, Option, None, Some, slice_index, slice_index_or, if◌then◌else◌, ◌==◌}
+use Rattle.std.specs.Prelude.{ℕ, ℤ, pos, ◌+ℤ◌, ◌*ℤ◌, List, [], ◌∷◌, map, length, Option, None, Some, slice_index, slice_index_or}
 use Rattle.md_math.specs.Lists.{number_at}
 use Rattle.md_math.specs.Sums.{sum_to, total_by}
 use Rattle.md_space.specs.Profiles.{rank_of}
 use Rattle.md_space.specs.AllProfiles.{profiles_of}
+use Rattle.md_space.specs.ByType.{where_type}
 use Rattle.md_setting.specs.Setting.{Agent, GeneralSetting}
 
 -- an agent with no types, which stands where there is none
 abbrev pub nobody : Agent
-nobody = record { name = []; types = []; weights = []; outside = []; utility = [] }
+nobody = record { name = []; types = []; weights = []; outside = []; utility = []; at = None }
 
 abbrev pub agent_at : GeneralSetting → ℕ → Agent
 agent_at s i = slice_index_or s.agents i nobody
@@ -26,13 +27,15 @@ outcome_count s = length s.outcomes
 abbrev pub sizes_of : GeneralSetting → List ℕ
 sizes_of s = map (λ a. length a.types) s.agents
 
--- the utility that type a of agent i has at outcome o
-abbrev pub type_utility : GeneralSetting → ℕ → ℕ → ℕ → ℤ
-type_utility s i a o = number_at (slice_index_or (agent_at s i).utility a []) o
+-- the utilities of an agent by outcome: those of its type a, or those at the rank r of the true profile
+abbrev pub utilities_by : Option (List (List ℤ)) → List (List ℤ) → ℕ → ℕ → List ℤ
+utilities_by None utility r a = slice_index_or utility a []
+utilities_by (Some at) utility r a = slice_index_or at r []
 
 -- the utility of agent i at outcome o where t has the true types
 abbrev pub utility_of : GeneralSetting → ℕ → List ℕ → ℕ → ℤ
-utility_of s i t o = type_utility s i (slice_index t i) o
+utility_of s i t o =
+    number_at (utilities_by (agent_at s i).at (agent_at s i).utility (rank_of (sizes_of s) t) (slice_index t i)) o
 
 -- what type a of agent i has without taking part
 abbrev pub outside_of : GeneralSetting → ℕ → ℕ → ℤ
@@ -58,7 +61,7 @@ total_of s = total_by (weight_of s) (profiles_of (sizes_of s))
 
 -- the weight of the profiles in which agent i has type a
 abbrev pub marginal_of : GeneralSetting → ℕ → ℕ → ℤ
-marginal_of s i a = total_by (λ t. if slice_index t i == a then weight_of s t else pos 0) (profiles_of (sizes_of s))
+marginal_of s i a = total_by (where_type i a (weight_of s)) (profiles_of (sizes_of s))
 
 -- the utility of all agents together at outcome o where t has the true types
 abbrev pub welfare_of : GeneralSetting → List ℕ → ℕ → ℤ

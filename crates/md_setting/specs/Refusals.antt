@@ -44,13 +44,23 @@ has_own_names s =
 unfoldable pub has_good_sizes : GeneralSetting → Bool
 has_good_sizes s = not (is_some (space_refusal_of (sizes_of s))) && nat_le 1 (outcome_count s) && nat_le (outcome_count s) 16
 
--- an agent's lists run over its types, and its utilities over the outcomes too; beside a joint prior it has no weights
-unfoldable pub has_agent_shape : Bool → ℕ → Agent → Bool
-has_agent_shape has_prior outcomes agent =
+-- there are so many lists, each with a number for each outcome
+abbrev pub has_rows : ℕ → ℕ → List (List ℤ) → Bool
+has_rows count outcomes rows = (length rows == count) && list_all (λ row. length row == outcomes) rows
+
+-- utilities that depend on all types run over the profiles and the outcomes
+abbrev pub has_at_shape : ℕ → ℕ → Option (List (List ℤ)) → Bool
+has_at_shape profiles outcomes None = true
+has_at_shape profiles outcomes (Some at) = has_rows profiles outcomes at
+
+-- an agent's lists run over its types, and its utilities over the outcomes too; beside a joint prior it has no weights, and
+-- beside utilities that depend on all types none by its own
+unfoldable pub has_agent_shape : Bool → ℕ → ℕ → Agent → Bool
+has_agent_shape has_prior profiles outcomes agent =
     (length agent.weights == (if has_prior then 0 else length agent.types))
     && (length agent.outside == length agent.types)
-    && (length agent.utility == length agent.types)
-    && list_all (λ row. length row == outcomes) agent.utility
+    && has_rows (if is_some agent.at then 0 else length agent.types) outcomes agent.utility
+    && has_at_shape profiles outcomes agent.at
 
 -- a prior runs over the profiles
 abbrev pub has_prior_shape : Option (List ℤ) → ℕ → Bool
@@ -59,7 +69,7 @@ has_prior_shape (Some prior) profiles = length prior == profiles
 
 unfoldable pub has_good_shape : GeneralSetting → Bool
 has_good_shape s =
-    list_all (has_agent_shape (is_some s.prior) (outcome_count s)) s.agents
+    list_all (has_agent_shape (is_some s.prior) (profile_count (sizes_of s)) (outcome_count s)) s.agents
     && has_prior_shape s.prior (profile_count (sizes_of s))
     && (length s.values == outcome_count s)
 
@@ -72,11 +82,20 @@ abbrev pub is_weight : ℤ → Bool
 is_weight (pos n) = nat_le n 1000000
 is_weight (negsuc n) = false
 
+-- each utility is at most 1,000,000 in size
+abbrev pub has_small_rows : List (List ℤ) → Bool
+has_small_rows rows = list_all (list_all (is_small 1000000)) rows
+
+abbrev pub has_small_at : Option (List (List ℤ)) → Bool
+has_small_at None = true
+has_small_at (Some at) = has_small_rows at
+
 unfoldable pub has_small_numbers : Agent → Bool
 has_small_numbers agent =
     list_all is_weight agent.weights
     && list_all (is_small 1000000) agent.outside
-    && list_all (list_all (is_small 1000000)) agent.utility
+    && has_small_rows agent.utility
+    && has_small_at agent.at
 
 abbrev pub has_small_prior : Option (List ℤ) → Bool
 has_small_prior None = true

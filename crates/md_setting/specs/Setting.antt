@@ -7,13 +7,15 @@ use Rattle.md_setting.specs.declared.kinds.Rational.{Rational}
 use Rattle.md_setting.specs.declared.raw.RawAgent.{RawAgent}
 use Rattle.md_setting.specs.declared.raw.RawSetting.{RawSetting}
 
--- an agent: weights, outside utilities and utilities are listed by type, each list of utilities by outcome
+-- an agent: weights, outside utilities and utilities are listed by type, each list of utilities by outcome; where its utility
+-- depends on the types of all agents, it is listed by the rank of the true profile, then by outcome, and there is no list by type
 pub record Agent : Type 0 where
   pub name : List ℕ
   pub types : List (List ℕ)
   pub weights : List ℤ
   pub outside : List ℤ
   pub utility : List (List ℤ)
+  pub at : Option (List (List ℤ))
 
 -- a general setting: a prior is listed by the rank of a profile, and values by outcome
 pub record GeneralSetting : Type 0 where
@@ -44,6 +46,7 @@ written_agent a = record {
   weights = a.weights.items;
   outside = a.outside.items;
   utility = rows_of a.utility.items;
+  at = option_map (λ rows. rows_of rows.items) a.at;
 }
 
 -- what a setting as written says

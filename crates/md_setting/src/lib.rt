@@ -10,6 +10,7 @@ mod file;
 mod kinds;
 mod lookup;
 mod names;
+mod numbering;
 mod range;
 mod raw;
 mod refusal;

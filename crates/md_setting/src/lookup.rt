@@ -1,11 +1,13 @@
-//! The numbers of a setting at an agent, a type and an outcome.
-ghost use Rattle.std.specs.Prelude.{◌≡◌, ◌<◌, [], length, slice_index, slice_index_or, None, vec_len};
+//! The numbers of a setting at an agent, a profile and an outcome.
+ghost use Rattle.std.specs.Prelude.{◌≡◌, ◌<◌, [], length, slice_index, slice_index_or, None};
 ghost use Rattle.md_math.specs.Lists.{number_at};
-ghost use Rattle.md_setting.specs.Setting.{written, written_agent};
-ghost use Rattle.md_setting.specs.Meaning.{agent_at, agent_count, outcome_count, sizes_of, type_utility, outside_of};
+ghost use Rattle.md_space.specs.Profiles.{profile_count, profile_at};
+ghost use Rattle.md_setting.specs.Setting.{written, written_agent, rows_of};
+ghost use Rattle.md_setting.specs.Meaning.{agent_at, agent_count, outcome_count, sizes_of, utilities_by, utility_of, outside_of};
 ghost use Rattle.md_setting.specs.Shaped.{IsListed};
 
 use crate::{RawAgent, RawSetting};
+use md_space::Space;
 
 /// The agent at a place.
 #[tactic(auto, using(crate::proofs::Lookups::lookups))]
@@ -17,22 +19,45 @@ pub(crate) fn agent_in(raw: &RawSetting, agent: usize) -> &RawAgent
 }
 
 #[tactic(auto, using(crate::proofs::Lookups::lookups))]
-fn utilities_of(agent: &RawAgent, kind: usize) -> &[i64]
-    requires { kind < length (written_agent agent.now).utility }
-    ensures { result.now ≡ slice_index_or (written_agent agent.now).utility kind [] }
+fn row_at(rows: &[Vec<i64>], place: usize) -> &[i64]
+    requires { place < length (rows_of rows.now) }
+    ensures { result.now ≡ slice_index_or (rows_of rows.now) place [] }
 {
-    &agent.utility[kind]
+    &rows[place]
 }
 
-/// The utility of a type of an agent at an outcome.
-pub(crate) fn utility_in(raw: &RawSetting, agent: usize, kind: usize, outcome: usize) -> i64
+// The utilities of an agent, by outcome, where the profile of a rank has the true types.
+fn utilities_in<'r>(raw: &'r RawSetting, space: &Space, agent: u8, rank: u32) -> &'r [i64]
     requires listed { IsListed (written raw.now) }
+    requires sizes { space.now ≡ sizes_of (written raw.now) }
     requires agent_in { agent < agent_count (written raw.now) }
-    requires kind_in { kind < slice_index (sizes_of (written raw.now)) agent }
-    requires outcome_in { outcome < outcome_count (written raw.now) }
-    ensures { result ≡ type_utility (written raw.now) agent kind outcome }
+    requires rank_in { rank < profile_count (sizes_of (written raw.now)) }
+    ensures value { result.now ≡ utilities_by (agent_at (written raw.now) agent).at (agent_at (written raw.now) agent).utility rank (slice_index (profile_at (sizes_of (written raw.now)) rank) agent) }
+    ensures one_each { length result.now ≡ outcome_count (written raw.now) }
 {
-    utilities_of(agent_in(raw, agent), kind)[outcome]
+    let found = agent_in(raw, agent as usize);
+    match &found.at {
+        Some(rows) => row_at(rows, rank as usize),
+        None => row_at(&found.utility, space.report(rank, agent) as usize),
+    }
+}
+
+/// The utility of an agent at an outcome where the profile of a rank has the true types.
+pub(crate) fn utility_in(
+    raw: &RawSetting,
+    space: &Space,
+    agent: u8,
+    rank: u32,
+    outcome: usize,
+) -> i64
+    requires listed { IsListed (written raw.now) }
+    requires sizes { space.now ≡ sizes_of (written raw.now) }
+    requires agent_in { agent < agent_count (written raw.now) }
+    requires rank_in { rank < profile_count (sizes_of (written raw.now)) }
+    requires outcome_in { outcome < outcome_count (written raw.now) }
+    ensures { result ≡ utility_of (written raw.now) agent (profile_at (sizes_of (written raw.now)) rank) outcome }
+{
+    utilities_in(raw, space, agent, rank)[outcome]
 }
 
 /// What a type of an agent has without taking part.

@@ -13,8 +13,10 @@ pub struct RawAgent {
     pub weights: Vec<i64>,
     /// What each type has without taking part.
     pub outside: Vec<i64>,
-    /// For each type the utility of each outcome.
+    /// For each type the utility of each outcome; empty beside `at`.
     pub utility: Vec<Vec<i64>>,
+    /// Where the utility depends on the types of all agents: for each profile, by rank, the utility of each outcome.
+    pub at: Option<Vec<Vec<i64>>>,
 }
 
 /// A setting as written.

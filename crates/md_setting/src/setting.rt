@@ -1,9 +1,12 @@
 //! General settings that are known to be well formed.
-ghost use Rattle.std.specs.Prelude.{◌≡◌, ◌≢◌, ◌<◌, ◌↔◌, Some, None, IfOk, IfErr, IsTrue, length, slice_index, slice_index_or, [], MatchOption};
+ghost use Rattle.std.specs.Prelude.{◌≡◌, ◌≢◌, ◌<◌, ◌↔◌, pos, ◌<ℤ◌, Some, None, IfOk, IfErr, IfSome, IsNone, IsSome, IsTrue, Contains, length, slice_index, slice_index_or, []};
 ghost use Rattle.md_math.specs.Lists.{number_at};
+ghost use Rattle.md_math.specs.Sizes.{IsWithin};
+ghost use Rattle.md_space.specs.ByType.{where_type};
 ghost use Rattle.md_space.specs.Profiles.{profile_count, profile_at};
 ghost use Rattle.md_setting.specs.Setting.{written, names_of};
-ghost use Rattle.md_setting.specs.Meaning.{agent_at, agent_count, outcome_count, sizes_of, type_utility, outside_of, weight_of, total_of, value_of};
+ghost use Rattle.md_setting.specs.Meaning.{agent_at, agent_count, outcome_count, sizes_of, utility_of, outside_of, weight_of, marginal_of, total_of, value_of};
+ghost use Rattle.md_setting.specs.Names.{agent_names, type_names, place_of};
 ghost use Rattle.md_setting.specs.Rows.{row_count};
 ghost use Rattle.md_setting.specs.Shaped.{IsShaped};
 ghost use Rattle.md_setting.specs.Refusals.{refusal_of};
@@ -11,6 +14,7 @@ ghost use Rattle.md_setting.specs.Refusals.{refusal_of};
 use crate::check::{check_lists, check_totals};
 use crate::lookup::{agent_in, outside_in, utility_in};
 use crate::names::{has_good_names, has_own_names};
+use crate::numbering::{Numbering, number_names};
 use crate::shape::space_of;
 use crate::values::value_in;
 use crate::weights::weights_by_rank;
@@ -24,6 +28,7 @@ use std::marker::Model;
 pub struct Setting {
     raw: RawSetting,
     space: Space,
+    numbers: Numbering,
     // the weight of each profile, by rank
     weights: Vec<i64>,
     total: i64,
@@ -38,7 +43,7 @@ impl Model for Setting {
 
     ghost view = { λ s. written s.raw };
 
-    ghost invariant = { λ s. IsKept s.raw s.space s.weights.items s.total s.rows };
+    ghost invariant = { λ s. IsKept s.raw s.space s.numbers.agents s.numbers.outcomes s.numbers.types.items s.weights.items s.total s.rows };
 }
 
 impl Setting {
@@ -57,12 +62,16 @@ impl Setting {
         let space = space_of(alloc, &raw)?;
         check_lists(&raw, &space)?;
         let totals = check_totals(&raw, &space)?;
+        let Ok(numbers) = number_names(alloc, &raw) else {
+            return Err(BuildRefusal::Memory);
+        };
         let Ok(weights) = weights_by_rank(alloc, &raw, &space) else {
             return Err(BuildRefusal::Memory);
         };
         Ok(Setting {
             raw,
             space,
+            numbers,
             weights,
             total: totals.total,
             rows: totals.rows,
@@ -105,67 +114,112 @@ impl Setting {
     }
 
     /// The weight of the profile of a rank.
-    pub fn weight(&self, rank: u32) -> i64
+    pub fn weight(&self, rank: u32) -> i128
         requires { rank < profile_count (sizes_of self.now) }
         ensures value { result ≡ weight_of self.now (profile_at (sizes_of self.now) rank) }
+        ensures size { IsWithin 1000000 result }
         ensures shaped { IsShaped self.now }
     {
-        self.weights.as_slice()[rank as usize]
+        i128::from(self.weights.as_slice()[rank as usize])
     }
 
     /// The weight of all profiles together.
-    pub fn total(&self) -> i64
+    pub fn total(&self) -> i128
         ensures value { result ≡ total_of self.now }
+        ensures positive { pos 0 <ℤ result }
+        ensures size { IsWithin 1000000 result }
         ensures shaped { IsShaped self.now }
     {
-        self.total
+        i128::from(self.total)
     }
 
-    /// The utility of a type of an agent at an outcome.
-    pub fn utility(&self, agent: u8, kind: u8, outcome: u32) -> i64
+    /// The weight of the profiles in which an agent has a type.
+    pub fn marginal(&self, agent: u8, kind: u8) -> i128
         requires agent_in { agent < agent_count self.now }
         requires kind_in { kind < slice_index (sizes_of self.now) agent }
-        requires outcome_in { outcome < outcome_count self.now }
-        ensures value { result ≡ type_utility self.now agent kind outcome }
+        ensures value { result ≡ marginal_of self.now agent kind }
+        ensures positive { pos 0 <ℤ result }
+        ensures size { IsWithin 1000000 result }
         ensures shaped { IsShaped self.now }
     {
-        utility_in(&self.raw, agent as usize, kind as usize, outcome as usize)
+        let mut sum = 0;
+        for rank in 0..self.space().profiles() {
+            sum += self.weight_given(agent, kind, rank);
+        }
+        sum
+    }
+
+    // The weight of one profile, if the agent has the type there.
+    fn weight_given(&self, agent: u8, kind: u8, rank: u32) -> i128
+        requires agent_in { agent < agent_count self.now }
+        requires rank_in { rank < profile_count (sizes_of self.now) }
+        ensures value { result ≡ where_type agent kind (weight_of self.now) (profile_at (sizes_of self.now) rank) }
+        ensures size { IsWithin 1000000 result }
+    {
+        if self.space().report(rank, agent) != kind {
+            return 0;
+        }
+        self.weight(rank)
+    }
+
+    /// The utility of an agent at an outcome where the profile of a rank has the true types.
+    pub fn utility(&self, agent: u8, rank: u32, outcome: u32) -> i128
+        requires agent_in { agent < agent_count self.now }
+        requires rank_in { rank < profile_count (sizes_of self.now) }
+        requires outcome_in { outcome < outcome_count self.now }
+        ensures value { result ≡ utility_of self.now agent (profile_at (sizes_of self.now) rank) outcome }
+        ensures size { IsWithin 1000000 result }
+        ensures shaped { IsShaped self.now }
+    {
+        i128::from(utility_in(&self.raw, &self.space, agent, rank, outcome as usize))
+    }
+
+    /// Whether the utility of an agent depends on the types of all agents.
+    pub fn has_at(&self, agent: u8) -> bool
+        requires { agent < agent_count self.now }
+        ensures { IsTrue result ↔ IsSome (agent_at self.now agent).at }
+    {
+        agent_in(&self.raw, agent as usize).at.is_some()
     }
 
     /// What a type of an agent has without taking part.
-    pub fn outside(&self, agent: u8, kind: u8) -> i64
+    pub fn outside(&self, agent: u8, kind: u8) -> i128
         requires agent_in { agent < agent_count self.now }
         requires kind_in { kind < slice_index (sizes_of self.now) agent }
         ensures value { result ≡ outside_of self.now agent kind }
+        ensures size { IsWithin 1000000 result }
         ensures shaped { IsShaped self.now }
     {
-        outside_in(&self.raw, agent as usize, kind as usize)
+        i128::from(outside_in(&self.raw, agent as usize, kind as usize))
     }
 
     /// What an outcome is worth to the designer at the profile of a rank.
-    pub fn value(&self, rank: u32, outcome: u32) -> i64
+    pub fn value(&self, rank: u32, outcome: u32) -> i128
         requires rank_in { rank < profile_count (sizes_of self.now) }
         requires outcome_in { outcome < outcome_count self.now }
         ensures value { result ≡ value_of self.now (profile_at (sizes_of self.now) rank) outcome }
+        ensures size { IsWithin 10000000 result }
         ensures shaped { IsShaped self.now }
     {
-        value_in(&self.raw, &self.space, rank, outcome as usize) as i64
+        value_in(&self.raw, &self.space, rank, outcome as usize)
     }
 
     /// The factor of the agents' utilities in the designer's value.
-    pub fn welfare(&self) -> i64
+    pub fn welfare(&self) -> i128
         ensures value { result ≡ self.now.welfare }
+        ensures size { IsWithin 1000 result }
         ensures shaped { IsShaped self.now }
     {
-        self.raw.welfare
+        i128::from(self.raw.welfare)
     }
 
     /// The factor of the agents' payments in the objective.
-    pub fn revenue(&self) -> i64
+    pub fn revenue(&self) -> i128
         ensures value { result ≡ self.now.revenue }
+        ensures size { IsWithin 1000 result }
         ensures shaped { IsShaped self.now }
     {
-        self.raw.revenue
+        i128::from(self.raw.revenue)
     }
 
     /// The kind of truth.
@@ -213,6 +267,43 @@ impl Setting {
         text_at(&agent_in(&self.raw, agent as usize).types, kind as usize)
     }
 
+    /// The agent of a name.
+    pub fn agent_of(&self, name: &str) -> Option<u8>
+        ensures place { result ≡ place_of (agent_names self.now) name.now }
+        ensures found { IfSome result (λ agent. (agent < agent_count self.now) × (name.now ≡ (agent_at self.now agent).name)) }
+        ensures none { IsNone result ↔ (¬ Contains (agent_names self.now) name.now) }
+    {
+        match self.numbers.agents.place(name) {
+            Some(place) => Some(place as u8),
+            None => None,
+        }
+    }
+
+    /// The type of an agent by its name.
+    pub fn type_of(&self, agent: u8, name: &str) -> Option<u8>
+        requires { agent < agent_count self.now }
+        ensures place { result ≡ place_of (type_names self.now agent) name.now }
+        ensures found { IfSome result (λ kind. (kind < slice_index (sizes_of self.now) agent) × (name.now ≡ slice_index_or (type_names self.now agent) kind [])) }
+        ensures none { IsNone result ↔ (¬ Contains (type_names self.now agent) name.now) }
+    {
+        match self.numbers.types[agent as usize].place(name) {
+            Some(place) => Some(place as u8),
+            None => None,
+        }
+    }
+
+    /// The outcome of a name.
+    pub fn outcome_of(&self, name: &str) -> Option<u32>
+        ensures place { result ≡ place_of self.now.outcomes name.now }
+        ensures found { IfSome result (λ outcome. (outcome < outcome_count self.now) × (name.now ≡ slice_index_or self.now.outcomes outcome [])) }
+        ensures none { IsNone result ↔ (¬ Contains self.now.outcomes name.now) }
+    {
+        match self.numbers.outcomes.place(name) {
+            Some(place) => Some(place as u32),
+            None => None,
+        }
+    }
+
     /// The name of an outcome.
     pub fn outcome_name(&self, outcome: u32) -> &str
         requires { outcome < outcome_count self.now }
@@ -247,6 +338,7 @@ mod tests {
             weights: vec![in alloc; 1, 2]?,
             outside: vec![in alloc; 0, 0]?,
             utility: vec![in alloc; vec![in alloc; 1, 0]?, vec![in alloc; 0, 1]?]?,
+            at: None,
         })
     }
 
@@ -280,6 +372,41 @@ mod tests {
         assert_eq!(rt; setting.outcomes(), 2);
         assert_eq!(rt; setting.value(1, 0), 6);
         assert_eq!(rt; setting.rows(), 20);
+        Ok(())
+    }
+
+    // The item is worth 1 or -1 to the second agent, by the first agent's type.
+    fn trade(alloc: Global) -> Result<RawSetting, AllocError> {
+        let mut raw = vote(alloc)?;
+        raw.agents = vec![in alloc;
+            voter(alloc, "seller")?,
+            RawAgent {
+                name: String::from_str(alloc, "buyer")?,
+                types: vec![in alloc; String::from_str(alloc, "any")?]?,
+                weights: vec![in alloc; 1]?,
+                outside: vec![in alloc; 0]?,
+                utility: Vec::new(alloc),
+                at: Some(vec![in alloc; vec![in alloc; 0, 1]?, vec![in alloc; 0, -1]?]?),
+            },
+        ]?;
+        Ok(raw)
+    }
+
+    #[test]
+    fn utilities_depend_on_all_types(rt: HostRuntime) -> Result<(), Fail> {
+        let raw = trade(rt.alloc())?;
+        let Ok(setting) = Setting::new(rt.alloc(), raw) else {
+            return Err("refused")?;
+        };
+        assert_eq!(rt; setting.space().agents(), 2);
+        assert_eq!(rt; setting.space().profiles(), 2);
+        assert_eq!(rt; setting.outcomes(), 2);
+        assert_eq!(rt; setting.utility(1, 1, 1), -1);
+        assert!(rt; setting.has_at(1));
+        // -5 for the outcome, 1 for the seller of type `r` and -1 for the buyer
+        assert_eq!(rt; setting.value(1, 1), -5);
+        assert_eq!(rt; setting.agent_of("buyer"), Some(1));
+        assert_eq!(rt; setting.outcome_of("up"), None);
         Ok(())
     }
 }

@@ -1,10 +1,10 @@
 //! Whether the sizes of a setting are within the limits, and its lists run over what they should.
-ghost use Rattle.std.specs.Prelude.{◌≡◌, ◌≢◌, ◌≤◌, ◌<◌, ◌==◌, IfOk, IfErr, MatchResult, true, false, All, map, vec_len, is_some, length, nat_le, option_map};
+ghost use Rattle.std.specs.Prelude.{◌≡◌, ◌≢◌, ◌≤◌, ◌<◌, ◌==◌, ◌&&◌, IfOk, IfErr, MatchResult, true, false, All, map, vec_len, is_some, length, nat_le, option_map};
 ghost use Rattle.std.specs.List.{list_all};
 ghost use Rattle.md_space.specs.Profiles.{profile_count};
 ghost use Rattle.md_setting.specs.Setting.{written, written_agent, rows_of};
 ghost use Rattle.md_setting.specs.Meaning.{sizes_of};
-ghost use Rattle.md_setting.specs.Refusals.{has_good_sizes, has_good_shape, has_agent_shape, has_prior_shape};
+ghost use Rattle.md_setting.specs.Refusals.{has_good_sizes, has_good_shape, has_agent_shape, has_at_shape, has_prior_shape};
 
 use crate::{BuildRefusal, RawAgent, RawSetting};
 use md_space::{MAX_TYPES, Space, SpaceRefusal};
@@ -60,28 +60,43 @@ pub(crate) fn has_good_shape(raw: &RawSetting, profiles: u32) -> bool
 {
     let outcomes = raw.outcomes.len();
     let has_prior = raw.prior.is_some();
-    have_shape(&raw.agents, has_prior, outcomes)
+    have_shape(&raw.agents, has_prior, profiles as usize, outcomes)
         && has_prior_shape(&raw.prior, profiles as usize)
         && raw.values.len() == outcomes
 }
 
-fn have_shape(agents: &[RawAgent], has_prior: bool, outcomes: usize) -> bool
-    ensures { result ≡ list_all (λ agent. has_agent_shape has_prior outcomes (written_agent agent)) agents.now }
+fn have_shape(agents: &[RawAgent], has_prior: bool, profiles: usize, outcomes: usize) -> bool
+    ensures { result ≡ list_all (λ agent. has_agent_shape has_prior profiles outcomes (written_agent agent)) agents.now }
 {
-    agents
-        .iter()
-        .all(|agent| has_agent_shape(agent, has_prior, outcomes))
+    agents.iter().all(|agent| has_agent_shape(agent, has_prior, profiles, outcomes))
 }
 
 #[tactic(auto, using(crate::proofs::Views::agent_shape))]
-fn has_agent_shape(agent: &RawAgent, has_prior: bool, outcomes: usize) -> bool
-    ensures { result ≡ has_agent_shape has_prior outcomes (written_agent agent.now) }
+fn has_agent_shape(agent: &RawAgent, has_prior: bool, profiles: usize, outcomes: usize) -> bool
+    ensures { result ≡ has_agent_shape has_prior profiles outcomes (written_agent agent.now) }
 {
     let types = agent.types.len();
+    let own = if agent.at.is_some() { 0 } else { types };
     agent.weights.len() == (if has_prior { 0 } else { types })
         && agent.outside.len() == types
-        && agent.utility.len() == types
-        && are_long(&agent.utility, outcomes)
+        && are_rows(&agent.utility, own, outcomes)
+        && has_at_shape(&agent.at, profiles, outcomes)
+}
+
+#[tactic(auto, using(crate::proofs::Views::all_rows))]
+fn has_at_shape(at: &Option<Vec<Vec<i64>>>, profiles: usize, outcomes: usize) -> bool
+    ensures { result ≡ has_at_shape profiles outcomes (option_map (λ rows. rows_of rows.items) at.now) }
+{
+    match at {
+        None => true,
+        Some(rows) => are_rows(rows, profiles, outcomes),
+    }
+}
+
+fn are_rows(rows: &[Vec<i64>], count: usize, columns: usize) -> bool
+    ensures { result ≡ ((length rows.now == count) && list_all (λ row. vec_len row == columns) rows.now) }
+{
+    rows.len() == count && are_long(rows, columns)
 }
 
 fn are_long(rows: &[Vec<i64>], columns: usize) -> bool

@@ -25,8 +25,7 @@ pub(crate) fn value_in(raw: &RawSetting, space: &Space, rank: u32, outcome: usiz
 {
     let mut value = i128::from(raw.values.as_slice()[outcome]);
     for agent in 0..space.agents() {
-        let kind = space.report(rank, agent);
-        let utility = utility_in(raw, agent as usize, kind as usize, outcome);
+        let utility = utility_in(raw, space, agent, rank, outcome);
         value = add_product(value, i128::from(raw.welfare), i128::from(utility));
     }
     value

@@ -25,7 +25,6 @@ pub mod Rise
 pub mod RunLaws
 pub mod WalkLaws
 pub mod WidePaths
-pub mod QuotientSizes
 pub mod SamePaths
 pub mod SameRuns
 pub mod WideSizes

@@ -32,7 +32,7 @@ use Rattle.md_simplex.specs.Path.{after, basis_after, IsPathFrom, IsNarrowBasis,
 use Rattle.md_simplex.specs.Runs.{IsFirstWideIn}
 use Rattle.md_simplex.proofs.PathLaws.{entering_in}
 use Rattle.md_simplex.proofs.ReadFits.{signed-within}
-use Rattle.md_simplex.proofs.QuotientSizes.{num-size, den-size}
+use Rattle.md_math.proofs.QuotientSizes.{num-size, den-size}
 
 -- the greatest size of a number that is written
 abbrev pub wide_limit : ℕ

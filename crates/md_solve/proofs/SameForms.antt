@@ -7,10 +7,11 @@ use Rattle.md_math.proofs.SumLaws.{sum_to-same}
 use Rattle.md_math.proofs.TotalLaws.{total_by-same}
 use Rattle.md_space.specs.Profiles.{IsProfile, replaced}
 use Rattle.md_space.specs.AllProfiles.{profiles_of}
+use Rattle.md_space.specs.ByType.{where_type}
 use Rattle.md_space.proofs.InOrder.{All-profiles_of}
 use Rattle.md_space.proofs.Ranks.{replaced-IsProfile}
 use Rattle.md_setting.specs.Setting.{GeneralSetting}
-use Rattle.md_setting.specs.Meaning.{agent_count, outcome_count, sizes_of, type_utility, weight_of, value_of}
+use Rattle.md_setting.specs.Meaning.{agent_count, outcome_count, sizes_of, utility_of, weight_of, value_of}
 use Rattle.md_setting.specs.Rows.{column_count}
 use Rattle.md_mech.specs.Utility.{weighted_given}
 use Rattle.md_mech.specs.Rows.{Row as Condition, dominant_row, bayes_row, ex_post_row, interim_row, deficit_row, profile_row, rows_of}
@@ -31,22 +32,22 @@ pub record IsSameForm (s : GeneralSetting) (x y : ℕ → ℤ) : Type 0 where
 
 -- ---- left sides
 
-utility-same : (s : GeneralSetting) (x y : ℕ → ℤ) (i a : ℕ) (t : List ℕ) → IsSameForm s x y → i < agent_count s → IsProfile (sizes_of s) t → utility_in s x i a t ≡ utility_in s y i a t
-utility-same s x y i a t same agent p =
+utility-same : (s : GeneralSetting) (x y : ℕ → ℤ) (i : ℕ) (t r : List ℕ) → IsSameForm s x y → i < agent_count s → IsProfile (sizes_of s) r → utility_in s x i t r ≡ utility_in s y i t r
+utility-same s x y i t r same agent p =
     ap₂ (λ u v. u -ℤ v)
-    (sum_to-same (outcome_count s) (λ o. type_utility s i a o *ℤ x (chance_column s t o)) (λ o. type_utility s i a o *ℤ y (chance_column s t o)) (λ o l. ap (λ z. type_utility s i a o *ℤ z) (same.chance t o p l)))
-    (same.pay i t agent p)
+    (sum_to-same (outcome_count s) (λ o. utility_of s i t o *ℤ x (chance_column s r o)) (λ o. utility_of s i t o *ℤ y (chance_column s r o)) (λ o l. ap (λ z. utility_of s i t o *ℤ z) (same.chance r o p l)))
+    (same.pay i r agent p)
 
 gain-same : (s : GeneralSetting) (x y : ℕ → ℤ) (i b : ℕ) (t : List ℕ) → IsSameForm s x y → i < agent_count s → b < slice_index (sizes_of s) i → IsProfile (sizes_of s) t → gain_in s x i b t ≡ gain_in s y i b t
 gain-same s x y i b t same agent below p =
-    ap₂ (λ u v. u -ℤ v) (utility-same s x y i (slice_index t i) (replaced t i b) same agent (replaced-IsProfile (sizes_of s) t i b p below)) (utility-same s x y i (slice_index t i) t same agent p)
+    ap₂ (λ u v. u -ℤ v) (utility-same s x y i t (replaced t i b) same agent (replaced-IsProfile (sizes_of s) t i b p below)) (utility-same s x y i t t same agent p)
 
 lack-same : (s : GeneralSetting) (x y : ℕ → ℤ) (i : ℕ) (t : List ℕ) → IsSameForm s x y → i < agent_count s → IsProfile (sizes_of s) t → lack_in s x i t ≡ lack_in s y i t
-lack-same s x y i t same agent p = ap neg_ℤ (utility-same s x y i (slice_index t i) t same agent p)
+lack-same s x y i t same agent p = ap neg_ℤ (utility-same s x y i t t same agent p)
 
 given-same : (s : GeneralSetting) (i a : ℕ) (f g : List ℕ → ℤ) → ((t : List ℕ) → IsProfile (sizes_of s) t → f t ≡ g t) → weighted_given s i a f ≡ weighted_given s i a g
 given-same s i a f g same =
-    total_by-same (λ t. if slice_index t i == a then weight_of s t *ℤ f t else pos 0) (λ t. if slice_index t i == a then weight_of s t *ℤ g t else pos 0) (profiles_of (sizes_of s))
+    total_by-same (where_type i a (λ t. weight_of s t *ℤ f t)) (where_type i a (λ t. weight_of s t *ℤ g t)) (profiles_of (sizes_of s))
     (λ k d l. ap (λ z. if slice_index (get_or (profiles_of (sizes_of s)) k d) i == a then weight_of s (get_or (profiles_of (sizes_of s)) k d) *ℤ z else pos 0)
     (same (get_or (profiles_of (sizes_of s)) k d) (All-profiles_of (sizes_of s) k d l)))
 

@@ -15,8 +15,9 @@ use Rattle.md_setting.specs.Shaped.{IsShaped}
 use Rattle.md_mech.specs.declared.mechanism.Mechanism.{Mechanism}
 use Rattle.md_mech.specs.Accepted.{IsAccepted, number_limit}
 use Rattle.md_mech.specs.Optimal.{worth_of}
-use Rattle.md_mech.proofs.WorthLaws.{worth-by_rank, worth-within, total-positive}
-use Rattle.md_simplex.proofs.QuotientSizes.{num-size, den-size}
+use Rattle.md_setting.proofs.MarginalLaws.{total-positive}
+use Rattle.md_mech.proofs.WorthLaws.{worth-by_rank, worth-within}
+use Rattle.md_math.proofs.QuotientSizes.{num-size, den-size}
 use Rattle.md_answer.specs.AnswerTo.{IsFraction}
 
 -- the denominator in least terms divides the whole

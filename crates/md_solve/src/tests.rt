@@ -22,6 +22,7 @@ fn buyer(alloc: Global, high: i64) -> Result<RawSetting, AllocError> {
         weights: vec![in alloc; 1, 1]?,
         outside: vec![in alloc; 0, 0]?,
         utility: vec![in alloc; vec![in alloc; 0, 1]?, vec![in alloc; 0, high]?]?,
+        at: None,
     };
     Ok(RawSetting {
         agents: vec![in alloc; agent]?,
@@ -45,6 +46,7 @@ fn lone(alloc: Global, rational: Rational, payments: bool) -> Result<RawSetting,
         weights: vec![in alloc; 1]?,
         outside: vec![in alloc; 1]?,
         utility: vec![in alloc; vec![in alloc; 0]?]?,
+        at: None,
     };
     Ok(RawSetting {
         agents: vec![in alloc; agent]?,

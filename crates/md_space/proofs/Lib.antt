@@ -1,3 +1,4 @@
 pub mod InOrder
 pub mod Ranks
 pub mod Walks
+pub mod TypeSums

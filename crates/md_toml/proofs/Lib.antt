@@ -4,3 +4,4 @@ pub mod Names
 pub mod Utf8
 pub mod WritingLaws
 pub mod PrintLaws
+pub mod VersionLaws

@@ -1,6 +1,6 @@
 -- A setting that was printed is read back, and its document nests little.
-use Rattle.std.proofs.Common.{◌≡◌, ℕ, suc, ◌<◌, ◌≤◌, ℤ, pos, Bool, true, List, [], ◌∷◌, map, length, Option, Some, None, Ok, Err, is_some, slice_index_or, unsigned_abs, codes, Ordering, Less, Equal, Greater, nat_cmp, refl, ap, ◌∙◌, arith}
-use Rattle.std.specs.List.{list_all}
+use Rattle.std.proofs.Common.{◌≡◌, ℕ, suc, ◌<◌, ◌≤◌, ℤ, pos, Bool, true, List, [], ◌∷◌, map, length, zero, if◌then◌else◌, Option, Some, None, Ok, Err, is_some, slice_index_or, unsigned_abs, codes, false, ◌||◌, sym, Ordering, Less, Equal, Greater, nat_cmp, refl, ap, ◌∙◌, arith}
+use Rattle.std.specs.List.{list_all, list_any}
 use Rattle.std.specs.Cmp.Lexicographic.{slice_cmp}
 use Rattle.std.specs.Ordering.{match_ordering}
 use Rattle.toml.specs.Data.{Data, string, integer, boolean, table, Members, no_members, member, depth, items_depth, members_depth}
@@ -21,16 +21,18 @@ use Rattle.toml.specs.Parse.{parse_document}
 use Rattle.std.specs.Str.{is_utf8}
 use Rattle.md_toml.specs.Keys.{member_name}
 use Rattle.md_toml.specs.declared.document.Kind.TheVariants as kind
+use Rattle.md_toml.specs.declared.document.Version.{Version}
+use Rattle.md_toml.specs.declared.document.Version.TheVariants.{One, Two}
 use Rattle.md_toml.specs.declared.key.Key.{Key}
 use Rattle.md_toml.specs.declared.key.Key.TheVariants as key
 use Rattle.md_toml.specs.AuctionText.{auction_in}
 use Rattle.md_toml.specs.Document.{document_of, header_of}
 use Rattle.md_toml.specs.File.{built, built_auction, file_of, setting_of}
 use Rattle.md_toml.specs.General.{truth_in, rational_in, agent_of, each_agent, general_of}
-use Rattle.md_toml.specs.Known.{has_only, agent_keys}
+use Rattle.md_toml.specs.Known.{has_agent_keys}
 use Rattle.md_toml.specs.Reading.{Reading, ◌>>=◌}
 use Rattle.md_toml.specs.Values.{each_item, integer_in, text_in, table_in, list_in}
-use Rattle.md_toml.specs.Writing.{put, agents_data, put_member, items_from, numbers_data, texts_data, rows_data, truth_word, rational_word, header_with, with_demands, objective_table, with_weights, agent_table, with_prior, general_table, auction_table, file_table, IsAccepted}
+use Rattle.md_toml.specs.Writing.{put, agents_data, put_member, items_from, numbers_data, texts_data, rows_data, truth_word, rational_word, header_with, with_demands, objective_table, with_weights, with_utilities, version_of, agent_table, with_prior, general_table_in, general_table, auction_table, file_table, IsAccepted}
 
 -- ---- lists
 
@@ -70,31 +72,104 @@ nothing_left : (weights : List ℤ) → length weights ≡ 0 → [] ≡ weights
 nothing_left [] h = refl
 nothing_left (x ∷ weights) h = absurd (omega (arith, h))
 
-agent_back : (prior : Option (List ℤ)) (a : Agent) → ((p : List ℤ) → prior ≡ Some p → length a.weights ≡ 0) → agent_of prior (agent_table prior a) ≡ Ok a
-agent_back None a h =
-    rw (texts_back key.AgentTypes a.types, numbers_back key.AgentWeights a.weights, numbers_back key.AgentOutside a.outside, rows_back key.AgentUtility a.utility) refl
-agent_back (Some p) a h =
-    rw (texts_back key.AgentTypes a.types, numbers_back key.AgentOutside a.outside, rows_back key.AgentUtility a.utility)
-    (ap (λ weights. Ok (record { name = a.name; types = a.types; weights = weights; outside = a.outside; utility = a.utility })) (nothing_left a.weights (h p refl)))
+no_row : (rows : List (List ℤ)) → length rows ≡ 0 → [] ≡ rows
+no_row [] h = refl
+no_row (row ∷ rows) h = absurd (omega (arith, h))
 
-agents_back : (prior : Option (List ℤ)) (agents : List Agent)
-    → ((p : List ℤ) → prior ≡ Some p → (i : ℕ) → i < length agents → length (slice_index_or agents i nobody).weights ≡ 0)
-    → each_agent prior (map (agent_table prior) agents) ≡ Ok agents
-agents_back prior [] h = refl
-agents_back prior (agent ∷ agents) h =
-    rw (agent_back prior agent (λ p e. h p e 0 (omega arith)), agents_back prior agents (λ p e i l. h p e (suc i) (omega arith))) refl
+-- what the first version can say of an agent
+abbrev IsSaidIn : Version → Option (List (List ℤ)) → Type 0
+IsSaidIn One at = at ≡ None
+IsSaidIn Two at = Unit {0}
 
-known_back : (prior : Option (List ℤ)) (agents : List Agent) → list_all (has_only (agent_keys (is_some prior))) (map (agent_table prior) agents) ≡ true
-known_back prior [] = refl
-known_back None (agent ∷ agents) = known_back None agents
-known_back (Some p) (agent ∷ agents) = known_back (Some p) agents
+-- what an agent has beside what
+record IsWritten (version : Version) (prior : Option (List ℤ)) (weights : List ℤ) (utility : List (List ℤ)) (at : Option (List (List ℤ))) : Type 0 where
+  beside_prior : (p : List ℤ) → prior ≡ Some p → length weights ≡ 0
+  beside_at : (rows : List (List ℤ)) → at ≡ Some rows → length utility ≡ 0
+  said : IsSaidIn version at
+
+agent_back : (version : Version) (prior : Option (List ℤ)) (name : List ℕ) (types : List (List ℕ)) (weights outside : List ℤ) (utility : List (List ℤ)) (at : Option (List (List ℤ)))
+    → IsWritten version prior weights utility at
+    → agent_of version prior (agent_table prior (record { name = name; types = types; weights = weights; outside = outside; utility = utility; at = at }))
+    ≡ Ok (record { name = name; types = types; weights = weights; outside = outside; utility = utility; at = at })
+agent_back One prior name types weights outside utility (Some at) h = absurd (let e : ◌≡◌ {A = Option (List (List ℤ))} (Some at) None = h.said in cc)
+agent_back One None name types weights outside utility None h =
+    rw (texts_back key.AgentTypes types, numbers_back key.AgentWeights weights, numbers_back key.AgentOutside outside, rows_back key.AgentUtility utility) refl
+agent_back One (Some p) name types weights outside utility None h =
+    rw (texts_back key.AgentTypes types, numbers_back key.AgentOutside outside, rows_back key.AgentUtility utility)
+    (ap (λ ws. Ok (record { name = name; types = types; weights = ws; outside = outside; utility = utility; at = None })) (nothing_left weights (h.beside_prior p refl)))
+agent_back Two None name types weights outside utility None h =
+    rw (texts_back key.AgentTypes types, numbers_back key.AgentWeights weights, numbers_back key.AgentOutside outside, rows_back key.AgentUtility utility) refl
+agent_back Two (Some p) name types weights outside utility None h =
+    rw (texts_back key.AgentTypes types, numbers_back key.AgentOutside outside, rows_back key.AgentUtility utility)
+    (ap (λ ws. Ok (record { name = name; types = types; weights = ws; outside = outside; utility = utility; at = None })) (nothing_left weights (h.beside_prior p refl)))
+agent_back Two None name types weights outside utility (Some at) h =
+    rw (texts_back key.AgentTypes types, numbers_back key.AgentWeights weights, numbers_back key.AgentOutside outside, rows_back key.AgentUtilityAt at)
+    (ap (λ rows. Ok (record { name = name; types = types; weights = weights; outside = outside; utility = rows; at = Some at })) (no_row utility (h.beside_at at refl)))
+agent_back Two (Some p) name types weights outside utility (Some at) h =
+    rw (texts_back key.AgentTypes types, numbers_back key.AgentOutside outside, rows_back key.AgentUtilityAt at)
+    (ap (λ rows. Ok (record { name = name; types = types; weights = []; outside = outside; utility = rows; at = Some at })) (no_row utility (h.beside_at at refl))
+    ∙ ap (λ ws. Ok (record { name = name; types = types; weights = ws; outside = outside; utility = utility; at = Some at })) (nothing_left weights (h.beside_prior p refl)))
+
+-- each agent is written as it should be
+record AreWritten (version : Version) (prior : Option (List ℤ)) (agents : List Agent) : Type 0 where
+  at : (i : ℕ) → i < length agents → IsWritten version prior (slice_index_or agents i nobody).weights (slice_index_or agents i nobody).utility (slice_index_or agents i nobody).at
+
+others_written : (version : Version) (prior : Option (List ℤ)) (agent : Agent) (agents : List Agent) → AreWritten version prior (agent ∷ agents) → AreWritten version prior agents
+others_written version prior agent agents h = record { at = λ i l. h.at (suc i) (omega arith) }
+
+agents_back : (version : Version) (prior : Option (List ℤ)) (agents : List Agent) → AreWritten version prior agents → each_agent version prior (map (agent_table prior) agents) ≡ Ok agents
+agents_back version prior [] h = refl
+agents_back version prior (agent ∷ agents) h =
+    rw (
+      agent_back version prior agent.name agent.types agent.weights agent.outside agent.utility agent.at (h.at 0 (omega arith)),
+      agents_back version prior agents (others_written version prior agent agents h),
+    )
+    refl
+
+agent_known : (version : Version) (prior : Option (List ℤ)) (name : List ℕ) (types : List (List ℕ)) (weights outside : List ℤ) (utility : List (List ℤ)) (at : Option (List (List ℤ)))
+    → IsSaidIn version at → has_agent_keys version (is_some prior) (agent_table prior (record { name = name; types = types; weights = weights; outside = outside; utility = utility; at = at })) ≡ true
+agent_known One prior name types weights outside utility (Some at) h = absurd (let e : ◌≡◌ {A = Option (List (List ℤ))} (Some at) None = h in cc)
+agent_known One None name types weights outside utility None h = refl
+agent_known One (Some p) name types weights outside utility None h = refl
+agent_known Two None name types weights outside utility None h = refl
+agent_known Two (Some p) name types weights outside utility None h = refl
+agent_known Two None name types weights outside utility (Some at) h = refl
+agent_known Two (Some p) name types weights outside utility (Some at) h = refl
+
+known_back : (version : Version) (prior : Option (List ℤ)) (agents : List Agent) → AreWritten version prior agents → list_all (has_agent_keys version (is_some prior)) (map (agent_table prior) agents) ≡ true
+known_back version prior [] h = refl
+known_back version prior (agent ∷ agents) h =
+    rw (
+      agent_known version prior agent.name agent.types agent.weights agent.outside agent.utility agent.at (h.at 0 (omega arith)).said,
+      known_back version prior agents (others_written version prior agent agents h),
+    )
+    refl
+
+-- the version of a setting says each of its agents
+none_depends : (agents : List Agent) (i : ℕ) → i < length agents → list_any (λ agent. is_some agent.at) agents ≡ false → (slice_index_or agents i nobody).at ≡ None
+none_depends [] i h e = absurd (omega arith)
+none_depends (agent ∷ agents) zero h e = here agent.at e
+  where
+    here : (at : Option (List (List ℤ))) → (is_some at || list_any (λ (a : Agent). is_some a.at) agents) ≡ false → at ≡ None
+    here None e = refl
+    here (Some rows) e = absurd (cc e)
+none_depends (agent ∷ agents) (suc i) h e = none_depends agents i (omega arith) (rest (is_some agent.at) e)
+  where
+    rest : (b : Bool) → (b || list_any (λ (a : Agent). is_some a.at) agents) ≡ false → list_any (λ (a : Agent). is_some a.at) agents ≡ false
+    rest true e = absurd (cc e)
+    rest false e = e
+
+said_in : (agents : List Agent) (i : ℕ) → i < length agents → IsSaidIn (version_of agents) (slice_index_or agents i nobody).at
+said_in agents i h = by (list_any (λ agent. is_some agent.at) agents) (none_depends agents i h)
+  where
+    by : (b : Bool) → (b ≡ false → (slice_index_or agents i nobody).at ≡ None) → IsSaidIn (if b then Two else One) (slice_index_or agents i nobody).at
+    by true f = tt
+    by false f = f refl
 
 -- ---- whole files
 
-general_back : (prior : Option (List ℤ)) (s : GeneralSetting) → s.prior ≡ prior
-    → ((p : List ℤ) → prior ≡ Some p → (i : ℕ) → i < length s.agents → length (slice_index_or s.agents i nobody).weights ≡ 0)
-    → general_of (general_table s) ≡ Ok s
-general_back None s e h =
+general_back : (version : Version) (prior : Option (List ℤ)) (s : GeneralSetting) → s.prior ≡ prior → AreWritten version prior s.agents → general_of version (general_table_in version s) ≡ Ok s
+general_back version None s e h =
     rw (
       e,
       truth_back key.Truth s.truth,
@@ -102,11 +177,11 @@ general_back None s e h =
       texts_back key.Outcomes s.outcomes,
       numbers_back key.ObjectiveValue s.values,
       tables_back key.Agent None s.agents,
-      agents_back None s.agents h,
-      known_back None s.agents,
+      agents_back version None s.agents h,
+      known_back version None s.agents h,
     )
     refl
-general_back (Some p) s e h =
+general_back version (Some p) s e h =
     rw (
       e,
       truth_back key.Truth s.truth,
@@ -115,14 +190,16 @@ general_back (Some p) s e h =
       numbers_back key.ObjectiveValue s.values,
       numbers_back key.Prior p,
       tables_back key.Agent (Some p) s.agents,
-      agents_back (Some p) s.agents h,
-      known_back (Some p) s.agents,
+      agents_back version (Some p) s.agents h,
+      known_back version (Some p) s.agents h,
     )
     refl
 
-general_header : (prior : Option (List ℤ)) (s : GeneralSetting) → s.prior ≡ prior → header_of (general_table s) ≡ Ok kind.General
-general_header None s e = rw e refl
-general_header (Some p) s e = rw e refl
+general_header : (version : Version) (prior : Option (List ℤ)) (s : GeneralSetting) → s.prior ≡ prior → header_of (general_table_in version s) ≡ Ok (record { version = version; kind = kind.General })
+general_header One None s e = rw e refl
+general_header One (Some p) s e = rw e refl
+general_header Two None s e = rw e refl
+general_header Two (Some p) s e = rw e refl
 
 auction_back : (a : SymmetricAuction) → auction_in (auction_table a) ≡ Ok (as_written a)
 auction_back a = rw (numbers_back key.Values a.values, numbers_back key.Weights (map pos a.weights)) refl
@@ -131,8 +208,8 @@ weights_back : (weights : List ℕ) → map unsigned_abs (map pos weights) ≡ w
 weights_back [] = refl
 weights_back (w ∷ weights) = rw (weights_back weights) refl
 
-then : {A B : Type 0} (m : Reading A) (x : A) (next : A → Reading B) → m ≡ Ok x → (m >>= next) ≡ next x
-then m x next e = rw e refl
+on_ok : {A B : Type 0} (m : Reading A) (x : A) (next : A → Reading B) → m ≡ Ok x → (m >>= next) ≡ next x
+on_ok m x next e = rw e refl
 
 built_back : (s : GeneralSetting) → refusal_of s ≡ None → built s ≡ Ok s
 built_back s h = chosen (refusal_of s) h
@@ -147,15 +224,22 @@ built_auction_back w h = chosen (auction_refusal_of w) h
     chosen refusal e = rw e refl
 
 -- what is printed of a file says that file
-file_back : (f : SettingFile) → IsAccepted f → (header_of (file_table f) >>= λ k. file_of k (file_table f)) ≡ Ok f
+file_back : (f : SettingFile) → IsAccepted f → (header_of (file_table f) >>= λ header. file_of header.kind header.version (file_table f)) ≡ Ok f
 file_back (file.General s) h =
-    then (header_of (general_table s)) kind.General (λ k. file_of k (general_table s)) (general_header s.prior s refl)
-    ∙ (then (general_of (general_table s)) s (λ written. built written >>= λ setting. Ok (file.General setting))
-    (general_back s.prior s refl (λ p e i l. h.1.listed.beside_prior p e i l))
-    ∙ then (built s) s (λ setting. Ok (file.General setting)) (built_back s h.0))
+    let written : AreWritten (version_of s.agents) s.prior s.agents = record {
+      at = λ i l. record {
+        beside_prior = λ p e. h.1.listed.beside_prior p e i l;
+        beside_at = λ rows e. h.1.listed.beside_at rows i l e;
+        said = said_in s.agents i l;
+      };
+    } in
+    on_ok (header_of (general_table s)) (record { version = version_of s.agents; kind = kind.General }) (λ header. file_of header.kind header.version (general_table s)) (general_header (version_of s.agents) s.prior s refl)
+    ∙ (on_ok (general_of (version_of s.agents) (general_table s)) s (λ said. built said >>= λ setting. Ok (file.General setting))
+    (general_back (version_of s.agents) s.prior s refl written)
+    ∙ on_ok (built s) s (λ setting. Ok (file.General setting)) (built_back s h.0))
 file_back (file.Auction a) h =
-    then (auction_in (auction_table a)) (as_written a) (λ written. built_auction written >>= λ auction. Ok (file.Auction auction)) (auction_back a)
-    ∙ (then (built_auction (as_written a)) (auction_of (as_written a)) (λ auction. Ok (file.Auction auction)) (built_auction_back (as_written a) h)
+    on_ok (auction_in (auction_table a)) (as_written a) (λ written. built_auction written >>= λ auction. Ok (file.Auction auction)) (auction_back a)
+    ∙ (on_ok (built_auction (as_written a)) (auction_of (as_written a)) (λ auction. Ok (file.Auction auction)) (built_auction_back (as_written a) h)
     ∙ ap (λ weights. Ok (file.Auction (record { bidders = a.bidders; values = a.values; weights = weights; revenue = a.revenue; welfare = a.welfare; keep = a.keep })))
     (weights_back a.weights))
 
@@ -193,6 +277,10 @@ weights-depth : (prior : Option (List ℤ)) (weights : List ℤ) (ms : Members) 
 weights-depth None weights ms h = put_depth 2 key.AgentWeights (numbers_data weights) ms (omega (arith, numbers-depth weights)) h
 weights-depth (Some p) weights ms h = h
 
+utilities-depth : (at : Option (List (List ℤ))) (utility : List (List ℤ)) (ms : Members) → members_depth ms ≤ 2 → members_depth (with_utilities at utility ms) ≤ 2
+utilities-depth None utility ms h = put_depth 2 key.AgentUtility (rows_data utility) ms (rows-depth utility) h
+utilities-depth (Some at) utility ms h = put_depth 2 key.AgentUtilityAt (rows_data at) ms (rows-depth at) h
+
 agent-depth : (prior : Option (List ℤ)) (a : Agent) → members_depth (agent_table prior a) ≤ 2
 agent-depth prior a =
     let m1 = put key.AgentName (string a.name) no_members in
@@ -203,7 +291,7 @@ agent-depth prior a =
     let h2 : members_depth m2 ≤ 2 = put_depth 2 key.AgentTypes (texts_data a.types) m1 (omega (arith, texts-depth a.types)) h1 in
     let h3 : members_depth m3 ≤ 2 = weights-depth prior a.weights m2 h2 in
     let h4 : members_depth m4 ≤ 2 = put_depth 2 key.AgentOutside (numbers_data a.outside) m3 (omega (arith, numbers-depth a.outside)) h3 in
-    put_depth 2 key.AgentUtility (rows_data a.utility) m4 (rows-depth a.utility) h4
+    utilities-depth a.at a.utility m4 h4
 
 agents-depth : (prior : Option (List ℤ)) (agents : List Agent) → depth (agents_data prior agents) ≤ 4
 agents-depth prior agents =
@@ -223,8 +311,8 @@ prior-depth : (prior : Option (List ℤ)) (ms : Members) → members_depth ms �
 prior-depth None ms h = h
 prior-depth (Some p) ms h = put_depth 4 key.Prior (numbers_data p) ms (omega (arith, numbers-depth p)) h
 
-header-depth : (word : List ℕ) → members_depth (header_with word) ≤ 4
-header-depth word = omega arith
+header-depth : (version : Version) (word : List ℕ) → members_depth (header_with version word) ≤ 4
+header-depth version word = omega arith
 
 demands-depth : (t : Truth) (r : Rational) (p n : Bool) (ms : Members) → members_depth ms ≤ 4 → members_depth (with_demands t r p n ms) ≤ 4
 demands-depth t r p n ms h =
@@ -238,24 +326,24 @@ demands-depth t r p n ms h =
 
 general-depth : (s : GeneralSetting) → members_depth (general_table s) ≤ 4
 general-depth s =
-    let m0 = header_with (codes "general") in
+    let m0 = header_with (version_of s.agents) (codes "general") in
     let m1 = with_demands s.truth s.rational s.payments s.no_deficit m0 in
     let m2 = put key.Outcomes (texts_data s.outcomes) m1 in
     let m3 = put key.Objective (table (objective_table s.welfare s.revenue s.values)) m2 in
-    let h1 : members_depth m1 ≤ 4 = demands-depth s.truth s.rational s.payments s.no_deficit m0 (header-depth (codes "general")) in
+    let h1 : members_depth m1 ≤ 4 = demands-depth s.truth s.rational s.payments s.no_deficit m0 (header-depth (version_of s.agents) (codes "general")) in
     let h2 : members_depth m2 ≤ 4 = put_depth 4 key.Outcomes (texts_data s.outcomes) m1 (omega (arith, texts-depth s.outcomes)) h1 in
     let h3 : members_depth m3 ≤ 4 = put_depth 4 key.Objective (table (objective_table s.welfare s.revenue s.values)) m2 (omega (arith, objective-depth s.welfare s.revenue s.values)) h2 in
     put_depth 4 key.Agent (agents_data s.prior s.agents) (with_prior s.prior m3) (agents-depth s.prior s.agents) (prior-depth s.prior m3 h3)
 
 auction-depth : (a : SymmetricAuction) → members_depth (auction_table a) ≤ 4
 auction-depth a =
-    let m0 = header_with (codes "auction") in
+    let m0 = header_with One (codes "auction") in
     let m1 = put key.Bidders (integer (pos a.bidders)) m0 in
     let m2 = put key.Values (numbers_data a.values) m1 in
     let m3 = put key.Weights (numbers_data (as_written a).weights) m2 in
     let m4 = put key.Revenue (integer a.revenue) m3 in
     let m5 = put key.Welfare (integer a.welfare) m4 in
-    let h1 : members_depth m1 ≤ 4 = put_depth 4 key.Bidders (integer (pos a.bidders)) m0 (omega arith) (header-depth (codes "auction")) in
+    let h1 : members_depth m1 ≤ 4 = put_depth 4 key.Bidders (integer (pos a.bidders)) m0 (omega arith) (header-depth One (codes "auction")) in
     let h2 : members_depth m2 ≤ 4 = put_depth 4 key.Values (numbers_data a.values) m1 (omega (arith, numbers-depth a.values)) h1 in
     let h3 : members_depth m3 ≤ 4 = put_depth 4 key.Weights (numbers_data (as_written a).weights) m2 (omega (arith, numbers-depth (as_written a).weights)) h2 in
     let h4 : members_depth m4 ≤ 4 = put_depth 4 key.Revenue (integer a.revenue) m3 (omega arith) h3 in
@@ -276,5 +364,5 @@ pub text_back : (f : SettingFile) (bytes : List ℕ) (ms : Members) → IsAccept
     → (members_depth ms ≤ 80 → parse_document bytes ≡ Some ms) → setting_of bytes ≡ Ok f
 text_back f bytes ms accepted text same parsed =
     let little : members_depth ms ≤ 80 = omega (arith, ap members_depth same, file-depth f) in
-    then (document_of bytes) (file_table f) (λ members. header_of members >>= λ k. file_of k members) (document_back bytes (file_table f) text (parsed little ∙ ap Some same))
+    on_ok (document_of bytes) (file_table f) (λ members. header_of members >>= λ header. file_of header.kind header.version members) (document_back bytes (file_table f) text (parsed little ∙ ap Some same))
     ∙ file_back f accepted

@@ -5,6 +5,9 @@ use Rattle.toml.specs.Data.{Data, Members}
 use Rattle.toml.specs.Parse.{parse_document}
 use Rattle.md_toml.specs.declared.document.Kind.{Kind}
 use Rattle.md_toml.specs.declared.document.Kind.TheVariants.{General, Auction}
+use Rattle.md_toml.specs.declared.document.Version.{Version}
+use Rattle.md_toml.specs.declared.document.Version.TheVariants.{One, Two}
+use Rattle.md_toml.specs.declared.document.Header.{Header}
 use Rattle.md_toml.specs.declared.key.Key.{Key}
 use Rattle.md_toml.specs.declared.key.Key.TheVariants as key
 use Rattle.md_toml.specs.declared.refusal.SettingRefusal.TheVariants.{NotToml, UnknownWord}
@@ -25,11 +28,13 @@ format_in k value = do
   word ← text_in k value
   if bytes_eq word (codes "mechanism-setting") then Ok tt else Err (UnknownWord k)
 
--- the version of the format, which is 1
-abbrev pub version_in : Key → Data → Reading (Unit {0})
+-- the version of the format, which is 1 or 2
+abbrev pub version_in : Key → Data → Reading Version
 version_in k value = do
   number ← integer_in k value
-  if int_le number (pos 1) && int_le (pos 1) number then Ok tt else Err (UnknownWord k)
+  if int_le number (pos 1) && int_le (pos 1) number then Ok One
+      else (if int_le number (pos 2) && int_le (pos 2) number then Ok Two
+      else Err (UnknownWord k))
 
 -- the kind of setting
 abbrev pub kind_in : Key → Data → Reading Kind
@@ -39,9 +44,10 @@ kind_in k value = do
       else (if bytes_eq word (codes "auction") then Ok Auction
       else Err (UnknownWord k))
 
--- what the first keys say: the kind of the file
-abbrev pub header_of : Members → Reading Kind
+-- what the first keys say: the version and the kind of the file
+abbrev pub header_of : Members → Reading Header
 header_of members = do
   _ ← required format_in key.Format members
-  _ ← required version_in key.Version members
-  required kind_in key.Kind members
+  version ← required version_in key.Version members
+  kind ← required kind_in key.Kind members
+  Ok record { version = version; kind = kind }

@@ -9,6 +9,7 @@ use Rattle.md_setting.specs.AuctionRefusals.{auction_refusal_of}
 use Rattle.toml.specs.Data.{Members}
 use Rattle.md_toml.specs.declared.document.Kind.{Kind}
 use Rattle.md_toml.specs.declared.document.Kind.TheVariants as kind
+use Rattle.md_toml.specs.declared.document.Version.{Version}
 use Rattle.md_toml.specs.AuctionText.{auction_in}
 use Rattle.md_toml.specs.declared.refusal.SettingRefusal.TheVariants.{Build}
 use Rattle.md_toml.specs.Reading.{Reading, ◌>>=◌}
@@ -30,12 +31,12 @@ built_auction written = elim (auction_refusal_of written) [
 ]
 
 -- what the document says of its kind of setting
-abbrev pub file_of : Kind → Members → Reading SettingFile
-file_of kind.General members = do
-  written ← general_of members
+abbrev pub file_of : Kind → Version → Members → Reading SettingFile
+file_of kind.General version members = do
+  written ← general_of version members
   setting ← built written
   Ok (General setting)
-file_of kind.Auction members = do
+file_of kind.Auction version members = do
   written ← auction_in members
   auction ← built_auction written
   Ok (Auction auction)
@@ -43,5 +44,5 @@ file_of kind.Auction members = do
 abbrev pub setting_of : List ℕ → Reading SettingFile
 setting_of bytes = do
   members ← document_of bytes
-  kind ← header_of members
-  file_of kind members
+  header ← header_of members
+  file_of header.kind header.version members

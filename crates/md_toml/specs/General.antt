@@ -1,5 +1,5 @@
 -- What a document says of a general setting.
-use Rattle.std.specs.Prelude.{ℕ, ℤ, pos, false, List, [], ◌∷◌, length, replicate, Ok, Err, Option, None, Some, codes, is_some, if◌then◌else◌}
+use Rattle.std.specs.Prelude.{ℕ, ℤ, pos, Bool, true, false, List, [], ◌∷◌, length, replicate, Ok, Err, Option, None, Some, codes, is_some, if◌then◌else◌}
 use Rattle.std.specs.Str.{bytes_eq}
 use Rattle.toml.specs.Data.{Data, Members, no_members}
 use Rattle.md_setting.specs.declared.kinds.Truth.{Truth}
@@ -7,12 +7,13 @@ use Rattle.md_setting.specs.declared.kinds.Truth.TheVariants as truth
 use Rattle.md_setting.specs.declared.kinds.Rational.{Rational}
 use Rattle.md_setting.specs.declared.kinds.Rational.TheVariants as rational
 use Rattle.md_setting.specs.Setting.{Agent, GeneralSetting}
+use Rattle.md_toml.specs.declared.document.Version.{Version}
 use Rattle.md_toml.specs.declared.general.Demands.{Demands}
 use Rattle.md_toml.specs.declared.general.Objective.{Objective as Written}
 use Rattle.md_toml.specs.declared.key.Key.{Key}
 use Rattle.md_toml.specs.declared.key.Key.TheVariants as key
 use Rattle.md_toml.specs.declared.refusal.SettingRefusal.TheVariants.{UnknownWord}
-use Rattle.md_toml.specs.Known.{has_known_keys, known_only}
+use Rattle.md_toml.specs.Known.{has_at, has_known_keys, known_only}
 use Rattle.md_toml.specs.Reading.{Reading, ◌>>=◌}
 use Rattle.md_toml.specs.Values.{text_in, integer_in, truth_value_in, table_in, list_in, required, defaulted}
 
@@ -67,21 +68,36 @@ abbrev pub weights_of : Option (List ℤ) → Members → Reading (List ℤ)
 weights_of (Some _) _ = Ok []
 weights_of None table = required (list_in integer_in) key.AgentWeights table
 
-abbrev pub agent_of : Option (List ℤ) → Members → Reading Agent
-agent_of prior members = do
+-- lists of numbers, one for each outcome
+abbrev pub rows_in : Key → Data → Reading (List (List ℤ))
+rows_in key value = list_in (list_in integer_in) key value
+
+-- an agent's utilities by its own type, which must stand where there are none that depend on all types
+abbrev pub utility_of : Bool → Members → Reading (List (List ℤ))
+utility_of true members = defaulted rows_in [] key.AgentUtility members
+utility_of false members = required rows_in key.AgentUtility members
+
+-- its utilities where they depend on all types
+abbrev pub at_of : Bool → Members → Reading (Option (List (List ℤ)))
+at_of true members = required rows_in key.AgentUtilityAt members >>= λ rows. Ok (Some rows)
+at_of false _ = Ok None
+
+abbrev pub agent_of : Version → Option (List ℤ) → Members → Reading Agent
+agent_of version prior members = do
   name ← required text_in key.AgentName members
   types ← required (list_in text_in) key.AgentTypes members
   weights ← weights_of prior members
   outside ← defaulted (list_in integer_in) (zeros_for types) key.AgentOutside members
-  utility ← required (list_in (list_in integer_in)) key.AgentUtility members
-  Ok record { name = name; types = types; weights = weights; outside = outside; utility = utility }
+  utility ← utility_of (has_at version members) members
+  at ← at_of (has_at version members) members
+  Ok record { name = name; types = types; weights = weights; outside = outside; utility = utility; at = at }
 
 -- each agent, read one after the other
-abbrev pub each_agent : Option (List ℤ) → List Members → Reading (List Agent)
-each_agent prior [] = Ok []
-each_agent prior (members ∷ rest) = do
-  first ← agent_of prior members
-  others ← each_agent prior rest
+abbrev pub each_agent : Version → Option (List ℤ) → List Members → Reading (List Agent)
+each_agent version prior [] = Ok []
+each_agent version prior (members ∷ rest) = do
+  first ← agent_of version prior members
+  others ← each_agent version prior rest
   Ok (first ∷ others)
 
 -- the joint weights, where the key stands
@@ -89,16 +105,16 @@ abbrev pub prior_of : Members → Reading (Option (List ℤ))
 prior_of members = defaulted (λ k value. list_in integer_in k value >>= λ weights. Ok (Some weights)) None key.Prior members
 
 -- a general setting as its document says it
-abbrev pub general_of : Members → Reading GeneralSetting
-general_of members = do
+abbrev pub general_of : Version → Members → Reading GeneralSetting
+general_of version members = do
   demands ← demands_of members
   outcomes ← required (list_in text_in) key.Outcomes members
   objective_members ← defaulted table_in no_members key.Objective members
   objective ← objective_of outcomes objective_members
   prior ← prior_of members
   tables ← required (list_in table_in) key.Agent members
-  agents ← each_agent prior tables
-  _ ← known_only (has_known_keys members objective_members tables (is_some prior))
+  agents ← each_agent version prior tables
+  _ ← known_only (has_known_keys version members objective_members tables (is_some prior))
   Ok record {
     agents = agents;
     outcomes = outcomes;

@@ -1,7 +1,7 @@
 -- The names of the keys of setting files.
 use Rattle.std.specs.Prelude.{ℕ, List, codes}
 use Rattle.md_toml.specs.declared.key.Key.{Key}
-use Rattle.md_toml.specs.declared.key.Key.TheVariants.{Format, Version, Kind, Truth, Rational, Payments, NoDeficit, Outcomes, Objective, ObjectiveWelfare, ObjectiveRevenue, ObjectiveValue, Prior, Agent, AgentName, AgentTypes, AgentWeights, AgentOutside, AgentUtility, Bidders, Values, Weights, Revenue, Welfare, Keep}
+use Rattle.md_toml.specs.declared.key.Key.TheVariants.{Format, Version, Kind, Truth, Rational, Payments, NoDeficit, Outcomes, Objective, ObjectiveWelfare, ObjectiveRevenue, ObjectiveValue, Prior, Agent, AgentName, AgentTypes, AgentWeights, AgentOutside, AgentUtility, AgentUtilityAt, Bidders, Values, Weights, Revenue, Welfare, Keep}
 
 -- the whole name of a key
 abbrev pub text_of : Key → List ℕ
@@ -24,6 +24,7 @@ text_of AgentTypes = codes "agent.types"
 text_of AgentWeights = codes "agent.weights"
 text_of AgentOutside = codes "agent.outside"
 text_of AgentUtility = codes "agent.utility"
+text_of AgentUtilityAt = codes "agent.utility_at"
 text_of Bidders = codes "bidders"
 text_of Values = codes "values"
 text_of Weights = codes "weights"
@@ -41,4 +42,5 @@ member_name AgentTypes = codes "types"
 member_name AgentWeights = codes "weights"
 member_name AgentOutside = codes "outside"
 member_name AgentUtility = codes "utility"
+member_name AgentUtilityAt = codes "utility_at"
 member_name key = text_of key

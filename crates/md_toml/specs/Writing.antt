@@ -1,5 +1,6 @@
 -- The document that a setting is printed as.
-use Rattle.std.specs.Prelude.{◌≡◌, ℕ, ℤ, pos, Bool, List, [], ◌∷◌, Option, None, Some, codes}
+use Rattle.std.specs.Prelude.{◌≡◌, ℕ, ℤ, pos, Bool, List, [], ◌∷◌, Option, None, Some, is_some, codes, if◌then◌else◌}
+use Rattle.std.specs.List.{list_any}
 use Rattle.std.specs.Cmp.Lexicographic.{slice_cmp}
 use Rattle.std.specs.Ordering.{nat_cmp, match_ordering}
 use Rattle.toml.specs.Data.{Data, string, integer, boolean, array, table, Items, no_items, item, Members, no_members, member}
@@ -14,6 +15,8 @@ use Rattle.md_setting.specs.Auction.{SymmetricAuction, as_written}
 use Rattle.md_setting.specs.AuctionRefusals.{auction_refusal_of}
 use Rattle.md_setting.specs.Refusals.{refusal_of}
 use Rattle.md_setting.specs.Shaped.{IsShaped}
+use Rattle.md_toml.specs.declared.document.Version.{Version}
+use Rattle.md_toml.specs.declared.document.Version.TheVariants.{One, Two}
 use Rattle.md_toml.specs.declared.key.Key.{Key}
 use Rattle.md_toml.specs.declared.key.Key.TheVariants as key
 use Rattle.md_toml.specs.Keys.{member_name}
@@ -52,10 +55,20 @@ rational_word rational.None = codes "none"
 rational_word rational.ExPost = codes "ex-post"
 rational_word rational.Interim = codes "interim"
 
+-- the number of a version
+abbrev pub version_number : Version → ℤ
+version_number One = pos 1
+version_number Two = pos 2
+
+-- the version that a setting is written in: the second where the utility of an agent depends on all types
+abbrev pub version_of : List Agent → Version
+version_of agents = if list_any (λ agent. is_some agent.at) agents then Two else One
+
 -- the first keys
-abbrev pub header_with : List ℕ → Members
-header_with word =
-    put key.Kind (string word) (put key.Version (integer (pos 1)) (put key.Format (string (codes "mechanism-setting")) no_members))
+abbrev pub header_with : Version → List ℕ → Members
+header_with version word =
+    put key.Kind (string word)
+    (put key.Version (integer (version_number version)) (put key.Format (string (codes "mechanism-setting")) no_members))
 
 -- what is demanded of a mechanism
 abbrev pub with_demands : Truth → Rational → Bool → Bool → Members → Members
@@ -73,9 +86,14 @@ abbrev pub with_weights : Option (List ℤ) → List ℤ → Members → Members
 with_weights None weights members = put key.AgentWeights (numbers_data weights) members
 with_weights (Some prior) weights members = members
 
+-- utilities stand by the agent's own type, or by the types of all agents
+abbrev pub with_utilities : Option (List (List ℤ)) → List (List ℤ) → Members → Members
+with_utilities None utility members = put key.AgentUtility (rows_data utility) members
+with_utilities (Some at) utility members = put key.AgentUtilityAt (rows_data at) members
+
 abbrev pub agent_table : Option (List ℤ) → Agent → Members
 agent_table prior agent =
-    put key.AgentUtility (rows_data agent.utility) (put key.AgentOutside (numbers_data agent.outside)
+    with_utilities agent.at agent.utility (put key.AgentOutside (numbers_data agent.outside)
     (with_weights prior agent.weights (put key.AgentTypes (texts_data agent.types) (put key.AgentName (string agent.name) no_members))))
 
 abbrev pub agents_data : Option (List ℤ) → List Agent → Data
@@ -85,19 +103,22 @@ abbrev pub with_prior : Option (List ℤ) → Members → Members
 with_prior None members = members
 with_prior (Some prior) members = put key.Prior (numbers_data prior) members
 
-abbrev pub general_table : GeneralSetting → Members
-general_table s =
+abbrev pub general_table_in : Version → GeneralSetting → Members
+general_table_in version s =
     put key.Agent (agents_data s.prior s.agents)
     (with_prior s.prior
     (put key.Objective (table (objective_table s.welfare s.revenue s.values))
     (put key.Outcomes (texts_data s.outcomes)
-    (with_demands s.truth s.rational s.payments s.no_deficit (header_with (codes "general"))))))
+    (with_demands s.truth s.rational s.payments s.no_deficit (header_with version (codes "general"))))))
+
+abbrev pub general_table : GeneralSetting → Members
+general_table s = general_table_in (version_of s.agents) s
 
 abbrev pub auction_table : SymmetricAuction → Members
 auction_table a =
     put key.Keep (integer a.keep) (put key.Welfare (integer a.welfare) (put key.Revenue (integer a.revenue)
     (put key.Weights (numbers_data (as_written a).weights) (put key.Values (numbers_data a.values)
-    (put key.Bidders (integer (pos a.bidders)) (header_with (codes "auction")))))))
+    (put key.Bidders (integer (pos a.bidders)) (header_with One (codes "auction")))))))
 
 abbrev pub file_table : SettingFile → Members
 file_table (file.General setting) = general_table setting

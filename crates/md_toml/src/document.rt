@@ -31,11 +31,19 @@ fn read_format(key: Key, value: &Value) -> Result<(), SettingRefusal>
     }
 }
 
-fn read_version(key: Key, value: &Value) -> Result<(), SettingRefusal>
-    ensures { Gives (λ _. tt) result (version_in key (view value.now)) }
+/// The version of the format. In the second one the utility of an agent may depend on the types of all agents.
+#[derive(Clone, Copy)]
+pub(crate) enum Version {
+    One,
+    Two,
+}
+
+fn read_version(key: Key, value: &Value) -> Result<Version, SettingRefusal>
+    ensures { Gives (λ version. version) result (version_in key (view value.now)) }
 {
     match read_integer(key, value)? {
-        1 => Ok(()),
+        1 => Ok(Version::One),
+        2 => Ok(Version::Two),
         _ => Err(SettingRefusal::UnknownWord(key)),
     }
 }
@@ -59,11 +67,19 @@ fn read_kind(key: Key, value: &Value) -> Result<Kind, SettingRefusal>
     }
 }
 
-/// What the first keys say: the kind of the file.
-pub(crate) fn read_header(members: &Table) -> Result<Kind, SettingRefusal>
-    ensures { Gives (λ kind. kind) result (header_of (table_view members.now)) }
+/// What the first keys say.
+#[derive(Clone, Copy)]
+pub(crate) struct Header {
+    pub(crate) version: Version,
+    pub(crate) kind: Kind,
+}
+
+/// What the first keys say: the version and the kind of the file.
+pub(crate) fn read_header(members: &Table) -> Result<Header, SettingRefusal>
+    ensures { Gives (λ header. header) result (header_of (table_view members.now)) }
 {
     read_format(Key::Format, value_at(members, Key::Format)?)?;
-    read_version(Key::Version, value_at(members, Key::Version)?)?;
-    read_kind(Key::Kind, value_at(members, Key::Kind)?)
+    let version = read_version(Key::Version, value_at(members, Key::Version)?)?;
+    let kind = read_kind(Key::Kind, value_at(members, Key::Kind)?)?;
+    Ok(Header { version, kind })
 }

@@ -4,9 +4,10 @@ ghost use Rattle.toml.specs.View.{view, table_view};
 ghost use Rattle.md_setting.specs.Setting.{written_agent, names_of, rows_of, written};
 ghost use Rattle.md_toml.specs.Reading.{Gives};
 ghost use Rattle.md_toml.specs.Values.{members_of_all, table_in, integer_in, list_in, defaulted};
-ghost use Rattle.md_toml.specs.General.{truth_in, rational_in, demands_of, zeros_for, said_objective, objective_of, weights_of, agent_of, prior_of, each_agent, general_of};
+ghost use Rattle.md_toml.specs.General.{truth_in, rational_in, demands_of, zeros_for, said_objective, objective_of, weights_of, utility_of, at_of, agent_of, prior_of, each_agent, general_of};
 
-use crate::known::has_known_keys;
+use crate::document::Version;
+use crate::known::{has_at, has_known_keys};
 use crate::values::{
     member_at, number_at, read_integers, read_rows, read_table, read_tables, read_text, read_texts,
     read_truth_value, value_at,
@@ -123,28 +124,61 @@ fn read_weights(
     }
 }
 
+// An agent's utilities by its own type, which must stand where there are none that depend on all types.
+fn read_utility(alloc: Global, members: &Table, at: bool) -> Result<Vec<Vec<i64>>, SettingRefusal>
+    ensures { Gives (λ rows. rows_of rows.items) result (utility_of at (table_view members.now)) }
+{
+    if at && member_at(members, Key::AgentUtility).is_none() {
+        return Ok(Vec::new(alloc));
+    }
+    read_rows(
+        alloc,
+        Key::AgentUtility,
+        value_at(members, Key::AgentUtility)?,
+    )
+}
+
+// Its utilities where they depend on all types.
+fn read_at(
+    alloc: Global,
+    members: &Table,
+    at: bool,
+) -> Result<Option<Vec<Vec<i64>>>, SettingRefusal>
+    ensures { Gives (option_map (λ rows. rows_of rows.items)) result (at_of at (table_view members.now)) }
+{
+    if !at {
+        return Ok(None);
+    }
+    let rows = read_rows(
+        alloc,
+        Key::AgentUtilityAt,
+        value_at(members, Key::AgentUtilityAt)?,
+    )?;
+    Ok(Some(rows))
+}
+
 fn read_agent(
     alloc: Global,
+    version: Version,
     members: &Table,
     prior: &Option<Vec<i64>>,
 ) -> Result<RawAgent, SettingRefusal>
-    ensures { Gives written_agent result (agent_of (option_map (λ weights. weights.items) prior.now) (table_view members.now)) }
+    ensures { Gives written_agent result (agent_of version (option_map (λ weights. weights.items) prior.now) (table_view members.now)) }
 {
     let name = read_text(Key::AgentName, value_at(members, Key::AgentName)?)?;
     let types = read_texts(alloc, Key::AgentTypes, value_at(members, Key::AgentTypes)?)?;
     let weights = read_weights(alloc, members, prior)?;
     let outside = numbers_at(alloc, members, Key::AgentOutside, &types)?;
-    let utility = read_rows(
-        alloc,
-        Key::AgentUtility,
-        value_at(members, Key::AgentUtility)?,
-    )?;
+    let depends = has_at(members, version);
+    let utility = read_utility(alloc, members, depends)?;
+    let at = read_at(alloc, members, depends)?;
     Ok(RawAgent {
         name,
         types,
         weights,
         outside,
         utility,
+        at,
     })
 }
 
@@ -159,14 +193,15 @@ fn read_prior(alloc: Global, members: &Table) -> Result<Option<Vec<i64>>, Settin
 
 fn read_agents(
     alloc: Global,
+    version: Version,
     tables: &[&Table],
     prior: &Option<Vec<i64>>,
 ) -> Result<Vec<RawAgent>, SettingRefusal>
-    ensures { Gives (λ agents. map written_agent agents.items) result (each_agent (option_map (λ weights. weights.items) prior.now) (members_of_all tables.now)) }
+    ensures { Gives (λ agents. map written_agent agents.items) result (each_agent version (option_map (λ weights. weights.items) prior.now) (members_of_all tables.now)) }
 {
     let mut agents = Vec::new(alloc);
     for members in tables {
-        agents.push(read_agent(alloc, members, prior)?)?;
+        agents.push(read_agent(alloc, version, members, prior)?)?;
     }
     Ok(agents)
 }
@@ -185,8 +220,12 @@ fn table_at<'a>(
     }
 }
 
-pub(crate) fn read_general(alloc: Global, members: &Table) -> Result<RawSetting, SettingRefusal>
-    ensures { Gives written result (general_of (table_view members.now)) }
+pub(crate) fn read_general(
+    alloc: Global,
+    members: &Table,
+    version: Version,
+) -> Result<RawSetting, SettingRefusal>
+    ensures { Gives written result (general_of version (table_view members.now)) }
 {
     let demands = read_demands(members)?;
     let outcomes = read_texts(alloc, Key::Outcomes, value_at(members, Key::Outcomes)?)?;
@@ -195,8 +234,14 @@ pub(crate) fn read_general(alloc: Global, members: &Table) -> Result<RawSetting,
     let objective = read_objective(alloc, objective_members, &outcomes)?;
     let prior = read_prior(alloc, members)?;
     let tables = read_tables(alloc, Key::Agent, value_at(members, Key::Agent)?)?;
-    let agents = read_agents(alloc, &tables, &prior)?;
-    if !has_known_keys(members, objective_members, &tables, prior.is_some()) {
+    let agents = read_agents(alloc, version, &tables, &prior)?;
+    if !has_known_keys(
+        version,
+        members,
+        objective_members,
+        &tables,
+        prior.is_some(),
+    ) {
         return Err(SettingRefusal::UnknownKey);
     }
     Ok(RawSetting {

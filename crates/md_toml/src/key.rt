@@ -42,6 +42,8 @@ pub enum Key {
     AgentOutside,
     /// `agent.utility`
     AgentUtility,
+    /// `agent.utility_at`
+    AgentUtilityAt,
     /// `bidders` of an auction
     Bidders,
     /// `values` of an auction
@@ -83,6 +85,7 @@ impl Key {
             Key::AgentWeights => "agent.weights",
             Key::AgentOutside => "agent.outside",
             Key::AgentUtility => "agent.utility",
+            Key::AgentUtilityAt => "agent.utility_at",
             Key::Bidders => "bidders",
             Key::Values => "values",
             Key::Weights => "weights",
@@ -105,6 +108,7 @@ impl Key {
             Key::AgentWeights => "weights",
             Key::AgentOutside => "outside",
             Key::AgentUtility => "utility",
+            Key::AgentUtilityAt => "utility_at",
             other => other.text(),
         }
     }

@@ -21,7 +21,7 @@ mod values;
 mod write;
 
 use auction::{RawAuction, read_auction};
-use document::{Kind, read_document, read_header};
+use document::{Header, Kind, read_document, read_header};
 use general::read_general;
 pub use key::Key;
 use md_num::NoMemory;
@@ -36,8 +36,8 @@ pub fn read_setting(alloc: Global, bytes: &[u8]) -> Result<SettingFile, SettingR
     ensures { Gives (λ file. file) result (setting_of bytes.now) }
 {
     let members = read_document(alloc, bytes)?;
-    let kind = read_header(&members)?;
-    read_file(alloc, kind, &members)
+    let header = read_header(&members)?;
+    read_file(alloc, header, &members)
 }
 
 /// The bytes of a file that says this setting.
@@ -53,12 +53,12 @@ pub fn write_setting(alloc: Global, file: &SettingFile) -> Result<Vec<u8>, NoMem
 }
 
 // What the document says of its kind of setting.
-fn read_file(alloc: Global, kind: Kind, members: &Table) -> Result<SettingFile, SettingRefusal>
-    ensures { Gives (λ file. file) result (file_of kind (table_view members.now)) }
+fn read_file(alloc: Global, header: Header, members: &Table) -> Result<SettingFile, SettingRefusal>
+    ensures { Gives (λ file. file) result (file_of header.kind header.version (table_view members.now)) }
 {
-    match kind {
+    match header.kind {
         Kind::General => {
-            let setting = build(alloc, read_general(alloc, members)?)?;
+            let setting = build(alloc, read_general(alloc, members, header.version)?)?;
             Ok(SettingFile::General(setting))
         }
         Kind::Auction => {

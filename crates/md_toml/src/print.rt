@@ -68,6 +68,17 @@ pub(crate) fn put_texts(
     put(alloc, members, key, texts_value(alloc, texts)?)
 }
 
+pub(crate) fn put_rows(
+    alloc: Global,
+    members: &mut Table,
+    key: Key,
+    rows: &[Vec<i64>],
+) -> Result<(), NoMemory>
+    ensures { OnOk result (table_view members.new ≡ put key (rows_data (rows_of rows.now)) (table_view members.old)) }
+{
+    put(alloc, members, key, rows_value(alloc, rows)?)
+}
+
 fn numbers_value(alloc: Global, numbers: &[i64]) -> Result<Value, NoMemory>
     ensures { IfOk result (λ value. view value ≡ numbers_data numbers.now) }
 {
@@ -100,7 +111,7 @@ fn texts_value(alloc: Global, texts: &[String]) -> Result<Value, NoMemory>
     Ok(Value::Array(items))
 }
 
-pub(crate) fn rows_value(alloc: Global, rows: &[Vec<i64>]) -> Result<Value, NoMemory>
+fn rows_value(alloc: Global, rows: &[Vec<i64>]) -> Result<Value, NoMemory>
     ensures { IfOk result (λ value. view value ≡ rows_data (rows_of rows.now)) }
 {
     let mut items = Vec::new(alloc);

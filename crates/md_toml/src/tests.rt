@@ -3,12 +3,14 @@ use crate::{Key, SettingRefusal, read_setting, write_setting};
 use md_setting::{BuildRefusal, SettingFile};
 use std::test::Fail;
 
-// One agent, a buyer, agents whose types are not independent, and an auction.
-static TEXTS: [&str; 4] = [
+// One agent, a buyer, agents whose types are not independent, an auction, and a buyer whose utility depends on the seller's
+// type.
+static TEXTS: [&str; 5] = [
     "format = \"mechanism-setting\"\nversion = 1\nkind = \"general\"\ntruth = \"dominant\"\nrational = \"none\"\npayments = false\noutcomes = [\"only\"]\n[[agent]]\nname = \"a\"\ntypes = [\"t\"]\nweights = [1]\nutility = [[0]]\n",
     "format = \"mechanism-setting\"\nversion = 1\nkind = \"general\"\ntruth = \"dominant\"\nrational = \"ex-post\"\npayments = true\noutcomes = [\"keep\", \"sell\"]\n[objective]\nrevenue = 1\n[[agent]]\nname = \"buyer\"\ntypes = [\"low\", \"high\"]\nweights = [1, 1]\nutility = [[0, 1], [0, 3]]\n",
     "format = \"mechanism-setting\"\nversion = 1\nkind = \"general\"\ntruth = \"bayes\"\nrational = \"interim\"\npayments = true\noutcomes = [\"keep\", \"first\", \"second\"]\nprior = [2, 1, 1, 2]\n[objective]\nrevenue = 1\n[[agent]]\nname = \"one\"\ntypes = [\"v1\", \"v2\"]\nutility = [[0, 1, 0], [0, 2, 0]]\n[[agent]]\nname = \"two\"\ntypes = [\"v1\", \"v2\"]\nutility = [[0, 0, 1], [0, 0, 2]]\n",
     "format = \"mechanism-setting\"\nversion = 1\nkind = \"auction\"\nbidders = 2\nvalues = [2, 3, 6]\nweights = [2, 1, 1]\n",
+    "format = \"mechanism-setting\"\nversion = 2\nkind = \"general\"\ntruth = \"dominant\"\nrational = \"ex-post\"\npayments = false\noutcomes = [\"no\", \"yes\"]\n[objective]\nwelfare = 1\n[[agent]]\nname = \"first\"\ntypes = [\"good\", \"bad\"]\nweights = [1, 1]\nutility = [[0, 0], [0, 0]]\n[[agent]]\nname = \"second\"\ntypes = [\"s\"]\nweights = [1]\nutility_at = [[0, 1], [0, -1]]\n",
 ];
 
 #[test]
@@ -40,7 +42,7 @@ fn what_an_auction_leaves_out_has_a_default(rt: HostRuntime) -> Result<(), Fail>
 }
 
 // A setting file, and why it is refused where it is: just within and just beyond the limits, and what comes first.
-static LIMITS: [(&str, Option<SettingRefusal>); 19] = [
+static LIMITS: [(&str, Option<SettingRefusal>); 23] = [
     (
         "format = \"mechanism-setting\"\nversion = 1\nkind = \"general\"\ntruth = \"dominant\"\nrational = \"none\"\npayments = false\noutcomes = [\"o0\", \"o1\"]\n[[agent]]\nname = \"p\"\ntypes = [\"t0\", \"t1\", \"t2\", \"t3\", \"t4\", \"t5\", \"t6\", \"t7\", \"t8\"]\nweights = [1, 1, 1, 1, 1, 1, 1, 1, 1]\nutility = [[0, 0], [0, 0], [0, 0], [0, 0], [0, 0], [0, 0], [0, 0], [0, 0], [0, 0]]\n[[agent]]\nname = \"q\"\ntypes = [\"t0\", \"t1\", \"t2\", \"t3\", \"t4\", \"t5\", \"t6\", \"t7\", \"t8\"]\nweights = [1, 1, 1, 1, 1, 1, 1, 1, 1]\nutility = [[0, 0], [0, 0], [0, 0], [0, 0], [0, 0], [0, 0], [0, 0], [0, 0], [0, 0]]\n",
         None,
@@ -116,6 +118,22 @@ static LIMITS: [(&str, Option<SettingRefusal>); 19] = [
     (
         "format = \"mechanism-setting\"\nversion = 1\nkind = \"auction\"\nbidders = 0\nvalues = []\nweights = []\ntruth = 1\n",
         Some(SettingRefusal::UnknownKey),
+    ),
+    (
+        "format = \"mechanism-setting\"\nversion = 1\nkind = \"general\"\ntruth = \"dominant\"\nrational = \"ex-post\"\npayments = false\noutcomes = [\"no\", \"yes\"]\n[objective]\nwelfare = 1\n[[agent]]\nname = \"first\"\ntypes = [\"good\", \"bad\"]\nweights = [1, 1]\nutility = [[0, 0], [0, 0]]\n[[agent]]\nname = \"second\"\ntypes = [\"s\"]\nweights = [1]\nutility_at = [[0, 1], [0, -1]]\n",
+        Some(SettingRefusal::Missing(Key::AgentUtility)),
+    ),
+    (
+        "format = \"mechanism-setting\"\nversion = 1\nkind = \"general\"\ntruth = \"dominant\"\nrational = \"ex-post\"\npayments = false\noutcomes = [\"no\", \"yes\"]\n[objective]\nwelfare = 1\n[[agent]]\nname = \"first\"\ntypes = [\"good\", \"bad\"]\nweights = [1, 1]\nutility = [[0, 0], [0, 0]]\n[[agent]]\nname = \"second\"\ntypes = [\"s\"]\nweights = [1]\nutility_at = [[0, 1], [0, -1]]\nutility = [[0, 0]]\n",
+        Some(SettingRefusal::UnknownKey),
+    ),
+    (
+        "format = \"mechanism-setting\"\nversion = 2\nkind = \"general\"\ntruth = \"dominant\"\nrational = \"ex-post\"\npayments = false\noutcomes = [\"no\", \"yes\"]\n[objective]\nwelfare = 1\n[[agent]]\nname = \"first\"\ntypes = [\"good\", \"bad\"]\nweights = [1, 1]\nutility = [[0, 0], [0, 0]]\n[[agent]]\nname = \"second\"\ntypes = [\"s\"]\nweights = [1]\nutility_at = [[0, 1], [0, -1]]\nutility = [[0, 0]]\n",
+        Some(SettingRefusal::UnknownKey),
+    ),
+    (
+        "format = \"mechanism-setting\"\nversion = 2\nkind = \"general\"\ntruth = \"dominant\"\nrational = \"ex-post\"\npayments = false\noutcomes = [\"no\", \"yes\"]\n[objective]\nwelfare = 1\n[[agent]]\nname = \"first\"\ntypes = [\"good\", \"bad\"]\nweights = [1, 1]\nutility = [[0, 0], [0, 0]]\n[[agent]]\nname = \"second\"\ntypes = [\"s\"]\nweights = [1]\nutility_at = [[0, 1]]\n",
+        Some(SettingRefusal::Build(BuildRefusal::Shape)),
     ),
 ];
 

@@ -1,12 +1,14 @@
 //! The document that a setting is printed as.
-ghost use Rattle.std.specs.Prelude.{◌≡◌, IfOk, OnOk, map, option_map, ℤ, pos, string_bytes};
+ghost use Rattle.std.specs.Prelude.{◌≡◌, IfOk, OnOk, map, option_map, is_some, ℤ, pos, string_bytes};
+ghost use Rattle.std.specs.List.{list_any};
 ghost use Rattle.toml.specs.Data.{no_members, table};
 ghost use Rattle.toml.specs.View.{view, table_view};
 ghost use Rattle.md_setting.specs.Setting.{written_agent, written, names_of, rows_of};
-ghost use Rattle.md_toml.specs.Writing.{put, header_with, with_demands, objective_table, with_weights, agent_table, agents_data, with_prior, general_table, auction_table, file_table, IsAccepted, numbers_data, texts_data, rows_data, truth_word, rational_word};
+ghost use Rattle.md_toml.specs.Writing.{put, version_number, version_of, header_with, with_demands, objective_table, with_weights, with_utilities, agent_table, agents_data, with_prior, general_table, auction_table, file_table, IsAccepted, numbers_data, texts_data, rows_data, truth_word, rational_word};
 
 use crate::Key;
-use crate::print::{put, put_integer, put_numbers, put_text, put_texts, rows_value, sizes_value};
+use crate::document::Version;
+use crate::print::{put, put_integer, put_numbers, put_rows, put_text, put_texts, sizes_value};
 use md_num::NoMemory;
 use md_setting::{Auction, Rational, RawAgent, RawSetting, Setting, SettingFile, Truth};
 use std::alloc::Global;
@@ -31,13 +33,50 @@ fn rational_word(rational: Rational) -> &'static str
     }
 }
 
+fn version_number(version: Version) -> i64
+    ensures { result ≡ version_number version }
+{
+    match version {
+        Version::One => 1,
+        Version::Two => 2,
+    }
+}
+
+// Whether the utility of an agent depends on all types.
+fn depends_on_all(agent: &RawAgent) -> bool
+    ensures { result ≡ is_some (written_agent agent.now).at }
+{
+    match agent.at {
+        Some(_) => true,
+        None => false,
+    }
+}
+
+fn any_depends_on_all(agents: &[RawAgent]) -> bool
+    ensures { result ≡ list_any (λ agent. is_some (written_agent agent).at) agents.now }
+{
+    agents.iter().any(|agent| depends_on_all(agent))
+}
+
+// The version that a setting is written in.
+#[tactic(auto, using(crate::proofs::VersionLaws::any_written))]
+fn version_of(agents: &[RawAgent]) -> Version
+    ensures { result ≡ version_of (map written_agent agents.now) }
+{
+    if any_depends_on_all(agents) {
+        Version::Two
+    } else {
+        Version::One
+    }
+}
+
 // The first keys, with the word for the kind.
-fn header_table(alloc: Global, kind: &str) -> Result<Table, NoMemory>
-    ensures { IfOk result (λ members. table_view members ≡ header_with kind.now) }
+fn header_table(alloc: Global, version: Version, kind: &str) -> Result<Table, NoMemory>
+    ensures { IfOk result (λ members. table_view members ≡ header_with version kind.now) }
 {
     let mut members = Table::new(alloc);
     put_text(alloc, &mut members, Key::Format, "mechanism-setting")?;
-    put_integer(alloc, &mut members, Key::Version, 1)?;
+    put_integer(alloc, &mut members, Key::Version, version_number(version))?;
     put_text(alloc, &mut members, Key::Kind, kind)?;
     Ok(members)
 }
@@ -82,6 +121,21 @@ fn put_weights(
     }
 }
 
+// Utilities stand by the agent's own type, or by the types of all agents.
+fn put_utilities(
+    alloc: Global,
+    members: &mut Table,
+    at: &Option<Vec<Vec<i64>>>,
+    utility: &[Vec<i64>],
+) -> Result<(), NoMemory>
+    ensures { OnOk result (table_view members.new ≡ with_utilities (option_map (λ rows. rows_of rows.items) at.now) (rows_of utility.now) (table_view members.old)) }
+{
+    match at {
+        Some(rows) => put_rows(alloc, members, Key::AgentUtilityAt, rows),
+        None => put_rows(alloc, members, Key::AgentUtility, utility),
+    }
+}
+
 fn agent_table(alloc: Global, prior: &Option<Vec<i64>>, agent: &RawAgent) -> Result<Table, NoMemory>
     ensures { IfOk result (λ members. table_view members ≡ agent_table (option_map (λ weights. weights.items) prior.now) (written_agent agent.now)) }
 {
@@ -90,12 +144,7 @@ fn agent_table(alloc: Global, prior: &Option<Vec<i64>>, agent: &RawAgent) -> Res
     put_texts(alloc, &mut members, Key::AgentTypes, &agent.types)?;
     put_weights(alloc, &mut members, prior, &agent.weights)?;
     put_numbers(alloc, &mut members, Key::AgentOutside, &agent.outside)?;
-    put(
-        alloc,
-        &mut members,
-        Key::AgentUtility,
-        rows_value(alloc, &agent.utility)?,
-    )?;
+    put_utilities(alloc, &mut members, &agent.at, &agent.utility)?;
     Ok(members)
 }
 
@@ -125,7 +174,7 @@ fn put_prior(alloc: Global, members: &mut Table, prior: &Option<Vec<i64>>) -> Re
 fn general_table(alloc: Global, raw: &RawSetting) -> Result<Table, NoMemory>
     ensures { IfOk result (λ members. table_view members ≡ general_table (written raw.now)) }
 {
-    let mut members = header_table(alloc, "general")?;
+    let mut members = header_table(alloc, version_of(&raw.agents), "general")?;
     put_demands(alloc, &mut members, raw)?;
     put_texts(alloc, &mut members, Key::Outcomes, &raw.outcomes)?;
     put(
@@ -148,7 +197,7 @@ fn auction_table(alloc: Global, auction: &Auction, values: &[i64]) -> Result<Tab
     requires { values.now ≡ auction.now.values }
     ensures { IfOk result (λ members. table_view members ≡ auction_table auction.now) }
 {
-    let mut members = header_table(alloc, "auction")?;
+    let mut members = header_table(alloc, Version::One, "auction")?;
     put_integer(
         alloc,
         &mut members,

@@ -19,6 +19,10 @@ use Rattle.md_words.specs.Words.{Order}
 use Rattle.md_answer.specs.declared.pivots.Pivots.{Pivots}
 use Rattle.md_top.specs.Replaying.{IsPivotRefused, IsReplaying, IsReplayStatus}
 
+-- what was read is no refusal
+pub read-not_refused : {T E : Type 0} (x : T) (e : E) → Ok x ≢ Err e
+read-not_refused x e same = cc
+
 -- the element behind some others
 pub slice_get-behind : {X : Type 0} (before : List X) (x : X) (after : List X) → slice_get (before ++ x ∷ after) (length before) ≡ Some x
 slice_get-behind [] x after = refl

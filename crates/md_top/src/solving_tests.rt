@@ -1,8 +1,8 @@
 //! Settings solved, answers checked after they were written, and pivots carried out, over files in memory.
 use crate::mechdes;
 use crate::test_settings::{
-    CORRELATED, HONEST, INDEPENDENT, OUT_OF_REACH, PAYING, POSTED_PRICE, POSTED_PRICE_FRONT,
-    TAKING, TWO_OUTCOMES, WELFARE_VOTE,
+    CORRELATED, HONEST, INDEPENDENT, INTERDEPENDENT, OUT_OF_REACH, PAYING, POSTED_PRICE,
+    POSTED_PRICE_FRONT, TAKING, TWO_OUTCOMES, WELFARE_VOTE,
 };
 use crate::tests::words;
 use md_ports::{MemShelf, MemSink};
@@ -10,7 +10,7 @@ use std::alloc::{AllocError, Global};
 use std::test::Fail;
 
 // A setting, its status and what `solve` prints, or how that begins.
-static SOLVED: [(&str, u8, &str); 8] = [
+static SOLVED: [(&str, u8, &str); 9] = [
     (
         POSTED_PRICE,
         0,
@@ -43,6 +43,7 @@ static SOLVED: [(&str, u8, &str); 8] = [
     ),
     (CORRELATED, 0, "answer,1,general,optimal\nvalue,5,3\n"),
     (INDEPENDENT, 0, "answer,1,general,optimal\nvalue,3,2\n"),
+    (INTERDEPENDENT, 0, "answer,1,general,optimal\nvalue,1,2\n"),
 ];
 
 // The buyer's high value, the words, the second file, the status, and what is printed and said.

@@ -44,6 +44,22 @@ pub(crate) const WELFARE_VOTE: &str =
 pub(crate) const INDEPENDENT: &str =
     "format = \"mechanism-setting\"\nversion = 1\nkind = \"general\"\ntruth = \"dominant\"\nrational = \"ex-post\"\npayments = true\noutcomes = [\"keep\", \"first\", \"second\"]\n[objective]\nrevenue = 1\n[[agent]]\nname = \"one\"\ntypes = [\"v1\", \"v2\"]\nweights = [1, 1]\nutility = [[0, 1, 0], [0, 2, 0]]\n[[agent]]\nname = \"two\"\ntypes = [\"v1\", \"v2\"]\nweights = [1, 1]\nutility = [[0, 0, 1], [0, 0, 2]]\n";
 
+// What the second agent gets at the outcome "yes" depends on the type of the first.
+pub(crate) const INTERDEPENDENT: &str =
+    "format = \"mechanism-setting\"\nversion = 2\nkind = \"general\"\ntruth = \"dominant\"\nrational = \"ex-post\"\npayments = false\noutcomes = [\"no\", \"yes\"]\n[objective]\nwelfare = 1\n[[agent]]\nname = \"first\"\ntypes = [\"good\", \"bad\"]\nweights = [1, 1]\nutility = [[0, 0], [0, 0]]\n[[agent]]\nname = \"second\"\ntypes = [\"s\"]\nweights = [1]\nutility_at = [[0, 1], [0, -1]]\n";
+
+// The same setting, where agents take part by what they expect.
+pub(crate) const INTERDEPENDENT_INTERIM: &str =
+    "format = \"mechanism-setting\"\nversion = 2\nkind = \"general\"\ntruth = \"dominant\"\nrational = \"interim\"\npayments = false\noutcomes = [\"no\", \"yes\"]\n[objective]\nwelfare = 1\n[[agent]]\nname = \"first\"\ntypes = [\"good\", \"bad\"]\nweights = [1, 1]\nutility = [[0, 0], [0, 0]]\n[[agent]]\nname = \"second\"\ntypes = [\"s\"]\nweights = [1]\nutility_at = [[0, 1], [0, -1]]\n";
+
+// The same text with the first version, which has no such utilities.
+pub(crate) const INTERDEPENDENT_FIRST_VERSION: &str =
+    "format = \"mechanism-setting\"\nversion = 1\nkind = \"general\"\ntruth = \"dominant\"\nrational = \"ex-post\"\npayments = false\noutcomes = [\"no\", \"yes\"]\n[objective]\nwelfare = 1\n[[agent]]\nname = \"first\"\ntypes = [\"good\", \"bad\"]\nweights = [1, 1]\nutility = [[0, 0], [0, 0]]\n[[agent]]\nname = \"second\"\ntypes = [\"s\"]\nweights = [1]\nutility_at = [[0, 1], [0, -1]]\n";
+
+// The same text with the first version, and with utilities by type beside.
+pub(crate) const INTERDEPENDENT_BESIDE_UTILITY: &str =
+    "format = \"mechanism-setting\"\nversion = 1\nkind = \"general\"\ntruth = \"dominant\"\nrational = \"ex-post\"\npayments = false\noutcomes = [\"no\", \"yes\"]\n[objective]\nwelfare = 1\n[[agent]]\nname = \"first\"\ntypes = [\"good\", \"bad\"]\nweights = [1, 1]\nutility = [[0, 0], [0, 0]]\n[[agent]]\nname = \"second\"\ntypes = [\"s\"]\nweights = [1]\nutility_at = [[0, 1], [0, -1]]\nutility = [[0, 0]]\n";
+
 /// The setting of the seller and the buyer up to the buyer's high value, with which it ends.
 pub(crate) const POSTED_PRICE_FRONT: &str =
     "format = \"mechanism-setting\"\nversion = 1\nkind = \"general\"\ntruth = \"dominant\"\nrational = \"ex-post\"\npayments = true\noutcomes = [\"keep\", \"sell\"]\n[objective]\nrevenue = 1\n[[agent]]\nname = \"buyer\"\ntypes = [\"low\", \"high\"]\nweights = [1, 1]\nutility = [[0, 1], [0, ";

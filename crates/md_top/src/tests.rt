@@ -1,7 +1,9 @@
 //! The commands over files in memory.
 use crate::mechdes;
 use crate::test_settings::{
-    CORRELATED, ONE_TYPE, OUT_OF_REACH, PAYING, POSTED_PRICE, TAKING, TWO_OUTCOMES, VOTE,
+    CORRELATED, INTERDEPENDENT, INTERDEPENDENT_BESIDE_UTILITY, INTERDEPENDENT_FIRST_VERSION,
+    INTERDEPENDENT_INTERIM, ONE_TYPE, OUT_OF_REACH, PAYING, POSTED_PRICE, TAKING, TWO_OUTCOMES,
+    VOTE,
 };
 use md_ports::{CleanShelf, CleanSink, MemShelf, MemSink};
 use std::alloc::{AllocError, Global};
@@ -10,7 +12,7 @@ use std::test::Fail;
 const ONE_TYPE_TABLE: &str = "answer,1,general,table\ntable,1\nlottery,t,1\nend\n";
 
 // A setting file, an answer file, the status, what is printed and what is said on the other stream.
-static CASES: [(&str, &str, u8, &str, &str); 23] = [
+static CASES: [(&str, &str, u8, &str, &str); 27] = [
     (ONE_TYPE, ONE_TYPE_TABLE, 0, "admissible\n", ""),
     (
         VOTE,
@@ -39,6 +41,34 @@ static CASES: [(&str, &str, u8, &str, &str); 23] = [
         20,
         "broken,truth/one/v1/v2,0,1\n",
         "",
+    ),
+    (
+        INTERDEPENDENT,
+        "answer,1,general,table\ntable,1\nlottery,good,s,0,1\nlottery,bad,s,0,1\nend\n",
+        20,
+        "broken,rational/second/bad+s,-1,0\n",
+        "",
+    ),
+    (
+        INTERDEPENDENT_INTERIM,
+        "answer,1,general,table\ntable,1\nlottery,good,s,0,1\nlottery,bad,s,0,1\nend\n",
+        0,
+        "admissible\n",
+        "",
+    ),
+    (
+        INTERDEPENDENT_FIRST_VERSION,
+        "",
+        65,
+        "",
+        "mechdes: setting refused: missing agent.utility\n",
+    ),
+    (
+        INTERDEPENDENT_BESIDE_UTILITY,
+        "",
+        65,
+        "",
+        "mechdes: setting refused: unknown key\n",
     ),
     ("", "", 65, "", "mechdes: setting refused: missing format\n"),
     ("format", "", 65, "", "mechdes: setting refused: not toml\n"),

@@ -3,18 +3,18 @@ use Rattle.std.specs.Prelude.{◌==◌}
 use Rattle.md_math.proofs.Bits.{read_result}
 use Rattle.md_space.specs.Profiles.{profile_at, replaced}
 use Rattle.md_setting.specs.Meaning.{sizes_of}
-use Rattle.md_mech.specs.Utility.{utility_as, expected_utility}
+use Rattle.md_mech.specs.Utility.{expected_utility}
 use Rattle.md_mech.proofs.averages.term_at.Goals as goal
 
 pub product-requires : goal.product-requires
 product-requires c =
-    let sizes : unsigned_abs c.weight_at.result * unsigned_abs c.utility-told.result ≤ 1000000 * 2 ^ 90 = mul-le-mul c.weight_at.ensures.size.within c.utility-told.ensures.size.within in
-    rw (read_result c.weight_at.result c.weight_at.type_inv, read_result c.utility-told.result c.utility-told.type_inv) (omega arith)
+    let sizes : unsigned_abs c.weight.result * unsigned_abs c.utility-told.result ≤ 1000000 * 2 ^ 90 = mul-le-mul c.weight.ensures.size.within c.utility-told.ensures.size.within in
+    rw (read_result c.weight.result c.weight.type_inv, read_result c.utility-told.result c.utility-told.type_inv) (omega arith)
 
 pub returns-clause-size : goal.returns-clause-size
 returns-clause-size c =
-    let sizes : unsigned_abs c.weight_at.result * unsigned_abs c.utility-told.result ≤ 1000000 * 2 ^ 90 = mul-le-mul c.weight_at.ensures.size.within c.utility-told.ensures.size.within in
-    let product = rw (read_result c.weight_at.result c.weight_at.type_inv, read_result c.utility-told.result c.utility-told.type_inv) at c.product.ensures.size in
+    let sizes : unsigned_abs c.weight.result * unsigned_abs c.utility-told.result ≤ 1000000 * 2 ^ 90 = mul-le-mul c.weight.ensures.size.within c.utility-told.ensures.size.within in
+    let product = rw (read_result c.weight.result c.weight.type_inv, read_result c.utility-told.result c.utility-told.type_inv) at c.product.ensures.size in
     rw (read_result c.product.result c.product.type_inv) (record { within = omega (arith, product, sizes) })
 
 pub returns-clause-value : goal.returns-clause-value
@@ -29,7 +29,7 @@ returns-clause-value c =
     let lie : profile_at (sizes_of s) c.replace.result ≡ replaced t i c.args.report =
     ap (λ sizes. profile_at sizes c.replace.result) (sym c.space-2.ensures.sizes) ∙ c.replace.ensures.profile ∙ ap (λ sizes. replaced (profile_at sizes c.args.rank) i c.args.report) c.space-2.ensures.sizes in
     let told : c.utility-told.result ≡ expected_utility s m i t (replaced t i c.args.report) =
-    c.utility-told.ensures.value ∙ ap (λ a. utility_as s m i a (profile_at (sizes_of s) c.replace.result)) kind ∙ ap (utility_as s m i (slice_index t i)) lie in
-    let product : c.product.result ≡ c.weight_at.result *ℤ c.utility-told.result =
-    rw (read_result c.weight_at.result c.weight_at.type_inv, read_result c.utility-told.result c.utility-told.type_inv) at c.product.ensures.value in
-    rw (read_result c.product.result c.product.type_inv, here) (rw (product, c.weight_at.ensures.value, told) refl)
+    c.utility-told.ensures.value ∙ ap (expected_utility s m i t) lie in
+    let product : c.product.result ≡ c.weight.result *ℤ c.utility-told.result =
+    rw (read_result c.weight.result c.weight.type_inv, read_result c.utility-told.result c.utility-told.type_inv) at c.product.ensures.value in
+    rw (read_result c.product.result c.product.type_inv, here) (rw (product, c.weight.ensures.value, told) refl)

@@ -16,15 +16,15 @@ add_product-sum-requires c =
     let before : IsWithin (2 ^ 90) (to_z w128 c.loop-outcome.sum-bits) =
     subst (IsWithin (2 ^ 90)) (sym c.loop-outcome.invariant)
     (lottery-within s c.args.mechanism.now c.args.rank c.loop-outcome.outcome c.requires.accepted c.outcomes-outcome-end.ensures.shaped c.requires.rank_in fits) in
-    rw (read_result c.chance.result c.chance.type_inv, read_result c.outcome_value.result c.outcome_value.type_inv)
-    (step_fits (to_z w128 c.loop-outcome.sum-bits) c.chance.result c.outcome_value.result (2 ^ 90) (2 ^ 62) 10000000 before c.chance.ensures.size c.outcome_value.ensures.size (lit< tt))
+    rw (read_result c.chance.result c.chance.type_inv, read_result c.value.result c.value.type_inv)
+    (step_fits (to_z w128 c.loop-outcome.sum-bits) c.chance.result c.value.result (2 ^ 90) (2 ^ 62) 10000000 before c.chance.ensures.size c.value.ensures.size (lit< tt))
 
 pub loop-outcome-preserved : goal.loop-outcome-preserved
 loop-outcome-preserved c =
     let s = c.args.setting.now in
     let t = profile_at (sizes_of s) c.args.rank in
     read_result c.add_product-sum.result c.add_product-sum.type_inv
-    ∙ (rw (read_result c.chance.result c.chance.type_inv, read_result c.outcome_value.result c.outcome_value.type_inv, c.loop-outcome.invariant, c.chance.ensures.value, c.outcome_value.ensures.value) at c.add_product-sum.ensures.value)
+    ∙ (rw (read_result c.chance.result c.chance.type_inv, read_result c.value.result c.value.type_inv, c.loop-outcome.invariant, c.chance.ensures.value, c.value.ensures.value) at c.add_product-sum.ensures.value)
     ∙ sym (sum_to-more c.loop-outcome.outcome (λ o. chance_of s c.args.mechanism.now t o *ℤ value_of s t o))
 
 pub returns-clause-size : goal.returns-clause-size

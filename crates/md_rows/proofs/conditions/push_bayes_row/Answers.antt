@@ -5,7 +5,7 @@ use Rattle.md_space.specs.Profiles.{profile_at}
 use Rattle.md_setting.specs.Meaning.{sizes_of}
 use Rattle.md_mech.specs.Rows.{bayes_row}
 use Rattle.md_rows.specs.Built.{Extends}
-use Rattle.md_rows.specs.Sides.{utility_in}
+use Rattle.md_rows.specs.Sides.{utility_in, utility_as}
 use Rattle.md_rows.specs.Terms.{sum_at}
 use Rattle.md_rows.proofs.RowForms.{on_ok}
 use Rattle.md_rows.proofs.ShareLaws.{bayes-sum}
@@ -23,8 +23,8 @@ returns c =
       left_is = λ x.
           ap (sum_at x) c.deref-2.ensures.value
           ∙ c.in_ok-terms.ensures.sum x
-          ∙ ap (sum_at (λ r. utility_in s x c.args.agent c.args.kind (profile_at (sizes_of s) r))) c.deref.ensures.value
-          ∙ c.in_ok-shares.ensures.sum (λ r. utility_in s x c.args.agent c.args.kind (profile_at (sizes_of s) r))
-          ∙ bayes-sum s c.args.agent c.args.kind c.args.report (λ t a. utility_in s x c.args.agent a t) inside c.requires.kind_in c.requires.report_in (λ e. apart (sym e));
+          ∙ ap (sum_at (λ r. utility_as s x c.args.agent c.args.kind (profile_at (sizes_of s) r))) c.deref.ensures.value
+          ∙ c.in_ok-shares.ensures.sum (λ r. utility_as s x c.args.agent c.args.kind (profile_at (sizes_of s) r))
+          ∙ bayes-sum s c.args.agent c.args.kind c.args.report (utility_in s x c.args.agent) inside c.requires.kind_in c.requires.report_in (λ e. apart (sym e));
       right_is = refl;
     })) c.push_row.ensures)

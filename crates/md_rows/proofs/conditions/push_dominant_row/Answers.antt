@@ -4,7 +4,7 @@ use Rattle.md_space.specs.Profiles.{profile_at}
 use Rattle.md_setting.specs.Meaning.{sizes_of}
 use Rattle.md_mech.specs.Rows.{dominant_row}
 use Rattle.md_rows.specs.Built.{Extends}
-use Rattle.md_rows.specs.Sides.{utility_in}
+use Rattle.md_rows.specs.Sides.{utility_as}
 use Rattle.md_rows.specs.Terms.{sum_at}
 use Rattle.md_rows.proofs.BuiltLaws.{extends-none}
 use Rattle.md_rows.proofs.RowForms.{on_ok, dominant-left}
@@ -30,8 +30,8 @@ returns c =
       left_is = λ x.
           ap (sum_at x) c.deref-2.ensures.value
           ∙ c.in_ok-terms.ensures.sum x
-          ∙ ap (sum_at (λ r. utility_in s x c.args.agent c.report-kind.result (profile_at (sizes_of s) r))) c.deref.ensures.value
-          ∙ c.in_ok-shares.ensures.sum (λ r. utility_in s x c.args.agent c.report-kind.result (profile_at (sizes_of s) r))
+          ∙ ap (sum_at (λ r. utility_as s x c.args.agent c.report-kind.result (profile_at (sizes_of s) r))) c.deref.ensures.value
+          ∙ c.in_ok-shares.ensures.sum (λ r. utility_as s x c.args.agent c.report-kind.result (profile_at (sizes_of s) r))
           ∙ dominant-left s x c.args.agent c.args.rank c.args.report c.report-kind.result c.requires.rank_in c.requires.report_in kind;
       right_is = refl;
     })) c.push_row.ensures)

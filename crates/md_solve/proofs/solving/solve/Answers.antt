@@ -2,7 +2,7 @@ use Rattle.std.proofs.Common.{◌≡◌, arith}
 use Rattle.std.proofs.lemmas.Int.{ints}
 use Rattle.std.proofs.Common.{pos, ◌≤ℤ◌}
 use Rattle.md_setting.specs.Meaning.{total_of}
-use Rattle.md_mech.proofs.WorthLaws.{total-positive}
+use Rattle.md_setting.proofs.MarginalLaws.{total-positive}
 use Rattle.md_rows.proofs.RowForms.{if_ok}
 use Rattle.md_rows.proofs.OneProgram.{same_program}
 use Rattle.md_solve.specs.Certifies.{IsCertifiedAnswer}

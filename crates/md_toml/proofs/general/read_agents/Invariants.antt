@@ -7,5 +7,5 @@ use Rattle.md_toml.proofs.general.read_agents.Given as goal
 
 abbrev pub invariant-loop-members : goal.invariant-loop-members
 invariant-loop-members l =
-    after (map written_agent l.agents.items) (each_agent (option_map (λ weights. weights.items) l.prior) (members_of_all (drop l.members-index l.tables)))
-    ≡ each_agent (option_map (λ weights. weights.items) l.prior) (members_of_all l.tables)
+    after (map written_agent l.agents.items) (each_agent l.version (option_map (λ weights. weights.items) l.prior) (members_of_all (drop l.members-index l.tables)))
+    ≡ each_agent l.version (option_map (λ weights. weights.items) l.prior) (members_of_all l.tables)

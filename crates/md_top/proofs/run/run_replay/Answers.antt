@@ -2,7 +2,8 @@ use Rattle.std.proofs.Common.{◌∙◌, refl, subst, inr}
 use Rattle.md_ports.specs.Faults.{Rose}
 use Rattle.md_top.specs.Replaying.{IsReplayStatus}
 use Rattle.md_top.specs.Reply.{IsReplaySaying}
-use Rattle.md_top.proofs.Outcomes.{outcome-from_work, own_replay}
+use Rattle.md_top.specs.declared.refusal.Refusal.TheVariants.{ReadFault}
+use Rattle.md_top.proofs.Outcomes.{outcome-from_work, own_replay, read-not_refused}
 use Rattle.md_top.proofs.run.run_replay.Goals as goal
 
 pub returns-clause-outcome : goal.returns-clause-outcome
@@ -15,8 +16,8 @@ returns-clause-outcome g c =
 pub returns-clause-fault : goal.returns-clause-fault
 returns-clause-fault g c = λ failed.
     inr (subst (λ before. Rose before (g.F.Shelf.faults c.replay_file.new.shelf c.args.pivots.now))
-    (c.in_ok-setting.ensures.quiet c.args.pivots.now (λ e. cc)) (c.replay_file.ensures.fault failed))
+    (c.in_ok-setting.ensures.quiet c.args.pivots.now (read-not_refused c.in_ok-setting.setting ReadFault)) (c.replay_file.ensures.fault failed))
 
 pub returns-clause-quiet : goal.returns-clause-quiet
 returns-clause-quiet g c = λ n fine.
-    c.replay_file.ensures.quiet n fine ∙ c.in_ok-setting.ensures.quiet n (λ e. cc)
+    c.replay_file.ensures.quiet n fine ∙ c.in_ok-setting.ensures.quiet n (read-not_refused c.in_ok-setting.setting ReadFault)

@@ -22,7 +22,8 @@ invariant_of-result c =
       accepted = none (written c.args.raw) c.in_ok-totals.ensures.ok;
       shaped = shaped;
       sizes_are = c.in_ok-space.ensures.ok;
-      weights_are = c.in-Ok.ensures;
+      numbered = c.in-Ok.ensures;
+      weights_are = c.in-Ok-weights_by_rank.ensures;
       total_is = read_short_within 1000000 c.in_ok-totals.totals.total small (lit< tt) ∙ c.in_ok-totals.ensures.total;
       rows_are = c.in_ok-totals.ensures.rows;
     }

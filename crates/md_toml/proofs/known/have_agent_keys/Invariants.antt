@@ -1,0 +1,10 @@
+use Rattle.std.proofs.Common.{◌≡◌, drop}
+use Rattle.std.specs.List.{list_all}
+use Rattle.md_toml.specs.Known.{has_agent_keys}
+use Rattle.md_toml.specs.Values.{members_of_all}
+use Rattle.md_toml.proofs.known.have_agent_keys.Given as goal
+
+-- what is left decides
+abbrev pub invariant-loop-table : goal.invariant-loop-table
+invariant-loop-table l =
+    list_all (has_agent_keys l.version l.has_prior) (members_of_all (drop l.table-index l.tables)) ≡ list_all (has_agent_keys l.version l.has_prior) (members_of_all l.tables)
