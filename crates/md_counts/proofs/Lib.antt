@@ -1,0 +1,11 @@
+pub mod ListLaws
+pub mod RankLaws
+pub mod Agreement
+pub mod Multinomial
+pub mod WeightLaws
+pub mod WaysLaws
+pub mod Walks
+pub mod KeptLaws
+pub mod ListsOfValues
+pub mod Symmetry
+pub mod Regrouping
