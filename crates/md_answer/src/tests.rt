@@ -1,120 +1,44 @@
 //! Answers read and written, and answers that are refused. The texts come from outside.
 use super::*;
 use md_lp::Pivot;
-use md_setting::{Rational, RawAgent, RawSetting, Setting, Truth};
+use md_samples::{SampleAgent, Utility, choice, sale, setting, unbounded, unmet};
+use md_setting::{Rational, RawSetting, Setting};
 use std::alloc::{AllocError, Global};
 use std::test::Fail;
 
-fn names(alloc: Global, texts: &[&str]) -> Result<Vec<String>, AllocError> {
-    let mut names = Vec::new(alloc);
-    for text in texts {
-        names.push(String::from_str(alloc, text)?)?;
+fn voter(name: &str) -> SampleAgent<'_> {
+    SampleAgent {
+        name,
+        types: &["l", "r"],
+        weights: &[1, 1],
+        outside: &[0, 0],
+        utility: Utility::ByType(&[&[1, 0], &[0, 1]]),
     }
-    Ok(names)
-}
-
-// A seller, and a buyer whose value is 1 or 3.
-fn buyer(alloc: Global) -> Result<RawSetting, AllocError> {
-    let agent = RawAgent {
-        name: String::from_str(alloc, "buyer")?,
-        types: names(alloc, &["low", "high"])?,
-        weights: vec![in alloc; 1, 1]?,
-        outside: vec![in alloc; 0, 0]?,
-        utility: vec![in alloc; vec![in alloc; 0, 1]?, vec![in alloc; 0, 3]?]?,
-        at: None,
-    };
-    Ok(RawSetting {
-        agents: vec![in alloc; agent]?,
-        outcomes: names(alloc, &["keep", "sell"])?,
-        prior: None,
-        values: vec![in alloc; 0, 0]?,
-        welfare: 0,
-        revenue: 1,
-        truth: Truth::Dominant,
-        rational: Rational::ExPost,
-        payments: true,
-        no_deficit: false,
-    })
-}
-
-fn voter(alloc: Global, name: &str) -> Result<RawAgent, AllocError> {
-    Ok(RawAgent {
-        name: String::from_str(alloc, name)?,
-        types: names(alloc, &["l", "r"])?,
-        weights: vec![in alloc; 1, 1]?,
-        outside: vec![in alloc; 0, 0]?,
-        utility: vec![in alloc; vec![in alloc; 1, 0]?, vec![in alloc; 0, 1]?]?,
-        at: None,
-    })
 }
 
 // Two voters who choose between two outcomes.
 fn vote(alloc: Global) -> Result<RawSetting, AllocError> {
-    Ok(RawSetting {
-        agents: vec![in alloc; voter(alloc, "first")?, voter(alloc, "second")?]?,
-        outcomes: names(alloc, &["a", "b"])?,
-        prior: None,
-        values: vec![in alloc; 0, 0]?,
-        welfare: 1,
-        revenue: 0,
-        truth: Truth::Dominant,
-        rational: Rational::None,
-        payments: false,
-        no_deficit: false,
-    })
+    let voters = [voter("first"), voter("second")];
+    let mut raw = setting(alloc, &voters, &["a", "b"], &[0, 0])?;
+    raw.welfare = 1;
+    raw.revenue = 0;
+    raw.rational = Rational::None;
+    raw.payments = false;
+    Ok(raw)
 }
 
-// One agent of one type, and one outcome.
-fn lone(
-    alloc: Global,
-    rational: Rational,
-    payments: bool,
-    no_deficit: bool,
-) -> Result<RawSetting, AllocError> {
-    let agent = RawAgent {
-        name: String::from_str(alloc, "a")?,
-        types: names(alloc, &["t"])?,
-        weights: vec![in alloc; 1]?,
-        outside: vec![in alloc; 1]?,
-        utility: vec![in alloc; vec![in alloc; 0]?]?,
-        at: None,
-    };
-    Ok(RawSetting {
-        agents: vec![in alloc; agent]?,
-        outcomes: names(alloc, &["only"])?,
-        prior: None,
-        values: vec![in alloc; 0]?,
-        welfare: 0,
-        revenue: 1,
-        truth: Truth::Dominant,
-        rational,
-        payments,
-        no_deficit,
-    })
+// One agent of one type, who pays and cannot leave, and one outcome; a deficit is not allowed.
+fn without_deficit(alloc: Global) -> Result<RawSetting, AllocError> {
+    let mut raw = unbounded(alloc)?;
+    raw.no_deficit = true;
+    Ok(raw)
 }
 
-// One agent of one type, and two outcomes.
-fn choice(alloc: Global) -> Result<RawSetting, AllocError> {
-    let agent = RawAgent {
-        name: String::from_str(alloc, "a")?,
-        types: names(alloc, &["t"])?,
-        weights: vec![in alloc; 1]?,
-        outside: vec![in alloc; 1]?,
-        utility: vec![in alloc; vec![in alloc; 1, 0]?]?,
-        at: None,
-    };
-    Ok(RawSetting {
-        agents: vec![in alloc; agent]?,
-        outcomes: names(alloc, &["x", "y"])?,
-        prior: None,
-        values: vec![in alloc; 0, 5]?,
-        welfare: 0,
-        revenue: 0,
-        truth: Truth::Dominant,
-        rational: Rational::ExPost,
-        payments: false,
-        no_deficit: false,
-    })
+// One agent of one type, who does not pay and cannot leave, and one outcome.
+fn lone(alloc: Global) -> Result<RawSetting, AllocError> {
+    let mut raw = unbounded(alloc)?;
+    raw.payments = false;
+    Ok(raw)
 }
 
 fn built(alloc: Global, raw: RawSetting) -> Result<Setting, Fail> {
@@ -139,11 +63,11 @@ const CHOICE: usize = 5;
 // The settings of the tests, in the order of their numbers.
 fn settings(alloc: Global) -> Result<Vec<Setting>, Fail> {
     let mut settings = Vec::new(alloc);
-    settings.push(built(alloc, buyer(alloc)?)?)?;
+    settings.push(built(alloc, sale(alloc, 3, 1)?)?)?;
     settings.push(built(alloc, vote(alloc)?)?)?;
-    settings.push(built(alloc, lone(alloc, Rational::ExPost, false, false)?)?)?;
-    settings.push(built(alloc, lone(alloc, Rational::None, true, false)?)?)?;
-    settings.push(built(alloc, lone(alloc, Rational::None, true, true)?)?)?;
+    settings.push(built(alloc, unmet(alloc)?)?)?;
+    settings.push(built(alloc, unbounded(alloc)?)?)?;
+    settings.push(built(alloc, without_deficit(alloc)?)?)?;
     settings.push(built(alloc, choice(alloc)?)?)?;
     Ok(settings)
 }
@@ -507,7 +431,7 @@ static LISTED: [(&str, [Pivot; 2]); 2] = [
 #[test]
 fn reads_the_pivots_of_a_file(rt: HostRuntime) -> Result<(), Fail> {
     let alloc = rt.alloc();
-    let setting = built(alloc, lone(alloc, Rational::None, false, false)?)?;
+    let setting = built(alloc, lone(alloc)?)?;
     for (text, wanted) in &LISTED {
         let pivots = read_pivots(alloc, text.as_bytes(), &setting)?;
         assert!(rt; pivots.path.as_slice() == wanted.as_slice(), "at {text}");
@@ -541,7 +465,7 @@ static PIVOTS_REFUSED: [(&str, AnswerRefusal); 16] = [
 #[test]
 fn tells_the_first_reason_to_refuse_pivots(rt: HostRuntime) -> Result<(), Fail> {
     let alloc = rt.alloc();
-    let setting = built(alloc, lone(alloc, Rational::None, false, false)?)?;
+    let setting = built(alloc, lone(alloc)?)?;
     for (text, refusal) in &PIVOTS_REFUSED {
         assert!(rt;
             read_pivots(alloc, text.as_bytes(), &setting).err() == Some(*refusal),

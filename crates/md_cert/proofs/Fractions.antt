@@ -1,5 +1,8 @@
 -- Fractions in least terms are the same exactly where their cross products are.
-use Rattle.std.proofs.Common.{◌≡◌, ℤ, pos, ◌*ℤ◌, ◌<ℤ◌, sym, ap, ◌∙◌}
+use Rattle.std.proofs.Common.{◌≡◌, ℤ, pos, ◌*ℤ◌, ◌<ℤ◌, Bool, true, false, ◌&&◌, not, refl, sym, ap, ◌∙◌}
+use mathlib.Core.Bool.{false≢true}
+use Rattle.std.specs.Ordering.{int_eq}
+use Rattle.std.proofs.lemmas.Bool.Decides.{Decides-int_eq}
 use lib.IntN.{*ℤ_comm}
 use Rattle.md_math.proofs.Ring.{ring, *ℤ_left_comm}
 use Rattle.md_math.proofs.Order.{*ℤ_cancel, positive-*ℤ}
@@ -44,3 +47,23 @@ same_fraction m over c den b f p q h k e = same_from_IsLeastTerms b.num b.den f.
 
     cross : b.num *ℤ f.den ≡ f.num *ℤ b.den
     cross = *ℤ_cancel (over *ℤ den) (b.num *ℤ f.den) (f.num *ℤ b.den) (positive-*ℤ over den p q) (left ∙ ap (λ z. (b.den *ℤ f.den) *ℤ z) e ∙ sym right)
+
+-- ---- the test
+
+both : (a b : Bool) → (a && b) ≡ true → (a ≡ true) × (b ≡ true)
+both true true e = (refl, refl)
+both true false e = absurd (false≢true e)
+both false b e = absurd (false≢true e)
+
+-- fractions are the same exactly where their numbers are
+pub same-numbers : (b f : Frac) → (int_eq b.num f.num && int_eq b.den f.den) ≡ true → (b.num ≡ f.num) × (b.den ≡ f.den)
+same-numbers b f e =
+    let h = both (int_eq b.num f.num) (int_eq b.den f.den) e in
+    ((Decides-int_eq b.num f.num).0 h.0, (Decides-int_eq b.den f.den).0 h.1)
+
+pub numbers-same : (b f : Frac) → (b.num ≡ f.num) × (b.den ≡ f.den) → (int_eq b.num f.num && int_eq b.den f.den) ≡ true
+numbers-same b f e = rw ((Decides-int_eq b.num f.num).1 e.0, (Decides-int_eq b.den f.den).1 e.1) refl
+
+pub not-other : (b : Bool) → not b ≡ false → b ≡ true
+not-other true e = refl
+not-other false e = absurd (false≢true (sym e))

@@ -153,17 +153,10 @@ fn right_fault(lp: &Lp, den: i128, point: &Nums, bound: &Bound) -> Option<CertFa
     }
     let limit = Frac::reduced(lp.right_sum(&bound.main), bound.den);
     let cost = Frac::reduced(lp.cost_sum(point), den);
-    if !is_same(&limit, &cost) {
+    if limit != cost {
         return Some(CertFault::MainRight { bound: limit, cost });
     }
     None
-}
-
-// Whether two fractions have the same numbers.
-fn is_same(left: &Frac, right: &Frac) -> bool
-    ensures { IsTrue result ↔ ((left.now.num ≡ right.now.num) × (left.now.den ≡ right.now.den)) }
-{
-    left.num == right.num && left.den == right.den
 }
 
 // The first condition of multipliers that leave no point that fails.

@@ -21,15 +21,6 @@ pub const FEW_COLUMNS: usize = 2048;
 // How many columns a program has at most.
 pub const MOST_COLUMNS: usize = 65536;
 
-// Makes each sum 0.
-fn clear(sums: &mut [i128])
-    ensures { (k : ℕ) → k < length sums.new → number_at sums.new k ≡ pos 0 }
-{
-    for sum in sums.iter_mut() {
-        *sum = 0;
-    }
-}
-
 // The first row that the point breaks. Where there is none, the sums of all columns are left, with the face and with the main multipliers: each row is read for them while it is at hand.
 pub fn broken_or_summed(
     lp: &Lp,
@@ -49,8 +40,8 @@ pub fn broken_or_summed(
     ensures face_size { IfNone result (AllWithin (2 ^ 119) face_sums.new) }
     ensures main_size { IfNone result (AllWithin (2 ^ 119) main_sums.new) }
 {
-    clear(face_sums);
-    clear(main_sums);
+    face_sums.fill(0);
+    main_sums.fill(0);
     for row in 0..lp.rows() {
         if let Some(broken) = broken_at(lp, den, point, row) {
             return Some(broken);

@@ -23,11 +23,11 @@ use Rattle.md_cert.specs.Fitting.{FitsColumns, FitsRows, IsDenominator, Fits}
 use Rattle.md_rows.specs.ProgramOf.{IsProgramOf}
 use Rattle.md_rows.specs.Points.{payment_parts, point_of}
 use Rattle.md_rows.proofs.BuiltLaws.{rows-length}
-use Rattle.md_rows.proofs.CountLaws.{conditions-length}
+use Rattle.md_mech.proofs.CountLaws.{conditions-length}
 use Rattle.md_rows.proofs.PointLaws.{point-length, point-nonneg, point-within}
 use Rattle.md_claims.specs.Rays.{paying, ray_of}
 use Rattle.md_answer.specs.AnswerTo.{AreMultipliers, IsBoundFor, IsRayFor}
-use Rattle.md_check.specs.Certificates.{optimal_certificate, unbounded_certificate}
+use Rattle.md_claims.specs.Certificates.{optimal_certificate, unbounded_certificate}
 
 -- ---- multipliers
 

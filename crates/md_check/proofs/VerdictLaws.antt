@@ -10,6 +10,7 @@ use Rattle.md_mech.specs.declared.mechanism.Mechanism.{Mechanism}
 use Rattle.md_mech.specs.Mechanism.{IsMechanism}
 use Rattle.md_mech.specs.Admissible.{IsAdmissible}
 use Rattle.md_mech.specs.Optimal.{IsOptimal, IsInfeasible, Grows}
+use Rattle.md_mech.specs.Value.{HasValue}
 use Rattle.md_mech.proofs.RowLaws.{broken-not_admissible}
 use Rattle.md_lp.specs.Program.{Program, row_count}
 use Rattle.md_cert.specs.declared.bound.Bound.{Bound}
@@ -28,8 +29,8 @@ use Rattle.md_check.specs.declared.verdict.Reject.{Reject}
 use Rattle.md_check.specs.declared.verdict.Reject.TheVariants.{Audit, Value, Pair, Column, FaceRight, MainRight, RayRow, RayGain}
 use Rattle.md_check.specs.declared.verdict.Verdict.{Verdict}
 use Rattle.md_check.specs.declared.verdict.Verdict.TheVariants.{Valid, Undecided, Rejected}
-use Rattle.md_check.specs.Values.{HasValue}
-use Rattle.md_check.specs.Certificates.{optimal_certificate, unbounded_certificate, TellsFault, Judges, IsJudged}
+use Rattle.md_claims.specs.Certificates.{optimal_certificate, unbounded_certificate}
+use Rattle.md_check.specs.Certificates.{TellsFault, Judges, IsJudged}
 use Rattle.md_check.specs.Verdicts.{IsSound, IsSoundOptimal, IsSoundUnbounded, IsOptimalVerdict, IsUnboundedVerdict, IsVerdict, ClaimsNothing}
 use Rattle.md_check.proofs.SameVerdict.{judges-to}
 

@@ -1,32 +1,19 @@
--- What an answer's multipliers and rays say as a certificate of the setting's program, and how its faults are told.
-use Rattle.std.specs.Prelude.{ℤ, List}
+-- How the faults of a certificate of the setting's program are told.
 use Rattle.md_math.specs.Lists.{number_at}
 use Rattle.md_setting.specs.Setting.{GeneralSetting}
-use Rattle.md_mech.specs.declared.mechanism.Mechanism.{Mechanism}
 use Rattle.md_lp.specs.Program.{Program}
 use Rattle.md_lp.specs.Point.{Meets}
-use Rattle.md_cert.specs.declared.bound.Bound.{Bound}
 use Rattle.md_cert.specs.declared.certificate.Certificate.{Certificate}
 use Rattle.md_cert.specs.declared.certificate.Certificate.TheVariants as certificate
 use Rattle.md_cert.specs.declared.cert_fault.CertFault.{CertFault}
 use Rattle.md_cert.specs.declared.cert_fault.CertFault.TheVariants as fault
 use Rattle.md_cert.specs.Certified.{Certified}
 use Rattle.md_cert.specs.Fault.{IsFirstFault}
-use Rattle.md_rows.specs.Points.{point_of}
 use Rattle.md_rows.specs.ProgramOf.{IsProgramOf}
-use Rattle.md_claims.specs.Rays.{ray_of}
 use Rattle.md_check.specs.declared.verdict.Reject.{Reject}
 use Rattle.md_check.specs.declared.verdict.Reject.TheVariants.{Audit, Value, Pair, Column, FaceRight, MainRight, RayRow, RayGain}
 use Rattle.md_check.specs.declared.verdict.Verdict.{Verdict}
 use Rattle.md_check.specs.declared.verdict.Verdict.TheVariants.{Valid, Undecided, Rejected}
-
--- the point of the mechanism with these multipliers
-abbrev pub optimal_certificate : GeneralSetting → Mechanism → Bound → Certificate
-optimal_certificate s m bound = certificate.Optimal m.den (point_of s m) bound
-
--- the point of the mechanism with the ray of these payments
-abbrev pub unbounded_certificate : GeneralSetting → Mechanism → List ℤ → Certificate
-unbounded_certificate s m pays = certificate.Unbounded m.den (point_of s m) (ray_of s pays)
 
 -- the point of the certificate, if it has one, meets the program
 abbrev pub HasMetPoint : Program → Certificate → Type 0

@@ -17,6 +17,7 @@ use Rattle.md_setting.specs.Setting.{GeneralSetting}
 use Rattle.md_mech.specs.declared.mechanism.Mechanism.{Mechanism}
 use Rattle.md_mech.specs.Admissible.{IsAdmissible}
 use Rattle.md_mech.specs.Optimal.{IsOptimal, IsInfeasible, Grows}
+use Rattle.md_mech.specs.Value.{HasValue}
 use Rattle.md_mech.specs.Rows.{IsFirstBroken, rows_of}
 use Rattle.md_lp.specs.Program.{Program}
 use Rattle.md_cert.specs.declared.bound.Bound.{Bound}
@@ -27,8 +28,9 @@ use Rattle.md_answer.specs.declared.answer.Answer.TheVariants.{Table, Optimal, I
 use Rattle.md_check.specs.declared.verdict.Reject.TheVariants.{Audit, Value}
 use Rattle.md_check.specs.declared.verdict.Verdict.{Verdict}
 use Rattle.md_check.specs.declared.verdict.Verdict.TheVariants.{Undecided, Rejected}
-use Rattle.md_check.specs.Values.{HasValue, IsOtherValue}
-use Rattle.md_check.specs.Certificates.{optimal_certificate, unbounded_certificate, IsJudged}
+use Rattle.md_check.specs.Values.{IsOtherValue}
+use Rattle.md_claims.specs.Certificates.{optimal_certificate, unbounded_certificate}
+use Rattle.md_check.specs.Certificates.{IsJudged}
 
 -- ---- the verdict
 

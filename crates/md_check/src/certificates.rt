@@ -9,7 +9,7 @@ ghost use Rattle.md_cert.specs.declared.certificate.Certificate.{Certificate};
 ghost use Rattle.md_cert.specs.declared.certificate.Certificate.TheVariants.{Infeasible};
 ghost use Rattle.md_cert.specs.Fitting.{Fits};
 ghost use Rattle.md_claims.specs.Rays.{ray_of};
-ghost use Rattle.md_check.specs.Certificates.{optimal_certificate, unbounded_certificate};
+ghost use Rattle.md_claims.specs.Certificates.{optimal_certificate, unbounded_certificate};
 
 use crate::lists::{copy, copy_bound, without_first};
 use md_cert::{Bound, Certificate};

@@ -13,7 +13,8 @@ ghost use Rattle.md_answer.specs.declared.answer.Answer.TheVariants.{Optimal, In
 ghost use Rattle.md_answer.specs.AnswerTo.{IsAnswerTo, IsFraction, IsBoundFor, AreMultipliers, IsRayFor};
 ghost use Rattle.md_setting.specs.Rows.{row_count};
 ghost use Rattle.md_check.specs.declared.verdict.Verdict.TheVariants.{Valid, Undecided};
-ghost use Rattle.md_check.specs.Certificates.{optimal_certificate, unbounded_certificate, HasMetPoint, IsBehindPoint, TellsFault, Judges, IsJudged};
+ghost use Rattle.md_claims.specs.Certificates.{optimal_certificate, unbounded_certificate};
+ghost use Rattle.md_check.specs.Certificates.{HasMetPoint, IsBehindPoint, TellsFault, Judges, IsJudged};
 ghost use Rattle.md_check.specs.Verdicts.{IsVerdict, IsSound, ClaimsNothing, ClaimHolds};
 
 use crate::certificates::{infeasible_certificate, optimal_certificate, unbounded_certificate};

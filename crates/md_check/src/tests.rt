@@ -3,66 +3,11 @@ use super::*;
 use md_answer::read_answer;
 use md_mech::Broken;
 use md_num::Frac;
-use md_setting::{Rational, RawAgent, RawSetting, Setting, Truth};
-use std::alloc::{AllocError, Global};
+use md_samples::{sale, unbounded, unmet};
+use md_setting::{RawSetting, Setting};
+use std::alloc::Global;
 use std::process::Abort;
 use std::test::Fail;
-
-fn names(alloc: Global, texts: &[&str]) -> Result<Vec<String>, AllocError> {
-    let mut names = Vec::new(alloc);
-    for text in texts {
-        names.push(String::from_str(alloc, text)?)?;
-    }
-    Ok(names)
-}
-
-// A seller, and a buyer whose value is 1 or 3.
-fn sale(alloc: Global) -> Result<RawSetting, AllocError> {
-    let buyer = RawAgent {
-        name: String::from_str(alloc, "buyer")?,
-        types: names(alloc, &["low", "high"])?,
-        weights: vec![in alloc; 1, 1]?,
-        outside: vec![in alloc; 0, 0]?,
-        utility: vec![in alloc; vec![in alloc; 0, 1]?, vec![in alloc; 0, 3]?]?,
-        at: None,
-    };
-    Ok(RawSetting {
-        agents: vec![in alloc; buyer]?,
-        outcomes: names(alloc, &["keep", "sell"])?,
-        prior: None,
-        values: vec![in alloc; 0, 0]?,
-        welfare: 0,
-        revenue: 1,
-        truth: Truth::Dominant,
-        rational: Rational::ExPost,
-        payments: true,
-        no_deficit: false,
-    })
-}
-
-// One agent of one type, who has 1 outside, and one outcome.
-fn lone(alloc: Global, rational: Rational, payments: bool) -> Result<RawSetting, AllocError> {
-    let agent = RawAgent {
-        name: String::from_str(alloc, "a")?,
-        types: names(alloc, &["t"])?,
-        weights: vec![in alloc; 1]?,
-        outside: vec![in alloc; 1]?,
-        utility: vec![in alloc; vec![in alloc; 0]?]?,
-        at: None,
-    };
-    Ok(RawSetting {
-        agents: vec![in alloc; agent]?,
-        outcomes: names(alloc, &["only"])?,
-        prior: None,
-        values: vec![in alloc; 0]?,
-        welfare: 0,
-        revenue: 1,
-        truth: Truth::Dominant,
-        rational,
-        payments,
-        no_deficit: false,
-    })
-}
 
 // An answer as its text, and the verdict that is wanted.
 struct Case {
@@ -160,7 +105,7 @@ const PAID: [Case; 2] = [
 #[test]
 fn judges_answers(rt: HostRuntime) -> Result<(), Fail> {
     let alloc = rt.alloc();
-    judge(&rt, alloc, sale(alloc)?, &SALE)?;
-    judge(&rt, alloc, lone(alloc, Rational::ExPost, false)?, &LONE)?;
-    judge(&rt, alloc, lone(alloc, Rational::None, true)?, &PAID)
+    judge(&rt, alloc, sale(alloc, 3, 1)?, &SALE)?;
+    judge(&rt, alloc, unmet(alloc)?, &LONE)?;
+    judge(&rt, alloc, unbounded(alloc)?, &PAID)
 }

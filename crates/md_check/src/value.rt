@@ -4,7 +4,8 @@ ghost use Rattle.md_math.specs.Divisors.{IsLeastTerms};
 ghost use Rattle.md_mech.specs.Accepted.{IsAccepted};
 ghost use Rattle.md_setting.specs.Meaning.{total_of};
 ghost use Rattle.md_answer.specs.AnswerTo.{IsFraction};
-ghost use Rattle.md_check.specs.Values.{HasValue, IsOtherValue};
+ghost use Rattle.md_mech.specs.Value.{HasValue};
+ghost use Rattle.md_check.specs.Values.{IsOtherValue};
 
 use md_mech::{Mechanism, worth};
 use md_num::Frac;
@@ -32,12 +33,5 @@ fn is_same_number(fraction: &Frac, least: &Frac) -> bool
     requires least { IsLeastTerms least.now.num least.now.den }
     ensures { IsTrue result ↔ (least.now.num *ℤ fraction.now.den ≡ fraction.now.num *ℤ least.now.den) }
 {
-    is_same(&Frac::reduced(fraction.num, fraction.den), least)
-}
-
-// Whether two fractions have the same numbers.
-fn is_same(left: &Frac, right: &Frac) -> bool
-    ensures { IsTrue result ↔ ((left.now.num ≡ right.now.num) × (left.now.den ≡ right.now.den)) }
-{
-    left.num == right.num && left.den == right.den
+    Frac::reduced(fraction.num, fraction.den) == *least
 }

@@ -1,2 +1,3 @@
+pub mod AffineLaws
 pub mod RayLaws
 pub mod SettingClaims

@@ -1,13 +1,13 @@
 -- From what a certificate claims of a setting's program to what is so of the setting: over mechanisms of any denominator,
 -- with numbers of any size.
-use Rattle.std.proofs.Common.{◌≡◌, ℕ, ◌+◌, ◌*◌, ◌<◌, inl, inr, length, ℤ, pos, ◌+ℤ◌, ◌*ℤ◌, ◌≤ℤ◌, ◌<ℤ◌, List, ap, ◌∙◌, subst, arith}
+use Rattle.std.proofs.Common.{◌≡◌, ℕ, ◌+◌, ◌*◌, ◌<◌, inl, inr, length, ℤ, pos, ◌+ℤ◌, ◌*ℤ◌, ◌≤ℤ◌, ◌<ℤ◌, List, sym, ◌∙◌, subst, arith}
 use Rattle.std.proofs.lemmas.Bool.{cases_Bool}
 use Rattle.std.proofs.lemmas.Int.{ints}
 use lib.IntN.{*ℤ_comm}
 use Rattle.md_math.specs.Lists.{number_at}
 use Rattle.md_math.proofs.Order.{*ℤ-le}
 use Rattle.md_math.proofs.SumLaws.{dot-zero}
-use Rattle.md_math.proofs.Ring.{linear, *ℤ-+ℤ, *ℤ_left_comm, *ℤ-one}
+use Rattle.md_math.proofs.Ring.{linear, *ℤ-+ℤ, *ℤ-one, one-*ℤ, zero-*ℤ}
 use Rattle.md_setting.specs.Setting.{GeneralSetting}
 use Rattle.md_setting.specs.Rows.{column_count}
 use Rattle.md_setting.specs.Meaning.{outcome_count, sizes_of}
@@ -17,38 +17,48 @@ use Rattle.md_mech.specs.Mechanism.{IsMechanism}
 use Rattle.md_mech.specs.Admissible.{IsAdmissible}
 use Rattle.md_mech.specs.Optimal.{IsOptimal, IsInfeasible, Grows, raised, worth_of}
 use Rattle.md_lp.specs.Program.{Program, cost_at}
-use Rattle.md_lp.specs.Point.{cost_sum}
+use Rattle.md_lp.specs.Point.{Meets, cost_sum}
 use Rattle.md_lp.proofs.Dividing.{IsDivisorFor-positive}
 use Rattle.md_cert.specs.Claims.{IsOptimalPoint, HasNoPoint, GrowsAlong, along}
 use Rattle.md_cert.specs.Certified.{IsUnboundedCertified}
 use Rattle.md_cert.proofs.Duality.{unbounded-claim}
 use Rattle.md_rows.specs.Points.{mechanism_of, point_of}
-use Rattle.md_rows.specs.ProgramOf.{cost_of}
+use Rattle.md_rows.specs.ProgramOf.{cost_of, IsProgramOf}
+use Rattle.md_rows.proofs.Law.{admits-mechanisms, admits-points, costs-points, costs-mechanisms}
 use Rattle.md_rows.proofs.PointLaws.{mechanism-of_point}
 use Rattle.md_claims.specs.Laws.{IsProgramWithLaws}
 use Rattle.md_claims.specs.Rays.{pays_along, ray_of}
+use Rattle.md_claims.proofs.AffineLaws.{best-affine}
 use Rattle.md_claims.proofs.RayLaws.{mechanism-along, ray-at_chance, raised-same, pays-along_ray, ray-off}
 
+-- the program of a setting has the laws
+pub with_laws : (s : GeneralSetting) (p : Program) → IsProgramOf s p → IsProgramWithLaws s p
+with_laws s p is = record {
+  program = is;
+  admits_points = admits-points s p is;
+  admits_mechanisms = admits-mechanisms s p is;
+  costs_points = costs-points s p is;
+  costs_mechanisms = costs-mechanisms s p is;
+}
+
 factor-positive : (s : GeneralSetting) (p : Program) → IsProgramWithLaws s p → pos 0 <ℤ p.factor
-factor-positive s p is = IsDivisorFor-positive (column_count s) (cost_of s) p.factor is.program.cost.factor
+factor-positive s p is = IsDivisorFor-positive (column_count s) (cost_of s) p.factor is.program.has_cost.factor
 
 -- ---- a greatest point
 
--- fractions of costs are fractions of worths
-worths : (factor den e here there mine other : ℤ) → pos 0 <ℤ factor → factor *ℤ here ≡ mine → factor *ℤ there ≡ other → (den *ℤ there) ≤ℤ (e *ℤ here) → (other *ℤ den) ≤ℤ (mine *ℤ e)
-worths factor den e here there mine other above same_here same_there h =
-    let times : (factor *ℤ (den *ℤ there)) ≤ℤ (factor *ℤ (e *ℤ here)) = *ℤ-le factor (den *ℤ there) (e *ℤ here) (omega (arith, linear)) h in
-    let left : factor *ℤ (den *ℤ there) ≡ other *ℤ den = *ℤ_left_comm factor den there ∙ ap (λ z. den *ℤ z) same_there ∙ *ℤ_comm den other in
-    let right : factor *ℤ (e *ℤ here) ≡ mine *ℤ e = *ℤ_left_comm factor e here ∙ ap (λ z. e *ℤ z) same_here ∙ *ℤ_comm e mine in
-    omega (arith, linear)
+nothing-added : (m c : ℤ) → pos 0 *ℤ m +ℤ c ≡ c
+nothing-added m c = (let none : pos 0 *ℤ m ≡ pos 0 = zero-*ℤ m in omega (arith, linear))
 
 -- a mechanism that is worth what a greatest point costs
 best-by_point : (s : GeneralSetting) (p : Program) (m : Mechanism) (x : ℕ → ℤ) → IsProgramWithLaws s p → p.factor *ℤ cost_sum p x ≡ worth_of s m → IsOptimalPoint p m.den x
     → (other : Mechanism) → IsAdmissible s other → (worth_of s other *ℤ m.den) ≤ℤ (worth_of s m *ℤ other.den)
 best-by_point s p m x is same greatest other admissible =
-    worths p.factor m.den other.den (cost_sum p x) (cost_sum p (number_at (point_of s other))) (worth_of s m) (worth_of s other) (factor-positive s p is) same
-    (is.costs_points other admissible.mechanism)
-    (greatest.greatest other.den (number_at (point_of s other)) ((is.admits_points other admissible.mechanism).1 admissible))
+    best-affine p m.den x greatest (pos 0) p.factor (pos 1) (worth_of s m) (factor-positive s p is) (omega (arith, ints)) (sym same ∙ sym (nothing-added m.den (p.factor *ℤ cost_sum p x)))
+    other.den (number_at (point_of s other)) (worth_of s other)
+    (record {
+      meets = subst (λ d. Meets p d (number_at (point_of s other))) (sym (one-*ℤ other.den)) ((is.admits_points other admissible.mechanism).1 admissible);
+      costs = one-*ℤ (worth_of s other) ∙ sym (is.costs_points other admissible.mechanism) ∙ sym (nothing-added (pos 1 *ℤ other.den) (p.factor *ℤ cost_sum p (number_at (point_of s other))));
+    })
 
 -- the mechanism of a greatest point is optimal
 pub optimal : (s : GeneralSetting) (p : Program) (den : ℤ) (x : ℕ → ℤ) → IsProgramWithLaws s p → IsOptimalPoint p den x → IsOptimal s (mechanism_of s den x)
@@ -81,6 +91,16 @@ worth-along factor here there mine other k above same_here same_there h =
     let turn : pos k *ℤ factor ≡ factor *ℤ pos k = *ℤ_comm (pos k) factor in
     omega (arith, linear)
 
+-- a certified ray changes no chance
+pub no_chance : (s : GeneralSetting) (p : Program) (den : ℤ) (x ray : ℕ → ℤ) → IsProgramWithLaws s p → IsUnboundedCertified p den x ray
+    → (r o : ℕ) → r < profile_count (sizes_of s) → o < outcome_count s → ray (r * outcome_count s + o) ≡ pos 0
+no_chance s p den x ray is certified =
+    ray-at_chance s den x ray (is.admits_mechanisms den x certified.meets).mechanism (is.admits_mechanisms den (along x 1 ray) (claim.meets 1)).mechanism
+    (λ j below. certified.nonneg j (omega (arith, below, is.program.columns)))
+  where
+    claim : GrowsAlong p den x ray
+    claim = unbounded-claim p den x ray certified
+
 -- the mechanism of a point grows by the payments of the ray
 pub grows : (s : GeneralSetting) (p : Program) (den : ℤ) (x ray : ℕ → ℤ) → IsProgramWithLaws s p → IsUnboundedCertified p den x ray → Grows s (mechanism_of s den x) (pays_along s ray)
 grows s p den x ray is certified k = (subst (IsAdmissible s) same (admitted k), subst (λ m. (worth_of s (mechanism_of s den x) +ℤ pos k) ≤ℤ worth_of s m) same gains)
@@ -91,13 +111,8 @@ grows s p den x ray is certified k = (subst (IsAdmissible s) same (admitted k), 
     admitted : (j : ℕ) → IsAdmissible s (mechanism_of s den (along x j ray))
     admitted j = is.admits_mechanisms den (along x j ray) (claim.meets j)
 
-    none : (r o : ℕ) → r < profile_count (sizes_of s) → o < outcome_count s → ray (r * outcome_count s + o) ≡ pos 0
-    none =
-        ray-at_chance s den x ray (is.admits_mechanisms den x certified.meets).mechanism (admitted 1).mechanism
-        (λ j below. certified.nonneg j (omega (arith, below, is.program.columns)))
-
     same : mechanism_of s den (along x k ray) ≡ raised (mechanism_of s den x) k (pays_along s ray)
-    same = mechanism-along s den x ray k none
+    same = mechanism-along s den x ray k (no_chance s p den x ray is certified)
 
     gains : (worth_of s (mechanism_of s den x) +ℤ pos k) ≤ℤ worth_of s (mechanism_of s den (along x k ray))
     gains =

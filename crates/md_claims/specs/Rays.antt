@@ -1,17 +1,15 @@
 -- Rays of a setting's program, and payments that are added again and again.
 use Rattle.std.specs.Prelude.{ℕ, ◌*◌, ℤ, pos, List, [], ◌++◌}
-use Rattle.md_math.specs.Lists.{list_to, up_to}
-use Rattle.md_space.specs.Profiles.{profile_count, profile_at}
+use Rattle.md_math.specs.Lists.{list_to}
+use Rattle.md_space.specs.Profiles.{profile_count}
 use Rattle.md_setting.specs.Setting.{GeneralSetting}
-use Rattle.md_setting.specs.Meaning.{agent_count, outcome_count, sizes_of}
+use Rattle.md_setting.specs.Meaning.{outcome_count, sizes_of}
 use Rattle.md_mech.specs.declared.mechanism.Mechanism.{Mechanism}
-use Rattle.md_rows.specs.Columns.{payment_in}
-use Rattle.md_rows.specs.Points.{payment_parts}
+use Rattle.md_rows.specs.Points.{payments_in, payment_parts}
 
 -- the payments that a ray adds, by the rank of the profile, then by agent
 abbrev pub pays_along : GeneralSetting → (ℕ → ℤ) → List ℤ
-pays_along s ray =
-    up_to (profile_count (sizes_of s)) (λ r. list_to (agent_count s) (λ i. payment_in s ray i (profile_at (sizes_of s) r)))
+pays_along s ray = payments_in s ray
 
 -- no chances, and these payments
 abbrev pub paying : List ℤ → Mechanism

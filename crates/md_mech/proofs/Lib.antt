@@ -1,11 +1,12 @@
 pub mod RowLaws
 pub mod WholeLaws
 pub mod MadeLaws
-pub mod ScanLaws
+pub mod CountLaws
+pub mod AuditLaws
 pub mod UtilityLaws
 pub mod UtilitySizes
 pub mod AverageLaws
-pub mod PlaceLaws
+pub mod ConditionLaws
 pub mod NameLaws
 pub mod WorthLaws
 pub mod ByProfileLaws

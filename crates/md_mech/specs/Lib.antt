@@ -9,5 +9,6 @@ pub mod RowName
 pub mod Accepted
 pub mod ByProfiles
 pub mod Refusals
-pub mod Scanned
-pub mod Places
+pub mod Conditions
+pub mod Tried
+pub mod Value

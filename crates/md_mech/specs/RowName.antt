@@ -3,7 +3,7 @@ use Rattle.std.specs.Prelude.{ℕ, List, [], ◌∷◌, codes, slice_index, slic
 use Rattle.std.specs.List.{join_with_byte}
 use Rattle.md_setting.specs.Setting.{Agent, GeneralSetting}
 use Rattle.md_setting.specs.Meaning.{agent_at}
-use Rattle.md_mech.specs.Rows.{Row, dominant_row, bayes_row, ex_post_row, interim_row, deficit_row, profile_row}
+use Rattle.md_mech.specs.Rows.{Condition, dominant_row, bayes_row, ex_post_row, interim_row, deficit_row, profile_row}
 
 abbrev pub agent_name : GeneralSetting → ℕ → List ℕ
 agent_name s i = (agent_at s i).name
@@ -25,7 +25,7 @@ profile_name s t = join_with_byte 43 (type_names s.agents t)
 abbrev pub path : List (List ℕ) → List ℕ
 path words = join_with_byte 47 words
 
-abbrev pub name_of : GeneralSetting → Row → List ℕ
+abbrev pub name_of : GeneralSetting → Condition → List ℕ
 name_of s (dominant_row i t b) =
     path (codes "truth" ∷ agent_name s i ∷ type_name s i (slice_index t i) ∷ type_name s i b ∷ profile_name s t ∷ [])
 name_of s (bayes_row i a b) = path (codes "truth" ∷ agent_name s i ∷ type_name s i a ∷ type_name s i b ∷ [])

@@ -17,16 +17,16 @@ use Rattle.md_mech.specs.Utility.{expected_utility, weighted_given}
 
 -- one condition: of truth at an agent, a profile (or type) and a report, of rationality at an agent and a profile
 -- (or type), of no deficit at a profile, and that the chances of a profile add to the whole
-pub data Row : Type 0 where
-  dominant_row : ℕ → List ℕ → ℕ → Row
-  bayes_row : ℕ → ℕ → ℕ → Row
-  ex_post_row : ℕ → List ℕ → Row
-  interim_row : ℕ → ℕ → Row
-  deficit_row : List ℕ → Row
-  profile_row : List ℕ → Row
+pub data Condition : Type 0 where
+  dominant_row : ℕ → List ℕ → ℕ → Condition
+  bayes_row : ℕ → ℕ → ℕ → Condition
+  ex_post_row : ℕ → List ℕ → Condition
+  interim_row : ℕ → ℕ → Condition
+  deficit_row : List ℕ → Condition
+  profile_row : List ℕ → Condition
 
 -- the side that is to be at least the other one
-abbrev pub left_of : GeneralSetting → Mechanism → Row → ℤ
+abbrev pub left_of : GeneralSetting → Mechanism → Condition → ℤ
 left_of s m (dominant_row i t b) = expected_utility s m i t t
 left_of s m (bayes_row i a b) = weighted_given s i a (λ t. expected_utility s m i t t)
 left_of s m (ex_post_row i t) = expected_utility s m i t t
@@ -34,7 +34,7 @@ left_of s m (interim_row i a) = weighted_given s i a (λ t. expected_utility s m
 left_of s m (deficit_row t) = sum_to (agent_count s) (λ i. pay_of s m i t)
 left_of s m (profile_row t) = sum_to (outcome_count s) (chance_of s m t)
 
-abbrev pub right_of : GeneralSetting → Mechanism → Row → ℤ
+abbrev pub right_of : GeneralSetting → Mechanism → Condition → ℤ
 right_of s m (dominant_row i t b) = expected_utility s m i t (replaced t i b)
 right_of s m (bayes_row i a b) = weighted_given s i a (λ t. expected_utility s m i t (replaced t i b))
 right_of s m (ex_post_row i t) = m.den *ℤ outside_of s i (slice_index t i)
@@ -43,7 +43,7 @@ right_of s m (deficit_row t) = pos 0
 right_of s m (profile_row t) = m.den
 
 -- the condition holds
-abbrev pub IsKept : GeneralSetting → Mechanism → Row → Type 0
+abbrev pub IsKept : GeneralSetting → Mechanism → Condition → Type 0
 IsKept s m row = right_of s m row ≤ℤ left_of s m row
 
 -- the row of a report, where it is not the true type
@@ -67,61 +67,61 @@ abbrev pub by_type : {X : Type 0} → GeneralSetting → ℕ → (ℕ → List X
 by_type s i f = up_to (slice_index (sizes_of s) i) f
 
 -- that no report of an agent is better than its true type: at a profile, and at all profiles
-abbrev pub dominant_row_of : GeneralSetting → ℕ → List ℕ → ℕ → List Row
+abbrev pub dominant_row_of : GeneralSetting → ℕ → List ℕ → ℕ → List Condition
 dominant_row_of s i t = unless_true (slice_index t i) (dominant_row i t)
 
-abbrev pub dominant_rows_at : GeneralSetting → ℕ → List ℕ → List Row
+abbrev pub dominant_rows_at : GeneralSetting → ℕ → List ℕ → List Condition
 dominant_rows_at s i t = by_report (slice_index (sizes_of s) i) (slice_index t i) (dominant_row i t)
 
-abbrev pub dominant_rows : GeneralSetting → ℕ → List Row
+abbrev pub dominant_rows : GeneralSetting → ℕ → List Condition
 dominant_rows s i = by_profile s (dominant_rows_at s i)
 
 -- the same on average, for a type of an agent, and for all its types
-abbrev pub bayes_row_of : GeneralSetting → ℕ → ℕ → ℕ → List Row
+abbrev pub bayes_row_of : GeneralSetting → ℕ → ℕ → ℕ → List Condition
 bayes_row_of s i a = unless_true a (bayes_row i a)
 
-abbrev pub bayes_rows_at : GeneralSetting → ℕ → ℕ → List Row
+abbrev pub bayes_rows_at : GeneralSetting → ℕ → ℕ → List Condition
 bayes_rows_at s i a = by_report (slice_index (sizes_of s) i) a (bayes_row i a)
 
-abbrev pub bayes_rows : GeneralSetting → ℕ → List Row
+abbrev pub bayes_rows : GeneralSetting → ℕ → List Condition
 bayes_rows s i = by_type s i (bayes_rows_at s i)
 
-abbrev pub truth_rows : Truth → GeneralSetting → List Row
+abbrev pub truth_rows : Truth → GeneralSetting → List Condition
 truth_rows Dominant s =
     by_agent s (dominant_rows s)
 truth_rows Bayes s =
     by_agent s (bayes_rows s)
 
 -- that an agent gets what it has outside: at each profile, or for each of its types
-abbrev pub ex_post_rows : GeneralSetting → ℕ → List Row
+abbrev pub ex_post_rows : GeneralSetting → ℕ → List Condition
 ex_post_rows s i = by_profile s (λ t. ex_post_row i t ∷ [])
 
-abbrev pub interim_rows : GeneralSetting → ℕ → List Row
+abbrev pub interim_rows : GeneralSetting → ℕ → List Condition
 interim_rows s i = by_type s i (λ a. interim_row i a ∷ [])
 
-abbrev pub rational_rows : Rational → GeneralSetting → List Row
+abbrev pub rational_rows : Rational → GeneralSetting → List Condition
 rational_rows Free s = []
 rational_rows ExPost s = by_agent s (ex_post_rows s)
 rational_rows Interim s = by_agent s (interim_rows s)
 
-abbrev pub deficit_rows : Bool → GeneralSetting → List Row
+abbrev pub deficit_rows : Bool → GeneralSetting → List Condition
 deficit_rows true s = by_profile s (λ t. deficit_row t ∷ [])
 deficit_rows false s = []
 
 -- the conditions on truth, rationality and the deficit
-abbrev pub demand_rows : GeneralSetting → List Row
+abbrev pub demand_rows : GeneralSetting → List Condition
 demand_rows s = truth_rows s.truth s ++ rational_rows s.rational s ++ deficit_rows s.no_deficit s
 
 -- all conditions, in their order
-abbrev pub rows_of : GeneralSetting → List Row
+abbrev pub rows_of : GeneralSetting → List Condition
 rows_of s = demand_rows s ++ by_profile s (λ t. profile_row t ∷ [])
 
 -- Of some rows, the first of which has the number start, the one that is named is the first that is not kept, and
 -- both its sides are given.
-pub record IsFirstBroken (s : GeneralSetting) (m : Mechanism) (rows : List Row) (start : ℕ) (broken : Broken) : Type 0 where
-  pub before : List Row
-  pub row : Row
-  pub after : List Row
+pub record IsFirstBroken (s : GeneralSetting) (m : Mechanism) (rows : List Condition) (start : ℕ) (broken : Broken) : Type 0 where
+  pub before : List Condition
+  pub row : Condition
+  pub after : List Condition
   pub parts : rows ≡ before ++ row ∷ after
   pub kept : All (IsKept s m) before
   pub number : broken.row ≡ start + length before

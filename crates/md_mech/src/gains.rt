@@ -1,6 +1,5 @@
 //! What a mechanism is worth to the designer.
-ghost use Rattle.std.specs.Prelude.{◌≡◌, ◌<◌, ◌^◌, pos, ◌<ℤ◌, ◌*ℤ◌};
-ghost use Rattle.md_math.specs.Divisors.{IsLeastTerms};
+ghost use Rattle.std.specs.Prelude.{◌≡◌, ◌<◌, ◌-◌, ◌^◌, pos, ◌<ℤ◌, ◌*ℤ◌};
 ghost use Rattle.md_math.specs.Sizes.{IsWithin};
 ghost use Rattle.md_math.specs.Sums.{sum_to};
 ghost use Rattle.md_space.specs.Profiles.{profile_count, profile_at};
@@ -8,6 +7,7 @@ ghost use Rattle.md_setting.specs.Meaning.{outcome_count, sizes_of, total_of, va
 ghost use Rattle.md_mech.specs.Accepted.{IsAccepted};
 ghost use Rattle.md_mech.specs.Mechanism.{chance_of};
 ghost use Rattle.md_mech.specs.Optimal.{objective_at, worth_of};
+ghost use Rattle.md_mech.specs.Value.{IsValueOf};
 
 use crate::Mechanism;
 use crate::utilities::{chance, payments};
@@ -18,8 +18,9 @@ use md_setting::Setting;
 /// the denominator times the weight of all profiles.
 pub fn worth(setting: &Setting, mechanism: &Mechanism) -> Frac
     requires { IsAccepted setting.now mechanism.now }
-    ensures value { result.num *ℤ (mechanism.now.den *ℤ total_of setting.now) ≡ worth_of setting.now mechanism.now *ℤ result.den }
-    ensures least { IsLeastTerms result.num result.den }
+    ensures value { IsValueOf setting.now mechanism.now result }
+    ensures num_size { IsWithin (2 ^ 126 - 1) result.num }
+    ensures den_size { IsWithin (2 ^ 126 - 1) result.den }
 {
     Frac::reduced(
         weighted_objective(setting, mechanism),

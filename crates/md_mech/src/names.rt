@@ -4,10 +4,10 @@ ghost use Rattle.std.specs.Option.{ForSome};
 ghost use Rattle.md_space.specs.Profiles.{profile_count, profile_at, IsProfile};
 ghost use Rattle.md_setting.specs.Meaning.{agent_count, sizes_of};
 ghost use Rattle.md_mech.specs.Rows.{rows_of};
-ghost use Rattle.md_mech.specs.Places.{row_at, IsInside};
+ghost use Rattle.md_mech.specs.Conditions.{named, IsInside};
 ghost use Rattle.md_mech.specs.RowName.{agent_name, type_name, profile_name, name_of};
 
-use crate::place::{Place, locate};
+use crate::condition::{Condition, condition_at};
 use md_num::NoMemory;
 use md_setting::Setting;
 use std::alloc::Global;
@@ -18,20 +18,28 @@ pub fn row_name(alloc: Global, setting: &Setting, row: u32) -> Result<Vec<u8>, N
     requires { row < length (rows_of setting.now) }
     ensures { IfOk result (λ name. ForSome (slice_get (rows_of setting.now) row) (λ r. name.items ≡ name_of setting.now r)) }
 {
-    name(alloc, setting, locate(setting, row))
+    name(alloc, setting, condition_at(setting, row))
 }
 
-fn name(alloc: Global, setting: &Setting, place: Place) -> Result<Vec<u8>, NoMemory>
-    requires { IsInside setting.now place }
-    ensures { IfOk result (λ name. name.items ≡ name_of setting.now (row_at setting.now place)) }
+fn name(alloc: Global, setting: &Setting, condition: Condition) -> Result<Vec<u8>, NoMemory>
+    requires { IsInside setting.now condition }
+    ensures { IfOk result (λ name. name.items ≡ name_of setting.now (named setting.now condition)) }
 {
-    match place {
-        Place::Dominant(agent, rank, report) => dominant_name(alloc, setting, agent, rank, report),
-        Place::Bayes(agent, kind, report) => bayes_name(alloc, setting, agent, kind, report),
-        Place::ExPost(agent, rank) => ex_post_name(alloc, setting, agent, rank),
-        Place::Interim(agent, kind) => interim_name(alloc, setting, agent, kind),
-        Place::Deficit(rank) => at_profile(alloc, setting, "deficit", rank),
-        Place::Profile(rank) => at_profile(alloc, setting, "profile", rank),
+    match condition {
+        Condition::Dominant {
+            agent,
+            rank,
+            report,
+        } => dominant_name(alloc, setting, agent, rank, report),
+        Condition::Bayes {
+            agent,
+            kind,
+            report,
+        } => bayes_name(alloc, setting, agent, kind, report),
+        Condition::ExPost { agent, rank } => ex_post_name(alloc, setting, agent, rank),
+        Condition::Interim { agent, kind } => interim_name(alloc, setting, agent, kind),
+        Condition::Deficit { rank } => at_profile(alloc, setting, "deficit", rank),
+        Condition::Profile { rank } => at_profile(alloc, setting, "profile", rank),
     }
 }
 
@@ -42,8 +50,8 @@ fn dominant_name(
     rank: u32,
     report: u8,
 ) -> Result<Vec<u8>, NoMemory>
-    requires { IsInside setting.now (Place.Dominant agent rank report) }
-    ensures { IfOk result (λ name. name.items ≡ name_of setting.now (row_at setting.now (Place.Dominant agent rank report))) }
+    requires { IsInside setting.now (Condition.Dominant agent rank report) }
+    ensures { IfOk result (λ name. name.items ≡ name_of setting.now (named setting.now (Condition.Dominant agent rank report))) }
 {
     let kind = setting.space().report(rank, agent);
     let mut name = Vec::from_slice(alloc, b"truth")?;
@@ -61,8 +69,8 @@ fn bayes_name(
     kind: u8,
     report: u8,
 ) -> Result<Vec<u8>, NoMemory>
-    requires { IsInside setting.now (Place.Bayes agent kind report) }
-    ensures { IfOk result (λ name. name.items ≡ name_of setting.now (row_at setting.now (Place.Bayes agent kind report))) }
+    requires { IsInside setting.now (Condition.Bayes agent kind report) }
+    ensures { IfOk result (λ name. name.items ≡ name_of setting.now (named setting.now (Condition.Bayes agent kind report))) }
 {
     let mut name = Vec::from_slice(alloc, b"truth")?;
     push_word(&mut name, setting.agent_name(agent))?;
@@ -72,8 +80,8 @@ fn bayes_name(
 }
 
 fn ex_post_name(alloc: Global, setting: &Setting, agent: u8, rank: u32) -> Result<Vec<u8>, NoMemory>
-    requires { IsInside setting.now (Place.ExPost agent rank) }
-    ensures { IfOk result (λ name. name.items ≡ name_of setting.now (row_at setting.now (Place.ExPost agent rank))) }
+    requires { IsInside setting.now (Condition.ExPost agent rank) }
+    ensures { IfOk result (λ name. name.items ≡ name_of setting.now (named setting.now (Condition.ExPost agent rank))) }
 {
     let mut name = Vec::from_slice(alloc, b"rational")?;
     push_word(&mut name, setting.agent_name(agent))?;
@@ -82,8 +90,8 @@ fn ex_post_name(alloc: Global, setting: &Setting, agent: u8, rank: u32) -> Resul
 }
 
 fn interim_name(alloc: Global, setting: &Setting, agent: u8, kind: u8) -> Result<Vec<u8>, NoMemory>
-    requires { IsInside setting.now (Place.Interim agent kind) }
-    ensures { IfOk result (λ name. name.items ≡ name_of setting.now (row_at setting.now (Place.Interim agent kind))) }
+    requires { IsInside setting.now (Condition.Interim agent kind) }
+    ensures { IfOk result (λ name. name.items ≡ name_of setting.now (named setting.now (Condition.Interim agent kind))) }
 {
     let mut name = Vec::from_slice(alloc, b"rational")?;
     push_word(&mut name, setting.agent_name(agent))?;

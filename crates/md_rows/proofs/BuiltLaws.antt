@@ -1,210 +1,80 @@
--- How a program of a setting grows.
-use Rattle.std.proofs.Common.{◌≡◌, ◌≢◌, ℕ, zero, suc, ◌+◌, ◌<◌, ◌^◌, Bool, true, false, ℤ, pos, ◌*ℤ◌, List, [], ◌∷◌, ◌++◌, length, get_or, All, refl, sym, ap, ◌∙◌, subst, arith, append_assoc, length-append, inl, inr}
-use Rattle.std.specs.Prelude.{◌==◌, if◌then◌else◌, slice_get, Some}
-use Rattle.std.proofs.lemmas.Option.{none-some}
-use Rattle.md_lp.specs.declared.row_kind.RowKind.TheVariants.{AtMost}
-use Rattle.std.proofs.lemmas.Bool.{cases_Bool}
-use Rattle.std.proofs.lemmas.List.{append-nil, length-map, get_or-map}
-use Rattle.std.proofs.lemmas.List.Elements.{All-head, All-tail, All-from_get_or}
-use Rattle.md_math.specs.Divisors.{Divides, IsCommonDivisor}
-use Rattle.md_math.specs.Lists.{number_at, up_to}
-use Rattle.md_math.proofs.Builders.{up_to-more, up_to-split}
-use Rattle.md_math.proofs.Division.{Divides-zero, Divides-+ℤ}
-use Rattle.md_math.proofs.Ring.{linear, *ℤ-zero, *ℤ-one}
-use Rattle.md_math.specs.Sizes.{IsWithin}
+-- How a program grows by the conditions of a setting.
+use Rattle.std.proofs.Common.{◌≡◌, ℕ, zero, suc, ◌+◌, ◌<◌, ◌≤◌, List, [], ◌∷◌, ◌++◌, length, take, Some, sym, ap, ◌∙◌, subst, arith}
+use Rattle.std.specs.Prelude.{slice_get, option_map}
+use Rattle.std.proofs.lemmas.List.{length-map, map-append, take_all, length-take-le}
+use Rattle.std.proofs.lemmas.Option.{none-some, slice_get-map}
 use Rattle.md_setting.specs.Setting.{GeneralSetting}
 use Rattle.md_setting.specs.Rows.{column_count}
-use Rattle.md_mech.specs.Rows.{Row as Condition, rows_of}
-use Rattle.md_lp.specs.declared.row_kind.RowKind.{RowKind}
-use Rattle.md_lp.specs.declared.term.Term.{Term}
-use Rattle.md_lp.specs.declared.lp_refusal.LpRefusal.{LpRefusal}
-use Rattle.md_lp.specs.declared.lp_refusal.LpRefusal.TheVariants.{Index, Magnitude, TooManyRows, Memory}
-use Rattle.md_lp.specs.Program.{Program, Row, row_count, value_of}
-use Rattle.md_lp.specs.Shape.{HasPlaces, IsShapedRow, numbers_of, column_in}
-use Rattle.md_lp.proofs.SparseRows.{no_term, share, All-below, dot-value_of, value_of-present}
-use Rattle.md_lp.proofs.Dividing.{zero-Divides, left_of-times}
-use Rattle.md_lp.proofs.ShapeLaws.{AllWithin-numbers_of}
-use Rattle.md_lp.specs.Divided.{IsDivisorFor, IsDividedRow, AppendsDivided}
-use Rattle.md_rows.specs.ProgramOf.{unit, number_of, IsRowOf, AreRowsOf, HasCostOf, IsProgramOf, HasEachRow}
-use Rattle.md_rows.specs.Built.{HasRoom, Extends, IsWritten}
-use Rattle.md_rows.specs.Terms.{sum_at, AreTermsBelow}
+use Rattle.md_mech.specs.Rows.{Condition, rows_of}
+use Rattle.md_lp.specs.Program.{Program, Row, row_count}
+use Rattle.md_forms.specs.ProgramOf.{AreRowsOf, HasCostOf}
+use Rattle.md_forms.specs.Built.{Extends as ExtendsBy}
+use Rattle.md_forms.proofs.BuiltLaws as forms
+use Rattle.md_rows.specs.Sides.{cost_in}
+use Rattle.md_rows.specs.ProgramOf.{form_of, forms_of, IsProgramOf, HasEachRow}
+use Rattle.md_rows.specs.Built.{HasRoom, Extends}
 
--- ---- rows one by one
+forms-append : (s : GeneralSetting) (cs ds : List Condition) → forms_of s (cs ++ ds) ≡ forms_of s cs ++ forms_of s ds
+forms-append s cs ds = map-append (form_of s) cs ds
 
-pub rows-append : (s : GeneralSetting) (cs ds : List Condition) (ps qs : List Row) → AreRowsOf s cs ps → AreRowsOf s ds qs → AreRowsOf s (cs ++ ds) (ps ++ qs)
-rows-append s [] ds [] qs p q = q
-rows-append s [] ds (row ∷ ps) qs p q = absurd p
-rows-append s (c ∷ cs) ds [] qs p q = absurd p
-rows-append s (c ∷ cs) ds (row ∷ ps) qs p q = (p.0, rows-append s cs ds ps qs p.1 q)
-
-pub rows-length : (s : GeneralSetting) (cs : List Condition) (ps : List Row) → AreRowsOf s cs ps → length ps ≡ length cs
-rows-length s [] [] p = refl
-rows-length s [] (row ∷ ps) p = absurd p
-rows-length s (c ∷ cs) [] p = absurd p
-rows-length s (c ∷ cs) (row ∷ ps) p = ap suc (rows-length s cs ps p.1)
+pub rows-length : (s : GeneralSetting) (cs : List Condition) (ps : List Row) → AreRowsOf (column_count s) (forms_of s cs) ps → length ps ≡ length cs
+rows-length s cs ps are = forms.rows-length (column_count s) (forms_of s cs) ps are ∙ length-map cs (form_of s)
 
 -- ---- growing
 
 pub extends-none : (s : GeneralSetting) (p : Program) → Extends s [] p p
-extends-none s p = record { added = []; are = tt; appended = ap (λ rows. record p { rows = rows }) (sym (append-nil p.rows)) }
+extends-none s p = forms.extends-none p
 
 pub extends-both : (s : GeneralSetting) (cs ds : List Condition) (old mid new : Program) → Extends s cs old mid → Extends s ds mid new → Extends s (cs ++ ds) old new
-extends-both s cs ds old mid new p q = record {
-  added = p.added ++ q.added;
-  are = rows-append s cs ds p.added q.added p.are q.are;
-  appended =
-      q.appended
-      ∙ ap (λ (m : Program). record m { rows = m.rows ++ q.added }) p.appended
-      ∙ ap (λ rows. record old { rows = rows }) (append_assoc old.rows p.added q.added);
-}
+extends-both s cs ds old mid new p q =
+    subst (λ fs. ExtendsBy fs old new) (sym (forms-append s cs ds)) (forms.extends-both (forms_of s cs) (forms_of s ds) old mid new p q)
 
-pub extends-more : (s : GeneralSetting) (k : ℕ) (f : ℕ → List Condition) (old mid new : Program) → Extends s (up_to k f) old mid → Extends s (f k) mid new → Extends s (up_to (k + 1) f) old new
-extends-more s k f old mid new p q = subst (λ cs. Extends s cs old new) (sym (up_to-more k f)) (extends-both s (up_to k f) (f k) old mid new p q)
+-- the first n + 1 of some conditions are the first n, and the one behind them
+take-more : {X : Type 0} → (xs : List X) (n : ℕ) (x : X) → slice_get xs n ≡ Some x → take (suc n) xs ≡ take n xs ++ x ∷ []
+take-more [] n x e = absurd (none-some x e)
+take-more (a ∷ xs) zero x e = (let same : a ≡ x = cc in ap (λ y. y ∷ []) same)
+take-more (a ∷ xs) (suc n) x e = ap (λ ys. a ∷ ys) (take-more xs n x e)
+
+pub extends-next : (s : GeneralSetting) (cs : List Condition) (n : ℕ) (c : Condition) (old mid new : Program) → slice_get cs n ≡ Some c
+    → Extends s (take n cs) old mid → Extends s (c ∷ []) mid new → Extends s (take (n + 1) cs) old new
+extends-next s cs n c old mid new e p q =
+    let next : suc n ≡ n + 1 = omega arith in
+    subst (λ ds. Extends s ds old new) (sym (take-more cs n c e) ∙ ap (λ k. take k cs) next) (extends-both s (take n cs) (c ∷ []) old mid new p q)
+
+pub extends-all : (s : GeneralSetting) (cs : List Condition) (n : ℕ) (old new : Program) → n ≡ length cs → Extends s (take n cs) old new → Extends s cs old new
+extends-all s cs n old new e p = subst (λ ds. Extends s ds old new) (take_all n cs (omega (arith, e))) p
 
 -- ---- room
 
-pub grown : (s : GeneralSetting) (cs : List Condition) (old new : Program) → Extends s cs old new → row_count new ≡ row_count old + length cs
-grown s cs old new p =
-    ap row_count p.appended ∙ length-append old.rows p.added ∙ ap (λ n. row_count old + n) (rows-length s cs p.added p.are)
+same_columns : (s : GeneralSetting) (cs : List Condition) (old new : Program) → Extends s cs old new → new.columns ≡ old.columns
+same_columns s cs old new p = forms.same_columns (forms_of s cs) old new p
 
-pub same_columns : (s : GeneralSetting) (cs : List Condition) (old new : Program) → Extends s cs old new → new.columns ≡ old.columns
-same_columns s cs old new p = ap (λ (m : Program). m.columns) p.appended
-
-pub room-left : (s : GeneralSetting) (cs ds : List Condition) (old : Program) → HasRoom s (cs ++ ds) old → HasRoom s cs old
-room-left s cs ds old h = record { columns = h.columns; room = omega (arith, h.room, length-append cs ds) }
-
-pub room-right : (s : GeneralSetting) (cs ds : List Condition) (old mid : Program) → HasRoom s (cs ++ ds) old → Extends s cs old mid → HasRoom s ds mid
-room-right s cs ds old mid h p = record {
-  columns = same_columns s cs old mid p ∙ h.columns;
-  room = omega (arith, h.room, length-append cs ds, grown s cs old mid p);
+-- room for the next condition
+pub room-next : (s : GeneralSetting) (cs : List Condition) (n : ℕ) (c : Condition) (old mid : Program) → n < length cs → HasRoom s cs old → Extends s (take n cs) old mid → HasRoom s (c ∷ []) mid
+room-next s cs n c old mid below h p = record {
+  columns = subst (λ m. column_count s ≤ m) (sym (same_columns s (take n cs) old mid p)) h.columns;
+  room = record {
+    room = omega (
+      arith,
+      h.room.room,
+      below,
+      forms.grown (forms_of s (take n cs)) old mid p,
+      length-map (take n cs) (form_of s),
+      length-take-le n cs (omega (arith, below)),
+      length-map cs (form_of s),
+    );
+  };
 }
 
-pub room-at : (s : GeneralSetting) (n k : ℕ) (f : ℕ → List Condition) (old mid : Program) → HasRoom s (up_to n f) old → k < n → Extends s (up_to k f) old mid → HasRoom s (f k) mid
-room-at s n k f old mid h below p =
-    let split = up_to-split n k f below in
-    room-right s (up_to k f) (f k) old mid (room-left s (up_to k f ++ f k) split.0 old (subst (λ cs. HasRoom s cs old) split.1 h)) p
+-- ---- all conditions
 
--- ---- a row of terms as a row of all columns
-
--- what has the same common divisors is divided by the same number
-divisor-as : (m n : ℕ) (f h : ℕ → ℤ) (g : ℤ) → ((d : ℤ) → IsCommonDivisor m f d → IsCommonDivisor n h d) → ((d : ℤ) → IsCommonDivisor n h d → IsCommonDivisor m f d)
-    → IsDivisorFor m f g → IsDivisorFor n h g
-divisor-as m n f h g to back (inl p) = inl (record { nonneg = p.0.nonneg; common = to g p.0.common; greatest = λ d c. p.0.greatest d (back d c) }, p.1)
-divisor-as m n f h g to back (inr p) =
-    let zero_divides : IsCommonDivisor n h (pos 0) = to (pos 0) (record { at = λ k b. subst (Divides (pos 0)) (sym (p.0.zero k b)) (Divides-zero (pos 0)) }) in
-    inr (record { zero = λ k b. zero-Divides (h k) (zero_divides.at k b) }, p.1)
-
-unit-term : (v : ℤ) (c j : ℕ) → v *ℤ unit j c ≡ (if c == j then v else pos 0)
-unit-term v c j = elim (cases_Bool (c == j)) [
-  | inl here ↦ rw here (*ℤ-one v)
-  | inr away ↦ rw away (*ℤ-zero v)
-]
-
--- the sum at one column is its coefficient
-sum-at_unit : (terms : List Term) (j : ℕ) → sum_at (unit j) terms ≡ value_of terms j
-sum-at_unit [] j = refl
-sum-at_unit (t ∷ terms) j = omega (arith, linear, unit-term t.value t.column j, sum-at_unit terms j)
-
-Divides-value_of : (d : ℤ) (terms : List Term) (j : ℕ) → All (λ t. Divides d t.value) terms → Divides d (value_of terms j)
-Divides-value_of d [] j h = Divides-zero d
-Divides-value_of d (t ∷ terms) j h =
-    Divides-+ℤ d (share t j) (value_of terms j) (at (t.column == j) (All-head (λ (u : Term). Divides d u.value) t terms h)) (Divides-value_of d terms j (All-tail (λ (u : Term). Divides d u.value) t terms h))
-  where
-    at : (b : Bool) → Divides d t.value → Divides d (if b then t.value else pos 0)
-    at true p = p
-    at false p = Divides-zero d
-
--- the numbers of a row by column: the right side, and then the coefficients
-abbrev pub dense : Row → ℕ → ℤ
-dense row zero = row.right
-dense row (suc j) = value_of row.terms j
-
-term-number : (row : Row) (i : ℕ) → i < length row.terms → number_at (numbers_of row) (suc i) ≡ (get_or row.terms i no_term).value
-term-number row i b = get_or-map (λ (t : Term). t.value) row.terms i no_term (pos 0) b
-
-to-dense : (n : ℕ) (row : Row) (d : ℤ) → IsCommonDivisor (length (numbers_of row)) (number_at (numbers_of row)) d → IsCommonDivisor (suc n) (dense row) d
-to-dense n row d h = record { at = at }
-  where
-    values : All (λ (t : Term). Divides d t.value) row.terms
-    values = All-from_get_or (λ (t : Term). Divides d t.value) row.terms no_term
-        (λ i b. subst (Divides d) (term-number row i b) (h.at (suc i) (omega (arith, length-map row.terms (λ (t : Term). t.value)))))
-
-    at : (k : ℕ) → k < suc n → Divides d (dense row k)
-    at zero b = h.at 0 (omega arith)
-    at (suc j) b = Divides-value_of d row.terms j values
-
-from-dense : (n : ℕ) (row : Row) (d : ℤ) → HasPlaces n row.terms → IsCommonDivisor (suc n) (dense row) d → IsCommonDivisor (length (numbers_of row)) (number_at (numbers_of row)) d
-from-dense n row d places h = record { at = at }
-  where
-    at : (k : ℕ) → k < length (numbers_of row) → Divides d (number_at (numbers_of row) k)
-    at zero b = h.at 0 (omega arith)
-    at (suc i) b =
-        let inside : i < length row.terms = omega (arith, length-map row.terms (λ (t : Term). t.value)) in
-        let below : column_in row.terms i < n = places.below i inside in
-        subst (Divides d) (value_of-present row.terms i places.order inside ∙ sym (term-number row i inside)) (h.at (suc (column_in row.terms i)) (omega arith))
-
--- the numbers of the condition are those of the row
-written-number : (s : GeneralSetting) (c : Condition) (row : Row) → IsWritten s c row.kind row.terms row.right → (k : ℕ) → dense row k ≡ number_of s c k
-written-number s c row w zero = w.right_is
-written-number s c row w (suc j) = sym (sum-at_unit row.terms j) ∙ w.left_is (unit j)
-
-pub divisor-below : (n : ℕ) (f h : ℕ → ℤ) (g : ℤ) → ((k : ℕ) → k < n → f k ≡ h k) → IsDivisorFor n f g → IsDivisorFor n h g
-divisor-below n f h g e p = divisor-as n n f h g (λ d c. record { at = λ k b. subst (Divides d) (e k b) (c.at k b) }) (λ d c. record { at = λ k b. subst (Divides d) (sym (e k b)) (c.at k b) }) p
-
-row-of : (s : GeneralSetting) (c : Condition) (raw row : Row) → HasPlaces (column_count s) raw.terms → IsWritten s c raw.kind raw.terms raw.right → IsDividedRow raw row → IsRowOf s c row
-row-of s c raw row places w d = record {
-  by = d.by;
-  divisor = divisor-below (suc (column_count s)) (dense raw) (number_of s c) d.by (λ k l. written-number s c raw w k)
-      (divisor-as (length (numbers_of raw)) (suc (column_count s)) (number_at (numbers_of raw)) (dense raw) d.by (to-dense (column_count s) raw) (λ e. from-dense (column_count s) raw e places) d.divisor);
-  kind = d.kind ∙ w.kind_is;
-  right = sym w.right_is ∙ d.right;
-  left = λ x. sym (w.left_is x) ∙ sym (dot-value_of (column_count s) raw.terms x (All-below (column_count s) raw.terms places)) ∙ left_of-times (column_count s) d.by raw row x d.terms;
-}
-
--- one more row
-pub extends-row : (s : GeneralSetting) (c : Condition) (kind : RowKind) (terms : List Term) (right : ℤ) (old new : Program) → old.columns ≡ column_count s
-    → AreTermsBelow (2 ^ 44) old.columns terms → IsWritten s c kind terms right → AppendsDivided old new (record { kind = kind; terms = terms; right = right }) → Extends s (c ∷ []) old new
-extends-row s c kind terms right old new e placed w a = record {
-  added = a.row ∷ [];
-  are = (row-of s c (record { kind = kind; terms = terms; right = right }) a.row (subst (λ n. HasPlaces n terms) e placed.places) w a.divided, tt);
-  appended = a.appended;
-}
-
--- what a row of terms needs to be taken
-pub shaped-row : (columns : ℕ) (kind : RowKind) (terms : List Term) (right : ℤ) → AreTermsBelow (2 ^ 44) columns terms → IsWithin (2 ^ 44) right
-    → IsShapedRow columns (record { kind = kind; terms = terms; right = right })
-shaped-row columns kind terms right placed size = record {
-  places = placed.places;
-  sizes = AllWithin-numbers_of (2 ^ 44) (record { kind = kind; terms = terms; right = right }) size placed.sizes;
-}
-
--- a refusal that is none of the others
-pub only-memory : (refusal : LpRefusal) → refusal ≢ Index → refusal ≢ Magnitude → refusal ≢ TooManyRows → refusal ≡ Memory
-only-memory Index i m t = absurd (i refl)
-only-memory Magnitude i m t = absurd (m refl)
-only-memory TooManyRows i m t = absurd (t refl)
-only-memory Memory i m t = refl
-
--- all conditions in place
-pub program-of : (s : GeneralSetting) (old new : Program) → old.columns ≡ column_count s → HasCostOf s old → old.rows ≡ [] → Extends s (rows_of s) old new → IsProgramOf s new
-program-of s old new columns cost none p =
-    subst (IsProgramOf s) (sym p.appended) (record {
-      columns = columns;
-      cost = record { factor = cost.factor; cost = cost.cost };
-      rows = subst (AreRowsOf s (rows_of s)) (ap (λ rows. rows ++ p.added) (sym none)) p.are;
-    })
-
--- ---- rows by their numbers
-
-rows-at : (s : GeneralSetting) (cs : List Condition) (ps : List Row) (r : ℕ) (c : Condition) (d : Row) → AreRowsOf s cs ps → slice_get cs r ≡ Some c → IsRowOf s c (get_or ps r d)
-rows-at s [] [] r c d p e = absurd (none-some c e)
-rows-at s [] (row ∷ ps) r c d p e = absurd p
-rows-at s (b ∷ cs) [] r c d p e = absurd p
-rows-at s (b ∷ cs) (row ∷ ps) zero c d p e = (let same : b ≡ c = cc in subst (λ x. IsRowOf s x row) same p.0)
-rows-at s (b ∷ cs) (row ∷ ps) (suc r) c d p e = rows-at s cs ps r c d p.1 e
+pub program-of : (s : GeneralSetting) (old new : Program) → old.columns ≡ column_count s → HasCostOf (column_count s) (cost_in s) old → old.rows ≡ [] → Extends s (rows_of s) old new → IsProgramOf s new
+program-of s old new columns cost none p = forms.program-of (column_count s) (forms_of s (rows_of s)) (cost_in s) old new columns cost none p
 
 pub each-row : (s : GeneralSetting) (p : Program) → IsProgramOf s p → HasEachRow s p
-each-row s p is number condition e = rows-at s (rows_of s) p.rows number condition (record { kind = AtMost; terms = []; right = pos 0 }) is.rows e
+each-row s p is number condition e =
+    forms.each-row (column_count s) (forms_of s (rows_of s)) (cost_in s) p is number (form_of s condition)
+    (slice_get-map (form_of s) (rows_of s) number ∙ ap (option_map (form_of s)) e)
 
 pub rows-count : (s : GeneralSetting) (p : Program) → IsProgramOf s p → row_count p ≡ length (rows_of s)
 rows-count s p is = rows-length s (rows_of s) p.rows is.rows

@@ -1,15 +1,14 @@
 -- The cost that is written down is the designer's objective.
 use Rattle.std.proofs.Common.{◌≡◌, ℕ, ◌+◌, ◌-◌, ◌*◌, ◌<◌, ◌^◌, Bool, true, false, ℤ, pos, ◌+ℤ◌, ◌-ℤ◌, ◌*ℤ◌, neg_ℤ, List, ◌++◌, length, All, refl, sym, ap, ◌∙◌, subst, arith, length-append}
-use Rattle.std.proofs.lemmas.Bool.{eq-eqb, ne_eqb}
 use Rattle.std.proofs.lemmas.List.{length-map, get_or_append_left, get_or-append_right}
 use Rattle.std.proofs.lemmas.List.Elements.{All-append, All-nil, All-get_or}
 use Rattle.md_math.specs.Lists.{number_at, list_to, up_to}
 use Rattle.md_math.specs.Sizes.{IsWithin, AllWithin}
 use Rattle.md_math.specs.Sums.{sum_to, dot}
 use Rattle.md_math.proofs.Builders.{length-list_to, get_or-list_to, All-list_to, length-up_to, All-up_to, get_or-up_to}
-use Rattle.md_math.proofs.Ring.{linear, *ℤ-+ℤ, *ℤ-neg_ℤ, neg_ℤ-*ℤ, *ℤ_assoc, one-*ℤ, *ℤ-zero, *ℤ-one}
+use Rattle.md_math.proofs.Ring.{linear, *ℤ-+ℤ, *ℤ-neg_ℤ, neg_ℤ-*ℤ, *ℤ_assoc, one-*ℤ, *ℤ-zero}
 use Rattle.md_math.proofs.SizeLaws.{IsWithin-*ℤ, IsWithin-wider}
-use Rattle.md_math.proofs.SumLaws.{sum_to-same, sum_to-zero, sum_to-+ℤ, sum_to-*ℤ, sum_to-swap, sum_to-join, sum_to-nested, sum_to-single}
+use Rattle.md_math.proofs.SumLaws.{sum_to-same, sum_to-zero, sum_to-+ℤ, sum_to-*ℤ, sum_to-swap, sum_to-join, sum_to-nested}
 use Rattle.md_space.specs.Profiles.{profile_count, profile_at}
 use Rattle.md_space.proofs.InOrder.{total_by-profiles}
 use Rattle.md_space.proofs.Ranks.{profile_at-IsProfile}
@@ -19,12 +18,15 @@ use Rattle.md_setting.specs.Rows.{column_count, payment_columns}
 use Rattle.md_setting.specs.Shaped.{IsShaped}
 use Rattle.md_lp.specs.Program.{Program}
 use Rattle.md_lp.specs.Divided.{IsDivisorFor, HasDividedCost}
+use Rattle.md_forms.specs.Forms.{unit}
+use Rattle.md_forms.specs.ProgramOf.{HasCostOf}
+use Rattle.md_forms.proofs.BuiltLaws.{divisor-below}
+use Rattle.md_forms.proofs.OneProgram.{unit-dot}
 use Rattle.md_rows.specs.Columns.{chance_column, plus_column, minus_column, first_plus, first_minus, payment_in}
 use Rattle.md_rows.specs.Sides.{objective_in, cost_in}
-use Rattle.md_rows.specs.ProgramOf.{unit, cost_of, HasCostOf}
+use Rattle.md_rows.specs.ProgramOf.{cost_of}
 use Rattle.md_rows.specs.Costs.{chance_costs_at, chance_costs, revenue_cost, revenue_costs_of, revenue_costs, payment_costs, written_cost}
 use Rattle.md_rows.proofs.FormLaws.{chance-at_rank, plus-at_rank, minus-at_rank, payment-on, payment-off}
-use Rattle.md_rows.proofs.BuiltLaws.{divisor-below}
 
 -- ---- sums over lists of costs
 
@@ -188,11 +190,6 @@ written-cost s x =
 
 -- ---- its numbers
 
-unit-dot : (n j : ℕ) (f : ℕ → ℤ) → j < n → dot n f (unit j) ≡ f j
-unit-dot n j f h =
-    sum_to-single n j (λ k. f k *ℤ unit j k) h (λ k b d. rw (ne_eqb k j d) (*ℤ-zero (f k)))
-    ∙ rw (eq-eqb j j refl) (*ℤ-one (f j))
-
 -- each number of the written cost is the cost at its column
 pub written-number : (s : GeneralSetting) (j : ℕ) → j < column_count s → number_at (written_cost s) j ≡ cost_of s j
 written-number s j h = sym (unit-dot (column_count s) j (number_at (written_cost s)) h) ∙ written-cost s (unit j)
@@ -227,8 +224,8 @@ cost-within s shaped = record {
 }
 
 -- the program with the written cost, divided
-pub has-cost : (s : GeneralSetting) (p : Program) → HasDividedCost (column_count s) (written_cost s) p → HasCostOf s p
+pub has-cost : (s : GeneralSetting) (p : Program) → HasDividedCost (column_count s) (written_cost s) p → HasCostOf (column_count s) (cost_in s) p
 has-cost s p h = record {
   factor = divisor-below (column_count s) (number_at (written_cost s)) (cost_of s) p.factor (λ k l. written-number s k l) (subst (λ n. IsDivisorFor n (number_at (written_cost s)) p.factor) (cost-length s) h.divisor);
-  cost = λ x. sym (written-cost s x) ∙ h.cost_is x;
+  cost_is = λ x. sym (written-cost s x) ∙ h.cost_is x;
 }

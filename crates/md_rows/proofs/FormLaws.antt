@@ -12,9 +12,10 @@ use Rattle.md_lp.specs.declared.term.Term.{Term}
 use Rattle.md_lp.specs.Shape.{HasPlaces}
 use Rattle.md_lp.proofs.SparseRows.{All-below}
 use Rattle.md_mech.specs.Rows.{deficit_row, profile_row}
+use Rattle.md_forms.specs.Terms.{sum_at}
 use Rattle.md_rows.specs.Columns.{chance_column, plus_column, minus_column, first_plus, first_minus, payment_by, payment_in}
 use Rattle.md_rows.specs.Sides.{utility_as, left_side}
-use Rattle.md_rows.specs.Terms.{sum_at, chances_at, paid_at, part_at, part_of_all}
+use Rattle.md_rows.specs.Terms.{chances_at, paid_at, part_at, part_of_all}
 
 -- ---- columns by ranks
 

@@ -1,15 +1,15 @@
 -- The points that meet a setting's program are its admissible mechanisms, and cost what these are worth.
-use Rattle.std.proofs.Common.{◌≡◌, ℕ, zero, suc, ◌<◌, Bool, true, false, ℤ, pos, ◌-ℤ◌, ◌*ℤ◌, neg_ℤ, ◌≤ℤ◌, ◌<ℤ◌, ◌↔◌, List, [], ◌∷◌, ◌++◌, length, get_or, All, refl, sym, ap, ◌∙◌, subst, arith, inl, inr}
+use Rattle.std.proofs.Common.{◌≡◌, ℕ, ◌<◌, Bool, true, false, ℤ, pos, ◌-ℤ◌, ◌*ℤ◌, neg_ℤ, ◌≤ℤ◌, ◌<ℤ◌, ◌↔◌, List, [], ◌∷◌, ◌++◌, length, get_or, All, refl, sym, ap, ◌∙◌, subst, arith, inl, inr}
 use Rattle.std.specs.Prelude.{slice_index, ◌==◌, if◌then◌else◌}
 use lib.IntN.{*ℤ_comm}
 use Rattle.std.proofs.lemmas.Int.{ints}
 use Rattle.std.proofs.lemmas.Bool.{cases_Bool}
-use Rattle.std.proofs.lemmas.List.{length-map, get_or_default}
-use Rattle.std.proofs.lemmas.List.Elements.{All-append, All-nil, All-get_or}
+use Rattle.std.proofs.lemmas.List.{length-map, get_or-map}
+use Rattle.std.proofs.lemmas.List.Elements.{All-append, All-nil, All-get_or, All-map}
 use Rattle.md_math.specs.Lists.{number_at, list_to}
 use Rattle.md_math.specs.Sums.{sum_to}
-use Rattle.md_math.proofs.Builders.{length-list_to, length-up_to, All-up_to, All-left, All-right}
-use Rattle.md_math.proofs.Ring.{linear, *ℤ-zero, *ℤ-one, *ℤ-neg_ℤ, neg_ℤ-*ℤ, *ℤ-+ℤ, *ℤ_assoc, *ℤ_left_comm}
+use Rattle.md_math.proofs.Builders.{length-list_to, length-up_to, All-up_to, All-right}
+use Rattle.md_math.proofs.Ring.{linear, *ℤ-zero, *ℤ-one, *ℤ-neg_ℤ, neg_ℤ-*ℤ, *ℤ-+ℤ, *ℤ_assoc}
 use Rattle.md_math.proofs.SumLaws.{sum_to-same}
 use Rattle.md_math.proofs.TotalLaws.{total_by-same, total_by-sub, total_by-zero}
 use Rattle.md_space.specs.Profiles.{IsProfile, profile_count, profile_at, rank_of, replaced}
@@ -28,15 +28,16 @@ use Rattle.md_mech.specs.Mechanism.{IsMechanism, chance_of, pay_of}
 use Rattle.md_mech.specs.Utility.{expected_utility, weighted_given}
 use Rattle.md_mech.specs.Admissible.{IsAdmissible}
 use Rattle.md_mech.specs.Optimal.{objective_at, worth_of}
-use Rattle.md_mech.specs.Rows.{Row as Condition, dominant_row, bayes_row, ex_post_row, interim_row, deficit_row, profile_row, IsKept, by_report, by_profile, by_type, truth_rows, rational_rows, deficit_rows, demand_rows, rows_of}
+use Rattle.md_mech.specs.Rows.{Condition, dominant_row, bayes_row, ex_post_row, interim_row, deficit_row, profile_row, IsKept, by_report, by_profile, by_type, truth_rows, rational_rows, deficit_rows, demand_rows, rows_of}
 use Rattle.md_mech.proofs.RowLaws.{all-by_profile, all-one, one-all, all-by_report, by_profile-at, admissible-kept, kept-admissible}
 use Rattle.md_lp.specs.declared.row_kind.RowKind.TheVariants.{AtMost, Exact}
-use Rattle.md_lp.specs.Program.{Program, Row, row_at, left_of, Keeps, HoldsAtPoint}
+use Rattle.md_lp.specs.Program.{Program}
 use Rattle.md_lp.specs.Point.{IsPoint, Meets}
-use Rattle.md_lp.proofs.Dividing.{IsDivisorFor-positive, Keeps-times}
+use Rattle.md_forms.specs.Forms.{Form, Holds as HoldsForm}
+use Rattle.md_forms.proofs.PointLaws as forms
 use Rattle.md_rows.specs.Columns.{chance_column, first_plus, payment_in}
-use Rattle.md_rows.specs.Sides.{utility_in, gain_in, lack_in, left_side, right_side, kind_of, objective_in, cost_in}
-use Rattle.md_rows.specs.ProgramOf.{number_of, IsRowOf, AreRowsOf, IsProgramOf}
+use Rattle.md_rows.specs.Sides.{utility_in, gain_in, lack_in, left_side, kind_of, objective_in, cost_in}
+use Rattle.md_rows.specs.ProgramOf.{form_of, forms_of, IsProgramOf}
 use Rattle.md_rows.specs.Points.{mechanism_of, point_of}
 use Rattle.md_rows.specs.Law.{AdmitsPoints, AdmitsMechanisms, CostsPoints, CostsMechanisms}
 use Rattle.md_rows.proofs.FormLaws.{payment-off}
@@ -88,50 +89,16 @@ conditions-placed s =
 
 -- the condition's row holds at numbers over a denominator
 abbrev pub Holds : GeneralSetting → ℤ → (ℕ → ℤ) → Condition → Type 0
-Holds s den x c = Keeps (kind_of c) (left_side s c x) (den *ℤ right_side s c)
+Holds s den x c = HoldsForm den x (form_of s c)
 
-row-holds : (s : GeneralSetting) (c : Condition) (row : Row) (den : ℤ) (x : ℕ → ℤ) → IsRowOf s c row → HoldsAtPoint (column_count s) row den x ↔ Holds s den x c
-row-holds s c row den x r =
-    let above : pos 0 <ℤ r.by = IsDivisorFor-positive (suc (column_count s)) (number_of s c) r.by r.divisor in
-    let right : den *ℤ right_side s c ≡ r.by *ℤ (den *ℤ row.right) = ap (λ z. den *ℤ z) r.right ∙ *ℤ_left_comm den r.by row.right in
-    let both = Keeps-times (kind_of c) r.by (left_of (column_count s) row x) (den *ℤ row.right) above in
-    rw (r.kind, r.left x, right) (both.1, both.0)
-
--- all rows hold exactly where all conditions' rows do
-all-hold : (s : GeneralSetting) (cs : List Condition) (ps : List Row) (den : ℤ) (x : ℕ → ℤ) → AreRowsOf s cs ps
-    → ((r : ℕ) (d : Row) → r < length ps → HoldsAtPoint (column_count s) (get_or ps r d) den x) → All (Holds s den x) cs
-all-hold s [] [] den x are h = All-nil (Holds s den x)
-all-hold s [] (row ∷ ps) den x are h = absurd are
-all-hold s (c ∷ cs) [] den x are h = absurd are
-all-hold s (c ∷ cs) (row ∷ ps) den x are h =
-    All-append (Holds s den x) (c ∷ []) cs
-    (all-one (Holds s den x) c ((row-holds s c row den x are.0).0 (h 0 row (omega arith))))
-    (all-hold s cs ps den x are.1 (λ r d b. h (suc r) d (omega arith)))
-
-hold-all : (s : GeneralSetting) (cs : List Condition) (ps : List Row) (den : ℤ) (x : ℕ → ℤ) → AreRowsOf s cs ps → All (Holds s den x) cs
-    → (r : ℕ) (d : Row) → r < length ps → HoldsAtPoint (column_count s) (get_or ps r d) den x
-hold-all s [] [] den x are h r d b = absurd (omega arith)
-hold-all s [] (row ∷ ps) den x are h r d b = absurd are
-hold-all s (c ∷ cs) [] den x are h r d b = absurd are
-hold-all s (c ∷ cs) (row ∷ ps) den x are h zero d b = (row-holds s c row den x are.0).1 (one-all (Holds s den x) c (All-left (Holds s den x) (c ∷ []) cs h))
-hold-all s (c ∷ cs) (row ∷ ps) den x are h (suc r) d b = hold-all s cs ps den x are.1 (All-right (Holds s den x) (c ∷ []) cs h) r d (omega arith)
+each-form : (P : Form → Type 0) (s : GeneralSetting) (cs : List Condition) → All P (forms_of s cs) → All (λ c. P (form_of s c)) cs
+each-form P s cs h = λ k d l. subst P (get_or-map (form_of s) cs k d (form_of s d) l) (h k (form_of s d) (omega (arith, l, length-map cs (form_of s))))
 
 meets-hold : (s : GeneralSetting) (p : Program) (den : ℤ) (x : ℕ → ℤ) → IsProgramOf s p → Meets p den x → All (Holds s den x) (rows_of s)
-meets-hold s p den x is meets =
-    all-hold s (rows_of s) p.rows den x is.rows (λ r d b. subst (λ n. HoldsAtPoint n (get_or p.rows r d) den x) is.columns (at r d b))
-  where
-    at : (r : ℕ) (d : Row) → r < length p.rows → HoldsAtPoint p.columns (get_or p.rows r d) den x
-    at r d b = subst (λ row. HoldsAtPoint p.columns row den x) (get_or_default p.rows r (record { kind = AtMost; terms = []; right = pos 0 }) d b) (meets.rows.holds r b)
+meets-hold s p den x is meets = each-form (HoldsForm den x) s (rows_of s) (forms.meets-hold (column_count s) (forms_of s (rows_of s)) (cost_in s) p den x is meets)
 
 hold-meets : (s : GeneralSetting) (p : Program) (den : ℤ) (x : ℕ → ℤ) → IsProgramOf s p → IsPoint p den x → All (Holds s den x) (rows_of s) → Meets p den x
-hold-meets s p den x is point h = record {
-  point = point;
-  rows = record {
-    holds = λ r b.
-        subst (λ n. HoldsAtPoint n (row_at p r) den x) (sym is.columns)
-        (hold-all s (rows_of s) p.rows den x is.rows h r (record { kind = AtMost; terms = []; right = pos 0 }) b);
-  };
-}
+hold-meets s p den x is point h = forms.hold-meets (column_count s) (forms_of s (rows_of s)) (cost_in s) p den x is point (All-map (HoldsForm den x) (form_of s) (rows_of s) h)
 
 -- ---- the sides of conditions
 
@@ -297,7 +264,7 @@ cost-worth s x m a =
         rw (values, pays) refl
 
 pub costs-points : (s : GeneralSetting) (p : Program) → IsProgramOf s p → CostsPoints s p
-costs-points s p is m h = sym (is.cost.cost (number_at (point_of s m))) ∙ cost-worth s (number_at (point_of s m)) m (agrees-point_of s m h)
+costs-points s p is m h = sym (is.has_cost.cost_is (number_at (point_of s m))) ∙ cost-worth s (number_at (point_of s m)) m (agrees-point_of s m h)
 
 pub costs-mechanisms : (s : GeneralSetting) (p : Program) → IsProgramOf s p → CostsMechanisms s p
-costs-mechanisms s p is den x = sym (is.cost.cost x) ∙ cost-worth s x (mechanism_of s den x) (agrees-mechanism_of s den x)
+costs-mechanisms s p is den x = sym (is.has_cost.cost_is x) ∙ cost-worth s x (mechanism_of s den x) (agrees-mechanism_of s den x)

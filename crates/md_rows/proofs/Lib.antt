@@ -1,5 +1,4 @@
 pub mod RowForms
-pub mod TermLaws
 pub mod ShareLaws
 pub mod FormLaws
 pub mod BuiltLaws

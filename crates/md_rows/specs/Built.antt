@@ -1,28 +1,17 @@
--- A program of a setting that grows row by row.
-use Rattle.std.specs.Prelude.{ℕ, ℤ, ◌+◌, ◌≤◌, ◌≡◌, List, ◌++◌, length}
+-- A program with the columns of a setting, and maybe more, that grows condition by condition.
+use Rattle.std.specs.Prelude.{◌≤◌, List}
 use Rattle.md_setting.specs.Setting.{GeneralSetting}
 use Rattle.md_setting.specs.Rows.{column_count}
-use Rattle.md_mech.specs.Rows.{Row as Condition}
-use Rattle.md_lp.specs.Program.{Program, Row, row_count}
-use Rattle.md_lp.specs.declared.row_kind.RowKind.{RowKind}
-use Rattle.md_lp.specs.declared.term.Term.{Term}
-use Rattle.md_rows.specs.ProgramOf.{AreRowsOf}
-use Rattle.md_rows.specs.Sides.{left_side, right_side, kind_of}
-use Rattle.md_rows.specs.Terms.{sum_at}
+use Rattle.md_mech.specs.Rows.{Condition}
+use Rattle.md_lp.specs.Program.{Program}
+use Rattle.md_forms.specs.Built.{HasRoom as HasRoomFor, Extends as ExtendsBy}
+use Rattle.md_rows.specs.ProgramOf.{forms_of}
 
 -- the program has the setting's columns, and room for a row for each of these conditions
 pub record HasRoom (s : GeneralSetting) (conditions : List Condition) (p : Program) : Type 0 where
-  pub columns : p.columns ≡ column_count s
-  pub room : row_count p + length conditions ≤ 8192
+  pub columns : column_count s ≤ p.columns
+  pub room : HasRoomFor (forms_of s conditions) p
 
 -- the rows of these conditions were added at its end
-pub record Extends (s : GeneralSetting) (conditions : List Condition) (old new : Program) : Type 0 where
-  pub added : List Row
-  pub are : AreRowsOf s conditions added
-  pub appended : new ≡ record old { rows = old.rows ++ added }
-
--- the terms and the right side are those of the condition
-pub record IsWritten (s : GeneralSetting) (condition : Condition) (kind : RowKind) (terms : List Term) (right : ℤ) : Type 0 where
-  pub kind_is : kind ≡ kind_of condition
-  pub left_is : (x : ℕ → ℤ) → sum_at x terms ≡ left_side s condition x
-  pub right_is : right ≡ right_side s condition
+abbrev pub Extends : GeneralSetting → List Condition → Program → Program → Type 0
+Extends s conditions old new = ExtendsBy (forms_of s conditions) old new

@@ -11,12 +11,17 @@ use Rattle.md_lp.specs.Point.{Meets}
 use Rattle.md_rows.specs.Columns.{payment_in}
 use Rattle.md_rows.specs.ProgramOf.{IsProgramOf}
 
--- the mechanism of a point: its chances, and for each payment its plus part less its minus part, over its denominator
+-- what agents pay at a point, by the rank of the profile, then by agent: for each payment its plus part less its minus part
+abbrev pub payments_in : GeneralSetting → (ℕ → ℤ) → List ℤ
+payments_in s x =
+    up_to (profile_count (sizes_of s)) (λ r. list_to (agent_count s) (λ i. payment_in s x i (profile_at (sizes_of s) r)))
+
+-- the mechanism of a point: its chances and its payments, over its denominator
 abbrev pub mechanism_of : GeneralSetting → ℤ → (ℕ → ℤ) → Mechanism
 mechanism_of s den x = record {
   den = den;
   chances = list_to (profile_count (sizes_of s) * outcome_count s) x;
-  pays = up_to (profile_count (sizes_of s)) (λ r. list_to (agent_count s) (λ i. payment_in s x i (profile_at (sizes_of s) r)));
+  pays = payments_in s x;
 }
 
 -- the positive and the negative part of a number, which is the first less the second

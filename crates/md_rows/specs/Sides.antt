@@ -6,7 +6,7 @@ use Rattle.md_space.specs.AllProfiles.{profiles_of}
 use Rattle.md_setting.specs.Setting.{GeneralSetting}
 use Rattle.md_setting.specs.Meaning.{agent_count, outcome_count, sizes_of, utility_of, outside_of, weight_of, marginal_of, value_of}
 use Rattle.md_mech.specs.Utility.{weighted_given}
-use Rattle.md_mech.specs.Rows.{Row, dominant_row, bayes_row, ex_post_row, interim_row, deficit_row, profile_row}
+use Rattle.md_mech.specs.Rows.{Condition, dominant_row, bayes_row, ex_post_row, interim_row, deficit_row, profile_row}
 use Rattle.md_lp.specs.declared.row_kind.RowKind.{RowKind}
 use Rattle.md_lp.specs.declared.row_kind.RowKind.TheVariants.{AtMost, Exact}
 use Rattle.md_rows.specs.Columns.{chance_column, payment_in}
@@ -29,7 +29,7 @@ abbrev pub lack_in : GeneralSetting → (ℕ → ℤ) → ℕ → List ℕ → �
 lack_in s x i t = neg_ℤ (utility_in s x i t t)
 
 -- the left side of a row
-abbrev pub left_side : GeneralSetting → Row → (ℕ → ℤ) → ℤ
+abbrev pub left_side : GeneralSetting → Condition → (ℕ → ℤ) → ℤ
 left_side s (dominant_row i t b) x = gain_in s x i b t
 left_side s (bayes_row i a b) x = weighted_given s i a (gain_in s x i b)
 left_side s (ex_post_row i t) x = lack_in s x i t
@@ -38,7 +38,7 @@ left_side s (deficit_row t) x = neg_ℤ (sum_to (agent_count s) (λ i. payment_i
 left_side s (profile_row t) x = sum_to (outcome_count s) (λ o. x (chance_column s t o))
 
 -- its right side
-abbrev pub right_side : GeneralSetting → Row → ℤ
+abbrev pub right_side : GeneralSetting → Condition → ℤ
 right_side s (dominant_row i t b) = pos 0
 right_side s (bayes_row i a b) = pos 0
 right_side s (ex_post_row i t) = neg_ℤ (outside_of s i (slice_index t i))
@@ -47,7 +47,7 @@ right_side s (deficit_row t) = pos 0
 right_side s (profile_row t) = pos 1
 
 -- what the left side is to be of the right side
-abbrev pub kind_of : Row → RowKind
+abbrev pub kind_of : Condition → RowKind
 kind_of (dominant_row i t b) = AtMost
 kind_of (bayes_row i a b) = AtMost
 kind_of (ex_post_row i t) = AtMost

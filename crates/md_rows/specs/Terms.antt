@@ -1,27 +1,11 @@
--- Terms that are written down column by column. Weights of profiles are terms too, whose columns are ranks.
-use Rattle.std.specs.Prelude.{ℕ, ◌≡◌, ◌≤◌, ◌+◌, ◌*◌, ℤ, ◌+ℤ◌, ◌*ℤ◌, List, All}
-use Rattle.md_math.specs.Sizes.{IsWithin}
-use Rattle.md_math.specs.Sums.{sum_to, total_by}
+-- What the terms of a row stand for: parts of lotteries and of payments, by weights of profiles.
+use Rattle.std.specs.Prelude.{ℕ, ◌+◌, ◌*◌, ℤ, ◌*ℤ◌}
+use Rattle.md_math.specs.Sums.{sum_to}
 use Rattle.md_space.specs.Profiles.{profile_count, profile_at, replaced}
 use Rattle.md_setting.specs.Setting.{GeneralSetting}
 use Rattle.md_setting.specs.Meaning.{outcome_count, sizes_of, utility_of}
 use Rattle.md_lp.specs.declared.term.Term.{Term}
-use Rattle.md_lp.specs.Shape.{HasPlaces}
 use Rattle.md_rows.specs.Columns.{payment_in}
-
--- the sum of the terms, each value times the number of its column
-abbrev pub sum_at : (ℕ → ℤ) → List Term → ℤ
-sum_at x terms = total_by (λ term. term.value *ℤ x term.column) terms
-
--- the terms stand at ascending columns below `next`, with values of at most the limit in size
-pub record AreTermsBelow (limit next : ℕ) (terms : List Term) : Type 0 where
-  pub places : HasPlaces next terms
-  pub sizes : All (λ term. IsWithin limit term.value) terms
-
--- terms at columns from `first` on and below `next` were added, which have this sum at each x
-pub record AddsTerms (limit first next : ℕ) (form : (ℕ → ℤ) → ℤ) (old new : List Term) : Type 0 where
-  pub below : (start : ℕ) → start ≤ first → AreTermsBelow limit start old → AreTermsBelow limit next new
-  pub sum : (x : ℕ → ℤ) → sum_at x new ≡ sum_at x old +ℤ form x
 
 -- what agent i has of the lottery at the rank of a share, by the share's weight, where it is of type a and the others report
 -- their true types

@@ -10,9 +10,9 @@ mod program;
 mod shares;
 mod terms;
 
-pub use mechanisms::mechanism_of;
+pub use mechanisms::{mechanism_of, payments_of};
 pub use points::point_of;
-pub use program::rows_of;
+pub use program::{push_rows, rows_of};
 
 #[cfg(test)]
 mod tests;

@@ -1,6 +1,6 @@
 //! The mechanism of a point.
 ghost use Rattle.std.specs.Prelude.{◌≡◌, ◌<◌, ◌++◌, length, IfOk, OnOk};
-ghost use Rattle.md_math.specs.Lists.{number_at, list_to, up_to};
+ghost use Rattle.md_math.specs.Lists.{number_at, list_to};
 ghost use Rattle.md_math.specs.Sizes.{IsWithin, AllWithin};
 ghost use Rattle.md_space.specs.Profiles.{profile_count, profile_at};
 ghost use Rattle.md_setting.specs.Meaning.{agent_count, outcome_count, sizes_of};
@@ -8,7 +8,7 @@ ghost use Rattle.md_setting.specs.Rows.{column_count};
 ghost use Rattle.md_mech.specs.Accepted.{IsAccepted, number_limit};
 ghost use Rattle.md_mech.specs.Admissible.{IsAdmissible};
 ghost use Rattle.md_rows.specs.Columns.{first_plus, payment_in};
-ghost use Rattle.md_rows.specs.Points.{mechanism_of, MeetsProgramOf};
+ghost use Rattle.md_rows.specs.Points.{mechanism_of, payments_in, MeetsProgramOf};
 
 use crate::layout::{first_minus, first_plus};
 use md_mech::Mechanism;
@@ -34,7 +34,7 @@ pub fn mechanism_of(
     Ok(Mechanism {
         den,
         chances: chances(alloc, setting, point)?,
-        pays: pays(alloc, setting, point)?,
+        pays: payments_of(alloc, setting, point)?,
     })
 }
 
@@ -49,10 +49,12 @@ fn chances(alloc: Global, setting: &Setting, point: &Nums) -> Result<Nums, NoMem
     Ok(chances)
 }
 
-fn pays(alloc: Global, setting: &Setting, point: &Nums) -> Result<Nums, NoMemory>
+/// What agents pay at a point, or by what a ray changes it, by the rank of the profile, then by agent: for each payment its
+/// plus part less its minus part.
+pub fn payments_of(alloc: Global, setting: &Setting, point: &Nums) -> Result<Nums, NoMemory>
     requires one_each { length point.now ≡ column_count setting.now }
     requires sizes { AllWithin number_limit point.now }
-    ensures { IfOk result (λ pays. pays ≡ up_to (profile_count (sizes_of setting.now)) (λ r. list_to (agent_count setting.now) (λ i. payment_in setting.now (number_at point.now) i (profile_at (sizes_of setting.now) r)))) }
+    ensures { IfOk result (λ pays. pays ≡ payments_in setting.now (number_at point.now)) }
 {
     let mut pays = Nums::new(alloc);
     for rank in 0..setting.space().profiles() {

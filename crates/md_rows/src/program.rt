@@ -1,16 +1,21 @@
 //! The linear program of a setting.
-ghost use Rattle.std.specs.Prelude.{◌≡◌, [], length, IfOk};
+ghost use Rattle.std.specs.Prelude.{◌≡◌, [], length, IfOk, OnOk};
 ghost use Rattle.md_setting.specs.Rows.{column_count};
 ghost use Rattle.md_setting.specs.Shaped.{IsShaped};
 ghost use Rattle.md_mech.specs.Rows.{rows_of};
 ghost use Rattle.md_lp.specs.Program.{row_count};
-ghost use Rattle.md_rows.specs.ProgramOf.{HasCostOf, HasEachRow, IsProgramOf};
+ghost use Rattle.md_forms.specs.ProgramOf.{HasCostOf};
+ghost use Rattle.md_rows.specs.Built.{HasRoom, Extends};
+ghost use Rattle.md_rows.specs.ProgramOf.{HasEachRow, IsProgramOf};
+ghost use Rattle.md_rows.specs.Sides.{cost_in};
 ghost use Rattle.md_rows.specs.Law.{AdmitsPoints, AdmitsMechanisms, CostsPoints, CostsMechanisms};
 
-use crate::conditions::{push_deficit, push_profiles, push_rational, push_truth, want_of};
+use crate::conditions::push_condition;
 use crate::costs::cost;
 use crate::layout::columns;
+use md_forms::want_of;
 use md_lp::Lp;
+use md_mech::condition_at;
 use md_num::NoMemory;
 use md_setting::Setting;
 use std::alloc::Global;
@@ -30,17 +35,26 @@ pub fn rows_of(alloc: Global, setting: &Setting) -> Result<Lp, NoMemory>
     ensures costs_mechanisms { IfOk result (CostsMechanisms setting.now) }
 {
     let mut lp = without_rows(alloc, setting)?;
-    push_truth(alloc, setting, &mut lp)?;
-    push_rational(alloc, setting, &mut lp)?;
-    push_deficit(alloc, setting, &mut lp)?;
-    push_profiles(alloc, setting, &mut lp)?;
+    push_rows(alloc, setting, &mut lp)?;
     Ok(lp)
+}
+
+/// Appends a row for each condition of a setting, in their order, to a program that has the columns of the setting's
+/// program and maybe more behind them. Each row is divided by its greatest common divisor.
+pub fn push_rows(alloc: Global, setting: &Setting, lp: &mut Lp) -> Result<(), NoMemory>
+    requires { HasRoom setting.now (rows_of setting.now) lp.old }
+    ensures { OnOk result (Extends setting.now (rows_of setting.now) lp.old lp.new) }
+{
+    for row in 0..setting.rows() {
+        push_condition(alloc, setting, condition_at(setting, row), lp)?;
+    }
+    Ok(())
 }
 
 // The program with its columns and its cost.
 fn without_rows(alloc: Global, setting: &Setting) -> Result<Lp, NoMemory>
     ensures columns { IfOk result (λ lp. lp.columns ≡ column_count setting.now) }
-    ensures cost { IfOk result (HasCostOf setting.now) }
+    ensures cost { IfOk result (HasCostOf (column_count setting.now) (cost_in setting.now)) }
     ensures no_row { IfOk result (λ lp. lp.rows ≡ []) }
     ensures shaped { IfOk result (λ _. IsShaped setting.now) }
 {

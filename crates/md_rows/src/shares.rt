@@ -4,10 +4,10 @@ ghost use Rattle.md_math.specs.Sizes.{IsWithin};
 ghost use Rattle.md_math.specs.Sums.{sum_to};
 ghost use Rattle.md_space.specs.Profiles.{profile_count, profile_at, rank_of, replaced};
 ghost use Rattle.md_setting.specs.Meaning.{agent_count, sizes_of};
+ghost use Rattle.md_forms.specs.Terms.{sum_at, AreTermsBelow, AddsTerms};
 ghost use Rattle.md_rows.specs.Shares.{bayes_share, interim_share};
-ghost use Rattle.md_rows.specs.Terms.{sum_at, AreTermsBelow, AddsTerms};
 
-use crate::terms::push_term;
+use md_forms::push_term;
 use md_lp::Term;
 use md_num::NoMemory;
 use md_setting::Setting;

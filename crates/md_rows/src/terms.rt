@@ -6,23 +6,17 @@ ghost use Rattle.md_space.specs.Profiles.{profile_count, profile_at};
 ghost use Rattle.md_setting.specs.Meaning.{agent_count, outcome_count, sizes_of, utility_of};
 ghost use Rattle.md_setting.specs.Rows.{column_count};
 ghost use Rattle.md_mech.specs.Rows.{deficit_row, profile_row};
+ghost use Rattle.md_forms.specs.Terms.{sum_at, AreTermsBelow, AddsTerms};
 ghost use Rattle.md_rows.specs.Columns.{first_plus, first_minus};
 ghost use Rattle.md_rows.specs.Sides.{utility_as, left_side};
-ghost use Rattle.md_rows.specs.Terms.{sum_at, AreTermsBelow, AddsTerms, chances_at, part_at, paid_at, part_of_all};
+ghost use Rattle.md_rows.specs.Terms.{chances_at, part_at, paid_at, part_of_all};
 
 use crate::layout::{first_minus, first_plus};
+use md_forms::push_term;
 use md_lp::Term;
 use md_num::{NoMemory, product};
 use md_setting::Setting;
 use std::alloc::Global;
-
-/// Appends a term.
-pub(crate) fn push_term(terms: &mut Vec<Term>, column: u32, value: i128) -> Result<(), NoMemory>
-    ensures { OnOk result ((limit : ℕ) → IsWithin limit value → AddsTerms limit column (column + 1) (λ x. value *ℤ x column) terms.old.items terms.new.items) }
-{
-    terms.push(Term { column, value })?;
-    Ok(())
-}
 
 /// The weighted utility of an agent of a type: `shares` has the weight of its utility at each profile of reports, at the
 /// profile's rank. The others report their true types.

@@ -5,146 +5,51 @@ use super::*;
 use md_lp::{Lp, RowKind};
 use md_mech::{Mechanism, audit};
 use md_num::{NoMemory, Nums};
-use md_setting::{Rational, RawAgent, RawSetting, Setting, Truth};
+use md_samples::{SampleAgent, Utility, choice, lemon, sale, unmet};
+use md_setting::{Rational, RawSetting, Setting, Truth};
 use std::alloc::{AllocError, Global};
 use std::process::Abort;
 use std::test::Fail;
 
-fn names(alloc: Global, words: &[&str]) -> Result<Vec<String>, AllocError> {
-    let mut list = Vec::new(alloc);
-    for word in words {
-        list.push(String::from_str(alloc, word)?)?;
-    }
-    Ok(list)
-}
-
-fn nums(alloc: Global, numbers: &[i128]) -> Result<Nums, NoMemory> {
-    let mut list = Nums::new(alloc);
-    for number in numbers {
-        list.push(*number)?;
-    }
-    Ok(list)
-}
-
-// An agent of one type, which has 1 outside.
-fn guest(alloc: Global, utility: &[i64]) -> Result<RawAgent, AllocError> {
-    Ok(RawAgent {
-        name: String::from_str(alloc, "a")?,
-        types: names(alloc, &["t"])?,
-        weights: vec![in alloc; 1]?,
-        outside: vec![in alloc; 1]?,
-        utility: vec![in alloc; Vec::from_slice(alloc, utility)?]?,
-        at: None,
-    })
-}
-
 // A setting with one guest, who may stay outside.
-fn party(
-    alloc: Global,
-    utility: &[i64],
-    outcomes: &[&str],
-    values: &[i64],
-) -> Result<RawSetting, AllocError> {
-    Ok(RawSetting {
-        agents: vec![in alloc; guest(alloc, utility)?]?,
-        outcomes: names(alloc, outcomes)?,
-        prior: None,
-        values: Vec::from_slice(alloc, values)?,
-        welfare: 0,
-        revenue: 0,
-        truth: Truth::Dominant,
-        rational: Rational::ExPost,
-        payments: false,
-        no_deficit: false,
-    })
-}
-
-// One buyer of two types, who pays.
-fn sale(alloc: Global) -> Result<RawSetting, AllocError> {
-    let buyer = RawAgent {
-        name: String::from_str(alloc, "buyer")?,
-        types: names(alloc, &["low", "high"])?,
-        weights: vec![in alloc; 1, 2]?,
-        outside: vec![in alloc; 0, 0]?,
-        utility: vec![in alloc; vec![in alloc; 0, 1]?, vec![in alloc; 0, 3]?]?,
-        at: None,
-    };
-    Ok(RawSetting {
-        agents: vec![in alloc; buyer]?,
-        outcomes: names(alloc, &["keep", "sell"])?,
-        prior: None,
-        values: vec![in alloc; 0, 0]?,
-        welfare: 0,
-        revenue: 1,
-        truth: Truth::Dominant,
-        rational: Rational::ExPost,
-        payments: true,
-        no_deficit: false,
-    })
+fn alone(alloc: Global) -> Result<RawSetting, AllocError> {
+    let mut raw = unmet(alloc)?;
+    raw.revenue = 0;
+    Ok(raw)
 }
 
 // Two agents with a joint prior, of whom the first has two types; both pay, with no deficit.
 fn pair(alloc: Global) -> Result<RawSetting, AllocError> {
-    let first = RawAgent {
-        name: String::from_str(alloc, "one")?,
-        types: names(alloc, &["l", "h"])?,
-        weights: Vec::new(alloc),
-        outside: vec![in alloc; 0, 1]?,
-        utility: vec![in alloc; vec![in alloc; 1]?, vec![in alloc; 3]?]?,
-        at: None,
+    let first = SampleAgent {
+        name: "one",
+        types: &["l", "h"],
+        weights: &[],
+        outside: &[0, 1],
+        utility: Utility::ByType(&[&[1], &[3]]),
     };
-    let second = RawAgent {
-        name: String::from_str(alloc, "two")?,
-        types: names(alloc, &["z"])?,
-        weights: Vec::new(alloc),
-        outside: vec![in alloc; 1]?,
-        utility: vec![in alloc; vec![in alloc; 2]?]?,
-        at: None,
+    let second = SampleAgent {
+        name: "two",
+        types: &["z"],
+        weights: &[],
+        outside: &[1],
+        utility: Utility::ByType(&[&[2]]),
     };
-    Ok(RawSetting {
-        agents: vec![in alloc; first, second]?,
-        outcomes: names(alloc, &["o"])?,
-        prior: Some(vec![in alloc; 1, 2]?),
-        values: vec![in alloc; 0]?,
-        welfare: 1,
-        revenue: 1,
-        truth: Truth::Bayes,
-        rational: Rational::Interim,
-        payments: true,
-        no_deficit: true,
-    })
+    let mut raw = md_samples::setting(alloc, &[first, second], &["o"], &[0])?;
+    raw.prior = Some(vec![in alloc; 1, 2]?);
+    raw.welfare = 1;
+    raw.truth = Truth::Bayes;
+    raw.rational = Rational::Interim;
+    raw.no_deficit = true;
+    Ok(raw)
 }
 
 // A good or bad item, and a buyer who has 1 of the good one and loses 1 by the bad one.
 fn sight(alloc: Global) -> Result<RawSetting, AllocError> {
-    let seller = RawAgent {
-        name: String::from_str(alloc, "first")?,
-        types: names(alloc, &["good", "bad"])?,
-        weights: vec![in alloc; 1, 1]?,
-        outside: vec![in alloc; 0, 0]?,
-        utility: vec![in alloc; vec![in alloc; 0, 0]?, vec![in alloc; 0, 0]?]?,
-        at: None,
-    };
-    let buyer = RawAgent {
-        name: String::from_str(alloc, "second")?,
-        types: names(alloc, &["s"])?,
-        weights: vec![in alloc; 1]?,
-        outside: vec![in alloc; 0]?,
-        utility: Vec::new(alloc),
-        at: Some(vec![in alloc; vec![in alloc; 0, 1]?, vec![in alloc; 0, -1]?]?),
-    };
-    Ok(RawSetting {
-        agents: vec![in alloc; seller, buyer]?,
-        outcomes: names(alloc, &["no", "yes"])?,
-        prior: None,
-        values: vec![in alloc; 0, 0]?,
-        welfare: 1,
-        revenue: 0,
-        truth: Truth::Dominant,
-        rational: Rational::ExPost,
-        payments: false,
-        no_deficit: false,
-    })
+    let mut raw = lemon(alloc)?;
+    raw.welfare = 1;
+    raw.revenue = 0;
+    raw.payments = false;
+    Ok(raw)
 }
 
 // A row that is wanted: its kind, its numbers by column, and its right side.
@@ -368,14 +273,12 @@ static SIGHT: [Wanted; 8] = [
 #[test]
 fn writes_the_rows_of_settings(rt: HostRuntime) -> Result<(), Fail> {
     let alloc = rt.alloc();
-    let alone = party(alloc, &[0], &["only"], &[0])?;
-    judge(&rt, alloc, alone, 1, &[0], &ALONE)?;
-    let choice = party(alloc, &[1, 0], &["x", "y"], &[0, 5])?;
-    judge(&rt, alloc, choice, 5, &[0, 1], &CHOICE)?;
+    judge(&rt, alloc, alone(alloc)?, 1, &[0], &ALONE)?;
+    judge(&rt, alloc, choice(alloc)?, 5, &[0, 1], &CHOICE)?;
     judge(
         &rt,
         alloc,
-        sale(alloc)?,
+        sale(alloc, 3, 2)?,
         1,
         &[0, 0, 0, 0, 1, 2, -1, -2],
         &SALE,
@@ -409,11 +312,12 @@ fn there_and_back(
 #[test]
 fn a_mechanism_comes_back_from_its_point(rt: HostRuntime) -> Result<(), Fail> {
     let alloc = rt.alloc();
-    let Ok(setting) = Setting::new(alloc, sale(alloc)?) else {
+    let Ok(setting) = Setting::new(alloc, sale(alloc, 3, 2)?) else {
         return Err("no setting")?;
     };
-    let chances = nums(alloc, &[2, 0, 1, 1])?;
-    let Ok(mechanism) = Mechanism::new(&setting, 2, chances, nums(alloc, &[-1, 1])?) else {
+    let chances = Nums::from_slice(alloc, &[2, 0, 1, 1])?;
+    let Ok(mechanism) = Mechanism::new(&setting, 2, chances, Nums::from_slice(alloc, &[-1, 1])?)
+    else {
         return Err("no mechanism")?;
     };
     if audit(&setting, &mechanism).is_some() {

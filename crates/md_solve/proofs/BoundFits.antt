@@ -7,7 +7,7 @@ use Rattle.md_lp.specs.Program.{Program, row_count}
 use Rattle.md_cert.specs.declared.bound.Bound.{Bound}
 use Rattle.md_cert.specs.Fitting.{FitsRows, FitsBound}
 use Rattle.md_rows.specs.ProgramOf.{IsProgramOf}
-use Rattle.md_rows.proofs.CountLaws.{conditions-length}
+use Rattle.md_mech.proofs.CountLaws.{conditions-length}
 use Rattle.md_rows.proofs.BuiltLaws.{rows-length}
 use Rattle.md_answer.specs.AnswerTo.{AreMultipliers, IsBoundFor}
 

@@ -19,9 +19,7 @@ use Rattle.md_lp.specs.Program.{Program, kind_at}
 use Rattle.md_lp.specs.Point.{Meets, cost_sum}
 use Rattle.md_lp.proofs.Dividing.{IsDivisorFor-positive}
 use Rattle.md_cert.specs.Certified.{IsOptimalCertified, IsUnboundedCertified}
-use Rattle.md_cert.specs.Claims.{GrowsAlong, along}
 use Rattle.md_cert.specs.Pairs.{RayKeeps}
-use Rattle.md_cert.proofs.Duality.{unbounded-claim}
 use Rattle.md_rows.specs.Columns.{chance_column, first_plus, payment_in}
 use Rattle.md_rows.specs.Points.{mechanism_of, point_of, plus_part, minus_part, parts, payment_parts}
 use Rattle.md_rows.specs.ProgramOf.{cost_of, IsProgramOf}
@@ -29,7 +27,8 @@ use Rattle.md_rows.proofs.FormLaws.{payment-off}
 use Rattle.md_rows.proofs.Law.{admits-mechanisms, admits-points, costs-points, costs-mechanisms}
 use Rattle.md_rows.proofs.PointLaws.{agrees-mechanism_of, place-below}
 use Rattle.md_claims.specs.Rays.{pays_along, paying, ray_of}
-use Rattle.md_claims.proofs.RayLaws.{ray-at_chance, pays-along_ray}
+use Rattle.md_claims.proofs.RayLaws.{pays-along_ray}
+use Rattle.md_claims.proofs.SettingClaims.{with_laws, no_chance}
 use Rattle.md_solve.proofs.SameForms.{IsSameForm, sums-same, cost-same}
 
 -- ---- the point of the mechanism of a point
@@ -45,7 +44,7 @@ module _ (s : GeneralSetting) (p : Program) (is : IsProgramOf s p) (den : ℤ) (
   meets-there = (admits-points s p is (mechanism_of s den x) admissible.mechanism).1 admissible
 
   above : pos 0 <ℤ p.factor
-  above = IsDivisorFor-positive (column_count s) (cost_of s) p.factor is.cost.factor
+  above = IsDivisorFor-positive (column_count s) (cost_of s) p.factor is.has_cost.factor
 
   cost-there : cost_sum p there ≡ cost_sum p x
   cost-there =
@@ -107,14 +106,6 @@ module _ (s : GeneralSetting) (p : Program) (is : IsProgramOf s p) (den : ℤ) (
   abbrev pub along_pays : ℕ → ℤ
   along_pays = number_at (ray_of s (pays_along s ray))
 
-  claim : GrowsAlong p den x ray
-  claim = unbounded-claim p den x ray c
-
-  zero-chance : (r o : ℕ) → r < profile_count (sizes_of s) → o < outcome_count s → ray (r * outcome_count s + o) ≡ pos 0
-  zero-chance =
-      ray-at_chance s den x ray (admits-mechanisms s p is den x c.meets).mechanism (admits-mechanisms s p is den (along x 1 ray) (claim.meets 1)).mechanism
-      (λ j below. c.nonneg j (omega (arith, below, is.columns)))
-
   same-pay : (i : ℕ) (t : List ℕ) → i < agent_count s → IsProfile (sizes_of s) t → payment_in s along_pays i t ≡ payment_in s ray i t
   same-pay i t l b = elim (cases_Bool s.payments) [
     | inl on ↦
@@ -128,14 +119,14 @@ module _ (s : GeneralSetting) (p : Program) (is : IsProgramOf s p) (den : ℤ) (
   same = record {
     chance = λ t o b l.
         ray-zero s (pays_along s ray) (chance_column s t o) (place-below (rank_of (sizes_of s) t) (profile_count (sizes_of s)) (outcome_count s) o (rank_of-below (sizes_of s) t b) l)
-        ∙ sym (zero-chance (rank_of (sizes_of s) t) o (rank_of-below (sizes_of s) t b) l);
+        ∙ sym (no_chance s p den x ray (with_laws s p is) c (rank_of (sizes_of s) t) o (rank_of-below (sizes_of s) t b) l);
     pay = same-pay;
   }
 
   gain-same : cost_sum p along_pays ≡ cost_sum p ray
   gain-same =
-      *ℤ_cancel p.factor (cost_sum p along_pays) (cost_sum p ray) (IsDivisorFor-positive (column_count s) (cost_of s) p.factor is.cost.factor)
-      (sym (is.cost.cost along_pays) ∙ cost-same s along_pays ray same ∙ is.cost.cost ray)
+      *ℤ_cancel p.factor (cost_sum p along_pays) (cost_sum p ray) (IsDivisorFor-positive (column_count s) (cost_of s) p.factor is.has_cost.factor)
+      (sym (is.has_cost.cost_is along_pays) ∙ cost-same s along_pays ray same ∙ is.has_cost.cost_is ray)
 
   pub unbounded-there : IsUnboundedCertified p den (number_at (point_of s (mechanism_of s den x))) along_pays
   unbounded-there = record {

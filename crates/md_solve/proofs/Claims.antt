@@ -20,11 +20,9 @@ use Rattle.md_cert.proofs.Duality.{optimal-claim, infeasible-claim}
 use Rattle.md_cert.proofs.SameCertificates.{certified-same}
 use Rattle.md_rows.specs.ProgramOf.{IsProgramOf}
 use Rattle.md_rows.specs.Points.{mechanism_of, point_of}
-use Rattle.md_rows.proofs.Law.{admits-mechanisms, admits-points, costs-points, costs-mechanisms}
 use Rattle.md_rows.proofs.OneProgram.{same_program}
-use Rattle.md_claims.specs.Laws.{IsProgramWithLaws}
 use Rattle.md_claims.specs.Rays.{ray_of}
-use Rattle.md_claims.proofs.SettingClaims.{optimal, infeasible, grows}
+use Rattle.md_claims.proofs.SettingClaims.{with_laws, optimal, infeasible, grows}
 use Rattle.md_lp.specs.declared.wide.Wide.{Wide}
 use Rattle.md_simplex.specs.declared.simplex_error.SimplexError.{SimplexError}
 use Rattle.md_simplex.specs.declared.simplex_error.SimplexError.TheVariants as errors
@@ -37,7 +35,8 @@ use Rattle.md_solve.specs.Answered.{WhereOptimal, WhereInfeasible, WhereUnbounde
 use Rattle.md_solve.specs.Bounds.{HasNoBound}
 use Rattle.md_solve.specs.Certifies.{IsCertifiedAnswer}
 use Rattle.md_solve.specs.Shown.{IsSo}
-use Rattle.md_solve.specs.Solved.{IsValueOf, TellsCertificate}
+use Rattle.md_mech.specs.Value.{IsValueOf}
+use Rattle.md_solve.specs.Solved.{TellsCertificate}
 use Rattle.md_solve.proofs.Certificates.{optimal-there, unbounded-there}
 
 -- ---- results
@@ -55,9 +54,6 @@ pub not-memory : (first second : Wide) → errors.TooWide first second ≡ error
 not-memory first second same = subst IsNoMemory same tt
 
 -- ---- claims
-
-with_laws : (s : GeneralSetting) (p : Program) → IsProgramOf s p → IsProgramWithLaws s p
-with_laws s p is = record { program = is; admits_points = admits-points s p is; admits_mechanisms = admits-mechanisms s p is; costs_points = costs-points s p is; costs_mechanisms = costs-mechanisms s p is }
 
 pub so : (s : GeneralSetting) (p : Program) (c : Certificate) (answer : Answer) → IsProgramOf s p → Certified p c → TellsCertificate s c answer → IsSo s answer
 so s p (certificates.Optimal den point bound) (Optimal value m told) is c h = (

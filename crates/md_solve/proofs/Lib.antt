@@ -1,5 +1,4 @@
 pub mod RayLists
-pub mod ValueLaws
 pub mod SameForms
 pub mod Certificates
 pub mod Claims

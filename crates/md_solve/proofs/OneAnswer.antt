@@ -26,7 +26,8 @@ use Rattle.md_simplex.proofs.RunLaws.{one_first_wide, taken_not_left}
 use Rattle.md_answer.specs.declared.answer.Answer.{Answer}
 use Rattle.md_answer.specs.declared.answer.Answer.TheVariants.{Table, Optimal, Infeasible, Unbounded, TooWide}
 use Rattle.md_solve.specs.Shown.{IsSo}
-use Rattle.md_solve.specs.Solved.{IsSecondWide, IsSolvedBy, IsValueOf, TellsCertificate, TellsRun}
+use Rattle.md_mech.specs.Value.{IsValueOf}
+use Rattle.md_solve.specs.Solved.{IsSecondWide, IsSolvedBy, TellsCertificate, TellsRun}
 
 -- ---- one value
 

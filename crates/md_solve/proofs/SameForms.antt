@@ -14,7 +14,7 @@ use Rattle.md_setting.specs.Setting.{GeneralSetting}
 use Rattle.md_setting.specs.Meaning.{agent_count, outcome_count, sizes_of, utility_of, weight_of, value_of}
 use Rattle.md_setting.specs.Rows.{column_count}
 use Rattle.md_mech.specs.Utility.{weighted_given}
-use Rattle.md_mech.specs.Rows.{Row as Condition, dominant_row, bayes_row, ex_post_row, interim_row, deficit_row, profile_row, rows_of}
+use Rattle.md_mech.specs.Rows.{Condition, dominant_row, bayes_row, ex_post_row, interim_row, deficit_row, profile_row, rows_of}
 use Rattle.md_mech.proofs.RowLaws.{one-all}
 use Rattle.md_lp.specs.declared.row_kind.RowKind.TheVariants.{AtMost}
 use Rattle.md_lp.specs.Program.{Program, Row, row_count, row_at, left_of}
@@ -22,7 +22,9 @@ use Rattle.md_lp.specs.Point.{row_sum}
 use Rattle.md_lp.proofs.Dividing.{IsDivisorFor-positive}
 use Rattle.md_rows.specs.Columns.{chance_column, payment_in}
 use Rattle.md_rows.specs.Sides.{utility_in, gain_in, lack_in, left_side, objective_in, cost_in}
-use Rattle.md_rows.specs.ProgramOf.{number_of, IsRowOf, AreRowsOf, IsProgramOf}
+use Rattle.md_forms.specs.Forms.{number_of}
+use Rattle.md_forms.specs.ProgramOf.{IsRowOf, AreRowsOf}
+use Rattle.md_rows.specs.ProgramOf.{form_of, forms_of, IsProgramOf}
 use Rattle.md_rows.proofs.Law.{IsPlaced, conditions-placed}
 
 -- the same chances, and the same payments
@@ -61,12 +63,12 @@ side-same s x y (profile_row t) same h = sum_to-same (outcome_count s) (λ o. x 
 
 -- ---- rows
 
-left-same : (s : GeneralSetting) (x y : ℕ → ℤ) (c : Condition) (row : Row) → IsSameForm s x y → IsPlaced s c → IsRowOf s c row → left_of (column_count s) row x ≡ left_of (column_count s) row y
+left-same : (s : GeneralSetting) (x y : ℕ → ℤ) (c : Condition) (row : Row) → IsSameForm s x y → IsPlaced s c → IsRowOf (column_count s) (form_of s c) row → left_of (column_count s) row x ≡ left_of (column_count s) row y
 left-same s x y c row same placed h =
-    *ℤ_cancel h.by (left_of (column_count s) row x) (left_of (column_count s) row y) (IsDivisorFor-positive (suc (column_count s)) (number_of s c) h.by h.divisor)
+    *ℤ_cancel h.by (left_of (column_count s) row x) (left_of (column_count s) row y) (IsDivisorFor-positive (suc (column_count s)) (number_of (form_of s c)) h.by h.divisor)
     (sym (h.left x) ∙ side-same s x y c same placed ∙ h.left y)
 
-lefts-same : (s : GeneralSetting) (x y : ℕ → ℤ) (cs : List Condition) (ps : List Row) → IsSameForm s x y → All (IsPlaced s) cs → AreRowsOf s cs ps
+lefts-same : (s : GeneralSetting) (x y : ℕ → ℤ) (cs : List Condition) (ps : List Row) → IsSameForm s x y → All (IsPlaced s) cs → AreRowsOf (column_count s) (forms_of s cs) ps
     → (r : ℕ) (d : Row) → r < length ps → left_of (column_count s) (get_or ps r d) x ≡ left_of (column_count s) (get_or ps r d) y
 lefts-same s x y [] [] same placed are r d b = absurd (omega arith)
 lefts-same s x y [] (row ∷ ps) same placed are r d b = absurd are

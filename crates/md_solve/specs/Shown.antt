@@ -1,9 +1,9 @@
 -- What an answer claims of its setting.
 use Rattle.md_setting.specs.Setting.{GeneralSetting}
 use Rattle.md_mech.specs.Optimal.{Grows, IsInfeasible, IsOptimal}
+use Rattle.md_mech.specs.Value.{IsValueOf}
 use Rattle.md_answer.specs.declared.answer.Answer.{Answer}
 use Rattle.md_answer.specs.declared.answer.Answer.TheVariants.{Table, Optimal, Infeasible, Unbounded, TooWide}
-use Rattle.md_solve.specs.Solved.{IsValueOf}
 
 -- what the answer claims is so, over mechanisms of any denominator; a mechanism of which nothing is claimed is no answer
 abbrev pub IsSo : GeneralSetting → Answer → Type 0

@@ -1,12 +1,8 @@
 -- The answer to a setting: what is read off the last dictionary of the taken path of its program, or the first wide basis of each path.
-use Rattle.std.specs.Prelude.{◌≡◌, ℕ, ◌*ℤ◌, [], Option, None, Some}
-use Rattle.md_math.specs.Divisors.{IsLeastTerms}
+use Rattle.std.specs.Prelude.{◌≡◌, ℕ, [], Option, None, Some}
 use Rattle.md_math.specs.Lists.{number_at}
-use Rattle.md_num.specs.declared.frac.Frac.{Frac}
 use Rattle.md_setting.specs.Setting.{GeneralSetting}
-use Rattle.md_setting.specs.Meaning.{total_of}
-use Rattle.md_mech.specs.declared.mechanism.Mechanism.{Mechanism}
-use Rattle.md_mech.specs.Optimal.{worth_of}
+use Rattle.md_mech.specs.Value.{IsValueOf}
 use Rattle.md_lp.specs.Program.{Program}
 use Rattle.md_lp.specs.declared.wide.Wide.{Wide}
 use Rattle.md_cert.specs.declared.certificate.Certificate.{Certificate}
@@ -19,12 +15,6 @@ use Rattle.md_simplex.specs.declared.order.Order.TheVariants.{Forward, Backward}
 use Rattle.md_simplex.specs.Runs.{IsRun, IsFirstWideOf}
 use Rattle.md_answer.specs.declared.answer.Answer.{Answer}
 use Rattle.md_answer.specs.declared.answer.Answer.TheVariants.{Optimal, Infeasible, Unbounded, TooWide}
-
--- the value of the mechanism: what the designer gets over all profiles by weight, over the denominator times the weight
--- of all profiles, in least terms
-pub record IsValueOf (s : GeneralSetting) (m : Mechanism) (value : Frac) : Type 0 where
-  pub is_value : value.num *ℤ (m.den *ℤ total_of s) ≡ worth_of s m *ℤ value.den
-  pub least : IsLeastTerms value.num value.den
 
 -- the answer tells a certificate of the setting's program: its point as a mechanism with its value, its ray as payments,
 -- and its multipliers as they are

@@ -11,14 +11,12 @@ ghost use Rattle.md_rows.specs.ProgramOf.{IsProgramOf};
 ghost use Rattle.md_answer.specs.AnswerTo.{IsAnswerTo};
 ghost use Rattle.md_solve.specs.Solved.{TellsCertificate};
 
-use crate::payments::pays_along;
-use crate::values::value_of;
 use md_answer::Answer;
 use md_cert::{Bound, Certificate};
 use md_lp::Lp;
-use md_mech::Mechanism;
+use md_mech::{Mechanism, worth};
 use md_num::{NoMemory, Nums};
-use md_rows::mechanism_of;
+use md_rows::{mechanism_of, payments_of};
 use md_setting::Setting;
 use std::alloc::Global;
 
@@ -63,7 +61,7 @@ fn optimal(
 {
     let mechanism = mechanism(alloc, setting, lp, den, point)?;
     Ok(Answer::Optimal {
-        value: value_of(setting, &mechanism),
+        value: worth(setting, &mechanism),
         mechanism,
         bound,
     })
@@ -86,7 +84,7 @@ fn unbounded(
 {
     Ok(Answer::Unbounded {
         mechanism: mechanism(alloc, setting, lp, den, point)?,
-        ray: pays_along(alloc, setting, ray)?,
+        ray: payments_of(alloc, setting, ray)?,
     })
 }
 

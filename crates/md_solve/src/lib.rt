@@ -2,9 +2,7 @@
 #![tactic(auto)]
 
 mod answers;
-mod payments;
 mod solving;
-mod values;
 
 pub use solving::solve;
 

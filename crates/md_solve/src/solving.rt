@@ -4,6 +4,7 @@ ghost use Rattle.md_lp.specs.Program.{Program};
 ghost use Rattle.md_lp.specs.declared.pivot.Pivot.{Pivot};
 ghost use Rattle.md_mech.specs.Admissible.{IsAdmissible};
 ghost use Rattle.md_mech.specs.Optimal.{Grows, IsInfeasible, IsOptimal};
+ghost use Rattle.md_mech.specs.Value.{IsValueOf};
 ghost use Rattle.md_rows.specs.ProgramOf.{IsProgramOf};
 ghost use Rattle.md_simplex.specs.declared.order.Order.{Order};
 ghost use Rattle.md_simplex.specs.declared.step.Step.{Step};
@@ -14,7 +15,7 @@ ghost use Rattle.md_solve.specs.Answered.{ClaimsEnd, ClaimsInfeasible, ClaimsUnb
 ghost use Rattle.md_solve.specs.Bounds.{HasNoBound};
 ghost use Rattle.md_solve.specs.Certifies.{IsCertifiedAnswer};
 ghost use Rattle.md_solve.specs.Shown.{IsSo};
-ghost use Rattle.md_solve.specs.Solved.{IsSolved, IsSolvedBy, IsValueOf};
+ghost use Rattle.md_solve.specs.Solved.{IsSolved, IsSolvedBy};
 
 use crate::answers::told;
 use md_answer::Answer;

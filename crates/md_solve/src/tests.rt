@@ -2,65 +2,10 @@
 use super::*;
 use md_answer::write_answer;
 use md_num::Width;
-use md_setting::{Rational, RawAgent, RawSetting, Setting, Truth};
+use md_samples::{sale, unbounded, unmet};
+use md_setting::{RawSetting, Setting};
 use std::alloc::{AllocError, Global};
 use std::test::Fail;
-
-fn names(alloc: Global, texts: &[&str]) -> Result<Vec<String>, AllocError> {
-    let mut names = Vec::new(alloc);
-    for text in texts {
-        names.push(String::from_str(alloc, text)?)?;
-    }
-    Ok(names)
-}
-
-// A seller, and a buyer whose value is 1 or `high`.
-fn buyer(alloc: Global, high: i64) -> Result<RawSetting, AllocError> {
-    let agent = RawAgent {
-        name: String::from_str(alloc, "buyer")?,
-        types: names(alloc, &["low", "high"])?,
-        weights: vec![in alloc; 1, 1]?,
-        outside: vec![in alloc; 0, 0]?,
-        utility: vec![in alloc; vec![in alloc; 0, 1]?, vec![in alloc; 0, high]?]?,
-        at: None,
-    };
-    Ok(RawSetting {
-        agents: vec![in alloc; agent]?,
-        outcomes: names(alloc, &["keep", "sell"])?,
-        prior: None,
-        values: vec![in alloc; 0, 0]?,
-        welfare: 0,
-        revenue: 1,
-        truth: Truth::Dominant,
-        rational: Rational::ExPost,
-        payments: true,
-        no_deficit: false,
-    })
-}
-
-// One agent of one type, which has 1 outside, and one outcome, which gives it nothing.
-fn lone(alloc: Global, rational: Rational, payments: bool) -> Result<RawSetting, AllocError> {
-    let agent = RawAgent {
-        name: String::from_str(alloc, "a")?,
-        types: names(alloc, &["t"])?,
-        weights: vec![in alloc; 1]?,
-        outside: vec![in alloc; 1]?,
-        utility: vec![in alloc; vec![in alloc; 0]?]?,
-        at: None,
-    };
-    Ok(RawSetting {
-        agents: vec![in alloc; agent]?,
-        outcomes: names(alloc, &["only"])?,
-        prior: None,
-        values: vec![in alloc; 0]?,
-        welfare: 0,
-        revenue: 1,
-        truth: Truth::Dominant,
-        rational,
-        payments,
-        no_deficit: false,
-    })
-}
 
 // What is to be solved.
 #[derive(Clone, Copy)]
@@ -72,9 +17,9 @@ enum Problem {
 
 fn raw(alloc: Global, problem: Problem) -> Result<RawSetting, AllocError> {
     match problem {
-        Problem::Buyer(high) => buyer(alloc, high),
-        Problem::Unmet => lone(alloc, Rational::ExPost, false),
-        Problem::Unbounded => lone(alloc, Rational::None, true),
+        Problem::Buyer(high) => sale(alloc, high, 1),
+        Problem::Unmet => unmet(alloc),
+        Problem::Unbounded => unbounded(alloc),
     }
 }
 

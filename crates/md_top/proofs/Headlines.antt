@@ -23,7 +23,8 @@ use Rattle.md_check.specs.declared.verdict.Verdict.TheVariants.{Valid}
 use Rattle.md_solve.specs.Certifies.{IsCertifiedAnswer}
 use Rattle.md_solve.specs.Answered.{ClaimsEnd, ClaimsInfeasible, ClaimsUnbounded, IsMechanismAlone, IsTooWide, WhereInfeasible, WhereOptimal, WhereUnbounded}
 use Rattle.md_solve.specs.Bounds.{HasNoBound}
-use Rattle.md_solve.specs.Solved.{IsSolved, IsSolvedBy, IsValueOf}
+use Rattle.md_mech.specs.Value.{IsValueOf}
+use Rattle.md_solve.specs.Solved.{IsSolved, IsSolvedBy}
 use Rattle.md_top.specs.Headline.{IsEndStatus, IsHeadline}
 use Rattle.md_top.specs.Solving.{status_of_answer}
 

@@ -19,7 +19,7 @@ use Rattle.md_answer.specs.declared.answer.Answer.TheVariants.{Optimal, Infeasib
 use Rattle.md_check.specs.Verdicts.{IsVerdict}
 use Rattle.md_check.specs.declared.verdict.Verdict.TheVariants.{Valid}
 use Rattle.md_solve.specs.Bounds.{HasNoBound}
-use Rattle.md_solve.specs.Solved.{IsValueOf}
+use Rattle.md_mech.specs.Value.{IsValueOf}
 
 -- a mechanism that is admissible, and than which no admissible mechanism of any denominator has a greater objective, with its value; the checker finds the answer valid
 pub record PrintsOptimal (s : GeneralSetting) (text : List ℕ) : Type 0 where

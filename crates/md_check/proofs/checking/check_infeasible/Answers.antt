@@ -2,7 +2,7 @@ use Rattle.std.proofs.Common.{sym, subst}
 use Rattle.md_cert.specs.Fitting.{Fits}
 use Rattle.md_cert.specs.declared.certificate.Certificate.{Certificate}
 use Rattle.md_cert.specs.declared.certificate.Certificate.TheVariants as certificate
-use Rattle.md_claims.specs.Laws.{IsProgramWithLaws}
+use Rattle.md_claims.proofs.SettingClaims.{with_laws}
 use Rattle.md_check.specs.Certificates.{Judges}
 use Rattle.md_check.proofs.FitLaws.{fits-rows}
 use Rattle.md_check.proofs.VerdictLaws.{judged-on_all, infeasible-judged}
@@ -22,11 +22,5 @@ pub returns-clause-claim : goal.returns-clause-claim
 returns-clause-claim c =
     let p = c.in_ok-program.program in
     let judged : Judges p (certificate.Infeasible c.args.face.now) c.judge.result = subst (λ (w : Certificate). Judges p w c.judge.result) c.in_ok-certificate.ensures c.judge.ensures in
-    let laws : IsProgramWithLaws c.args.setting.now p = record {
-      program = c.in_ok-program.ensures.program;
-      admits_points = c.in_ok-program.ensures.admits_points;
-      admits_mechanisms = c.in_ok-program.ensures.admits_mechanisms;
-      costs_points = c.in_ok-program.ensures.costs_points;
-      costs_mechanisms = c.in_ok-program.ensures.costs_mechanisms;
-    } in
+    let laws = with_laws c.args.setting.now p c.in_ok-program.ensures.program in
     infeasible-judged c.args.setting.now p c.args.face.now c.judge.result laws judged

@@ -1,8 +1,9 @@
 use Rattle.std.proofs.Common.{sym, subst}
 use Rattle.md_cert.specs.Fitting.{Fits}
 use Rattle.md_cert.specs.declared.certificate.Certificate.{Certificate}
-use Rattle.md_claims.specs.Laws.{IsProgramWithLaws}
-use Rattle.md_check.specs.Certificates.{optimal_certificate, HasMetPoint, Judges}
+use Rattle.md_claims.proofs.SettingClaims.{with_laws}
+use Rattle.md_claims.specs.Certificates.{optimal_certificate}
+use Rattle.md_check.specs.Certificates.{HasMetPoint, Judges}
 use Rattle.md_check.proofs.FitLaws.{fits-optimal}
 use Rattle.md_check.proofs.VerdictLaws.{judged-on_all, optimal-judged}
 use Rattle.md_check.proofs.checking.judge_optimal.Goals as goal
@@ -30,11 +31,5 @@ returns-clause-claim c =
     let p = c.in_ok-program.program in
     let stated = optimal_certificate c.args.setting.now c.args.mechanism.now c.args.bound.now in
     let judged : Judges p stated c.judge.result = subst (λ (w : Certificate). Judges p w c.judge.result) c.in_ok-certificate.ensures c.judge.ensures in
-    let laws : IsProgramWithLaws c.args.setting.now p = record {
-      program = c.in_ok-program.ensures.program;
-      admits_points = c.in_ok-program.ensures.admits_points;
-      admits_mechanisms = c.in_ok-program.ensures.admits_mechanisms;
-      costs_points = c.in_ok-program.ensures.costs_points;
-      costs_mechanisms = c.in_ok-program.ensures.costs_mechanisms;
-    } in
+    let laws = with_laws c.args.setting.now p c.in_ok-program.ensures.program in
     optimal-judged c.args.setting.now p c.args.mechanism.now c.args.bound.now c.judge.result laws c.requires.accepted.mechanism judged

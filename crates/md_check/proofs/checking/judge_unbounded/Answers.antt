@@ -1,8 +1,9 @@
 use Rattle.std.proofs.Common.{sym, subst}
 use Rattle.md_cert.specs.Fitting.{Fits}
 use Rattle.md_cert.specs.declared.certificate.Certificate.{Certificate}
-use Rattle.md_claims.specs.Laws.{IsProgramWithLaws}
-use Rattle.md_check.specs.Certificates.{unbounded_certificate, HasMetPoint, Judges}
+use Rattle.md_claims.proofs.SettingClaims.{with_laws}
+use Rattle.md_claims.specs.Certificates.{unbounded_certificate}
+use Rattle.md_check.specs.Certificates.{HasMetPoint, Judges}
 use Rattle.md_check.proofs.FitLaws.{fits-unbounded}
 use Rattle.md_check.proofs.VerdictLaws.{judged-on_all, unbounded-judged}
 use Rattle.md_check.proofs.checking.judge_unbounded.Goals as goal
@@ -30,11 +31,5 @@ returns-clause-claim c =
     let p = c.in_ok-program.program in
     let stated = unbounded_certificate c.args.setting.now c.args.mechanism.now c.args.ray.now in
     let judged : Judges p stated c.judge.result = subst (λ (w : Certificate). Judges p w c.judge.result) c.in_ok-certificate.ensures c.judge.ensures in
-    let laws : IsProgramWithLaws c.args.setting.now p = record {
-      program = c.in_ok-program.ensures.program;
-      admits_points = c.in_ok-program.ensures.admits_points;
-      admits_mechanisms = c.in_ok-program.ensures.admits_mechanisms;
-      costs_points = c.in_ok-program.ensures.costs_points;
-      costs_mechanisms = c.in_ok-program.ensures.costs_mechanisms;
-    } in
+    let laws = with_laws c.args.setting.now p c.in_ok-program.ensures.program in
     unbounded-judged c.args.setting.now p c.args.mechanism.now c.args.ray.now c.judge.result laws c.requires.accepted.mechanism judged

@@ -4,7 +4,7 @@ use Rattle.std.proofs.lemmas.Int.{ints}
 use Rattle.md_math.proofs.Order.{positive-*ℤ}
 use Rattle.md_setting.specs.Meaning.{total_of}
 use Rattle.md_mech.specs.Optimal.{worth_of}
-use Rattle.md_check.specs.Values.{HasValue}
+use Rattle.md_mech.specs.Value.{HasValue}
 use Rattle.md_check.proofs.ValueLaws.{same_value, same_least}
 use Rattle.md_check.proofs.value.other_value.Goals as goal
 
@@ -14,7 +14,7 @@ returns-then-is_same_number c =
     let m = c.args.mechanism.now in
     let right = c.worth-right.result in
     let printed = c.args.printed.now in
-    same_value right.num right.den printed.num printed.den (worth_of s m) (m.den *ℤ total_of s) c.worth-right.ensures.least.positive c.worth-right.ensures.value
+    same_value right.num right.den printed.num printed.den (worth_of s m) (m.den *ℤ total_of s) c.worth-right.ensures.value.least.positive c.worth-right.ensures.value.is_value
     (c.is_same_number.ensures.0 c.if-is_same_number.true)
 
 pub returns-else-is_same_number : goal.returns-else-is_same_number
@@ -28,6 +28,6 @@ returns-else-is_same_number c =
     let whole : pos 0 <ℤ (m.den *ℤ total_of s) = positive-*ℤ m.den (total_of s) den total in
     record {
       other = λ (same : HasValue s m printed).
-          false≢true (sym c.if-is_same_number.false ∙ c.is_same_number.ensures.1 (same_least right.num right.den printed.num printed.den (worth_of s m) (m.den *ℤ total_of s) whole c.worth-right.ensures.value same));
-      least = record { value = c.worth-right.ensures.value; least = c.worth-right.ensures.least };
+          false≢true (sym c.if-is_same_number.false ∙ c.is_same_number.ensures.1 (same_least right.num right.den printed.num printed.den (worth_of s m) (m.den *ℤ total_of s) whole c.worth-right.ensures.value.is_value same));
+      right = c.worth-right.ensures.value;
     }

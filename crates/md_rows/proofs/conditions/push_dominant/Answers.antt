@@ -1,17 +1,27 @@
-use Rattle.std.proofs.Common.{◌≡◌, arith}
-use Rattle.md_setting.specs.Meaning.{agent_count}
-use Rattle.md_mech.specs.Rows.{dominant_rows}
-use Rattle.md_mech.proofs.UtilityLaws.{agents_are}
-use Rattle.md_rows.proofs.BuiltLaws.{room-at, extends-more}
+use Rattle.std.proofs.Common.{◌≡◌, [], ◌∷◌, ap, ◌∙◌, slice_index, refl}
+use Rattle.md_space.specs.Profiles.{profile_at}
+use Rattle.md_setting.specs.Meaning.{sizes_of}
+use Rattle.md_mech.specs.Rows.{dominant_row}
+use Rattle.md_forms.specs.Terms.{sum_at}
+use Rattle.md_rows.specs.ProgramOf.{form_of}
+use Rattle.md_rows.specs.Built.{Extends}
+use Rattle.md_rows.specs.Sides.{utility_as}
+use Rattle.md_rows.proofs.RowForms.{on_ok, dominant-left}
 use Rattle.md_rows.proofs.conditions.push_dominant.Goals as goal
 
-pub push_dominant_agent-requires-clause-room : goal.push_dominant_agent-requires-clause-room
-push_dominant_agent-requires-clause-room c =
+pub returns : goal.returns
+returns c =
     let s = c.args.setting.now in
-    let count : c.agents-agent-end.result ≡ agent_count s = agents_are s c.agents-agent-end.result _ c.agents-agent-end.ensures.count c.space.ensures.sizes in
-    room-at s (agent_count s) c.loop-agent.agent (dominant_rows s) c.args.lp.now c.loop-agent.lp c.requires (omega (arith, count)) c.loop-agent.invariant
-
-pub loop-agent-preserved : goal.loop-agent-preserved
-loop-agent-preserved c =
-    let s = c.args.setting.now in
-    extends-more s c.loop-agent.agent (dominant_rows s) c.args.lp.now c.loop-agent.lp c.push_dominant_agent.new.lp c.loop-agent.invariant c.in_ok-push_dominant_agent.ensures
+    let t = profile_at (sizes_of s) c.args.rank in
+    let kind : c.report-kind.result ≡ slice_index t c.args.agent = c.report-kind.ensures.value ∙ ap (λ sizes. slice_index (profile_at sizes c.args.rank) c.args.agent) c.space.ensures.sizes in
+    on_ok c.push_form.result _ (Extends s (dominant_row c.args.agent t c.args.report ∷ []) c.args.lp.now c.push_form.new.lp)
+    (λ f. f (form_of s (dominant_row c.args.agent t c.args.report)) (record {
+      kind_is = refl;
+      left_is = λ x.
+          ap (sum_at x) c.deref-2.ensures.value
+          ∙ c.in_ok-terms.ensures.sum x
+          ∙ ap (sum_at (λ r. utility_as s x c.args.agent c.report-kind.result (profile_at (sizes_of s) r))) c.deref.ensures.value
+          ∙ c.in_ok-shares.ensures.sum (λ r. utility_as s x c.args.agent c.report-kind.result (profile_at (sizes_of s) r))
+          ∙ dominant-left s x c.args.agent c.args.rank c.args.report c.report-kind.result c.requires.rank_in c.requires.report_in kind;
+      right_is = refl;
+    })) c.push_form.ensures

@@ -12,7 +12,7 @@ pub returns-clause-admissible : goal.returns-clause-admissible
 returns-clause-admissible c =
     let p = c.requires.meets in
     let den = to_z-of_z w128 c.args.den c.ranges.den in
-    rw (den, c.in_ok-chances.ensures, c.in_ok-pays.ensures)
+    rw (den, c.in_ok-chances.ensures, c.in_ok-payments_of.ensures)
     (admits-mechanisms c.args.setting.now p.program p.is_program c.args.den (number_at c.args.point.now) p.meets)
 
 pub returns-clause-accepted : goal.returns-clause-accepted
@@ -20,6 +20,6 @@ returns-clause-accepted c =
     let s = c.args.setting.now in
     let p = c.requires.meets in
     let den = to_z-of_z w128 c.args.den c.ranges.den in
-    rw (den, c.in_ok-chances.ensures, c.in_ok-pays.ensures)
+    rw (den, c.in_ok-chances.ensures, c.in_ok-payments_of.ensures)
     (accepted-mechanism s c.args.den (number_at c.args.point.now) (admits-mechanisms s p.program p.is_program c.args.den (number_at c.args.point.now) p.meets).mechanism
     (λ j b. p.meets.point.nonneg j (omega (arith, b, p.is_program.columns))) (λ j. AllWithin-number_at number_limit c.args.point.now j c.requires.sizes) c.requires.den_size)

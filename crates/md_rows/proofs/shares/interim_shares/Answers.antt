@@ -2,9 +2,9 @@ use Rattle.std.proofs.Common.{◌≡◌, ◌+◌, ◌*ℤ◌, [], arith, ap, ◌
 use Rattle.md_math.specs.Sums.{sum_to}
 use Rattle.md_space.specs.Profiles.{profile_count, profile_at}
 use Rattle.md_setting.specs.Meaning.{sizes_of}
+use Rattle.md_forms.specs.Terms.{AddsTerms}
+use Rattle.md_forms.proofs.TermLaws.{adds-next, adds-all, adds-sum}
 use Rattle.md_rows.specs.Shares.{interim_share}
-use Rattle.md_rows.specs.Terms.{AddsTerms}
-use Rattle.md_rows.proofs.TermLaws.{adds-next, adds-all, adds-sum}
 use Rattle.md_rows.proofs.shares.interim_shares.Goals as goal
 
 pub loop-rank-preserved : goal.loop-rank-preserved

@@ -2,8 +2,8 @@ use Rattle.std.proofs.Common.{◌*ℤ◌, []}
 use Rattle.md_math.specs.Sums.{sum_to}
 use Rattle.md_space.specs.Profiles.{profile_at}
 use Rattle.md_setting.specs.Meaning.{sizes_of}
+use Rattle.md_forms.specs.Terms.{AddsTerms}
 use Rattle.md_rows.specs.Shares.{interim_share}
-use Rattle.md_rows.specs.Terms.{AddsTerms}
 use Rattle.md_rows.proofs.shares.interim_shares.Given as goal
 
 abbrev pub invariant-loop-rank : goal.invariant-loop-rank

@@ -4,8 +4,8 @@ use Rattle.std.proofs.lemmas.Int.{to_z-of_z}
 use Rattle.md_math.specs.Sizes.{IsWithin}
 use Rattle.md_math.proofs.SizeLaws.{IsWithin-wider}
 use Rattle.md_lp.specs.declared.term.Term.{Term}
-use Rattle.md_rows.specs.Terms.{AddsTerms}
-use Rattle.md_rows.proofs.TermLaws.{adds-both, adds-all, adds-sum}
+use Rattle.md_forms.specs.Terms.{AddsTerms}
+use Rattle.md_forms.proofs.TermLaws.{adds-both, adds-all, adds-sum}
 use Rattle.md_rows.proofs.shares.pair.Goals as goal
 
 both : (low high : ℕ) (first second : ℤ) (old mid new : List Term) → old ≡ [] → low + 1 ≤ high → IsWithin 1 first → IsWithin 1 second

@@ -6,8 +6,8 @@ use Rattle.md_math.proofs.Bits.{read_result, read_within}
 use Rattle.md_setting.specs.Meaning.{sizes_of, weight_of}
 use Rattle.md_space.specs.Profiles.{profile_at, replaced}
 use Rattle.std.proofs.lemmas.Bool.{eq-eqb, ne_eqb}
-use Rattle.md_rows.specs.Terms.{AddsTerms}
-use Rattle.md_rows.proofs.TermLaws.{adds-none, adds-told}
+use Rattle.md_forms.specs.Terms.{AddsTerms}
+use Rattle.md_forms.proofs.TermLaws.{adds-none, adds-told}
 use Rattle.md_rows.proofs.RowForms.{on_ok}
 use Rattle.md_rows.proofs.shares.push_bayes_share.Goals as goal
 

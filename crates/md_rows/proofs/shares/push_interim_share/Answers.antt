@@ -6,7 +6,7 @@ use Rattle.md_math.proofs.Bits.{read_result, read_within}
 use Rattle.md_setting.specs.Meaning.{sizes_of, weight_of}
 use Rattle.md_space.specs.Profiles.{profile_at}
 use Rattle.std.proofs.lemmas.Bool.{eq-eqb, ne_eqb}
-use Rattle.md_rows.proofs.TermLaws.{adds-none, adds-told}
+use Rattle.md_forms.proofs.TermLaws.{adds-none, adds-told}
 use Rattle.md_rows.proofs.shares.push_interim_share.Goals as goal
 
 pub returns-in_ok-push_term : goal.returns-in_ok-push_term

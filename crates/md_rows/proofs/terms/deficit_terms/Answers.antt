@@ -1,8 +1,8 @@
 use Rattle.std.proofs.Common.{◌^◌, subst}
 use Rattle.md_setting.specs.Meaning.{sizes_of}
 use Rattle.md_space.specs.Profiles.{profile_at}
-use Rattle.md_rows.specs.Terms.{AddsTerms}
-use Rattle.md_rows.proofs.TermLaws.{adds-all, adds-sum}
+use Rattle.md_forms.specs.Terms.{AddsTerms}
+use Rattle.md_forms.proofs.TermLaws.{adds-all, adds-sum}
 use Rattle.md_rows.specs.Columns.{first_plus}
 use Rattle.md_setting.specs.Rows.{column_count}
 use Rattle.md_rows.specs.Sides.{left_side}

@@ -2,8 +2,8 @@ use Rattle.std.proofs.Common.{◌≡◌, ◌+◌, ◌*◌, ◌^◌, pos, ◌*ℤ
 use Rattle.md_setting.specs.Meaning.{outcome_count, sizes_of}
 use Rattle.md_space.specs.Profiles.{profile_count}
 use Rattle.md_math.specs.Sums.{sum_to}
-use Rattle.md_rows.specs.Terms.{AddsTerms}
-use Rattle.md_rows.proofs.TermLaws.{below-wider, adds-place, adds-all, adds-sum, block-fits}
+use Rattle.md_forms.specs.Terms.{AddsTerms}
+use Rattle.md_forms.proofs.TermLaws.{below-wider, adds-place, adds-all, adds-sum, block-fits}
 use Rattle.md_rows.proofs.FormLaws.{profile-form}
 use Rattle.md_setting.specs.Rows.{column_count}
 use Rattle.md_rows.proofs.terms.profile_terms.Goals as goal

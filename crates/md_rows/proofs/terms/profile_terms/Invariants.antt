@@ -1,7 +1,7 @@
 use Rattle.std.proofs.Common.{◌+◌, ◌*◌, ◌^◌, pos, ◌*ℤ◌, []}
 use Rattle.md_math.specs.Sums.{sum_to}
 use Rattle.md_setting.specs.Meaning.{outcome_count}
-use Rattle.md_rows.specs.Terms.{AddsTerms}
+use Rattle.md_forms.specs.Terms.{AddsTerms}
 use Rattle.md_rows.proofs.terms.profile_terms.Given as goal
 
 abbrev pub invariant-loop-outcome : goal.invariant-loop-outcome

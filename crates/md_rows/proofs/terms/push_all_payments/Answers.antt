@@ -2,8 +2,8 @@ use Rattle.std.proofs.Common.{◌≡◌, ◌+◌, ◌*◌, ◌^◌, true, false,
 use Rattle.md_setting.specs.Meaning.{agent_count, sizes_of}
 use Rattle.md_space.specs.Profiles.{profile_count, profile_at}
 use Rattle.md_math.specs.Sums.{sum_to}
+use Rattle.md_forms.proofs.TermLaws.{adds-none, adds-both, adds-as}
 use Rattle.md_rows.specs.Terms.{part_of_all}
-use Rattle.md_rows.proofs.TermLaws.{adds-none, adds-both, adds-as}
 use Rattle.md_rows.proofs.FormLaws.{deficit-form, no-deficit-form}
 use Rattle.md_rows.specs.Columns.{first_plus, first_minus}
 use Rattle.md_setting.specs.Rows.{column_count}

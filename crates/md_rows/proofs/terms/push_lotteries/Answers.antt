@@ -4,8 +4,8 @@ use Rattle.md_space.specs.Profiles.{profile_count}
 use Rattle.md_math.specs.Sums.{total_by}
 use Rattle.md_lp.specs.declared.term.Term.{Term}
 use Rattle.md_lp.proofs.SparseRows.{no_term}
+use Rattle.md_forms.proofs.TermLaws.{adds-as, AddsShares, shares-more}
 use Rattle.md_rows.specs.Terms.{chances_at}
-use Rattle.md_rows.proofs.TermLaws.{adds-as, AddsShares, shares-more}
 use Rattle.std.proofs.lemmas.List.{take_more, take_all}
 use Rattle.md_rows.specs.Columns.{first_plus}
 use Rattle.md_rows.proofs.terms.push_lotteries.Goals as goal

@@ -1,7 +1,7 @@
 use Rattle.std.proofs.Common.{◌^◌, take}
 use Rattle.md_setting.specs.Meaning.{outcome_count}
+use Rattle.md_forms.proofs.TermLaws.{AddsShares}
 use Rattle.md_rows.specs.Terms.{chances_at}
-use Rattle.md_rows.proofs.TermLaws.{AddsShares}
 use Rattle.md_rows.proofs.terms.push_lotteries.Given as goal
 
 abbrev pub invariant-loop-share : goal.invariant-loop-share

@@ -4,8 +4,8 @@ use Rattle.md_setting.specs.Meaning.{outcome_count, sizes_of, utility_of}
 use Rattle.md_math.specs.Sums.{sum_to}
 use Rattle.md_space.specs.Profiles.{profile_at, replaced}
 use Rattle.md_math.proofs.Bits.{read_result, read_within}
-use Rattle.md_rows.specs.Terms.{AddsTerms}
-use Rattle.md_rows.proofs.TermLaws.{adds-place}
+use Rattle.md_forms.specs.Terms.{AddsTerms}
+use Rattle.md_forms.proofs.TermLaws.{adds-place}
 use Rattle.md_rows.proofs.terms.push_lottery.Goals as goal
 
 pub loop-outcome-preserved : goal.loop-outcome-preserved

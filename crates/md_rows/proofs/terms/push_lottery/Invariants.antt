@@ -2,7 +2,7 @@ use Rattle.std.proofs.Common.{◌+◌, ◌*◌, ◌^◌, ◌*ℤ◌}
 use Rattle.md_math.specs.Sums.{sum_to}
 use Rattle.md_space.specs.Profiles.{profile_at, replaced}
 use Rattle.md_setting.specs.Meaning.{outcome_count, sizes_of, utility_of}
-use Rattle.md_rows.specs.Terms.{AddsTerms}
+use Rattle.md_forms.specs.Terms.{AddsTerms}
 use Rattle.md_rows.proofs.terms.push_lottery.Given as goal
 
 abbrev pub invariant-loop-outcome : goal.invariant-loop-outcome

@@ -7,8 +7,9 @@ use Rattle.md_setting.specs.Meaning.{agent_count, sizes_of}
 use Rattle.md_space.specs.Profiles.{profile_count}
 use Rattle.md_math.specs.Sums.{sum_to}
 use Rattle.md_mech.proofs.UtilityLaws.{agents_are}
-use Rattle.md_rows.specs.Terms.{AddsTerms, part_of_all}
-use Rattle.md_rows.proofs.TermLaws.{adds-as, adds-next, block-fits}
+use Rattle.md_forms.specs.Terms.{AddsTerms}
+use Rattle.md_forms.proofs.TermLaws.{adds-as, adds-next, block-fits}
+use Rattle.md_rows.specs.Terms.{part_of_all}
 use Rattle.md_rows.proofs.terms.push_part_of_all.Goals as goal
 
 pub loop-agent-preserved : goal.loop-agent-preserved

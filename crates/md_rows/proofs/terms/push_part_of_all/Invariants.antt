@@ -2,7 +2,8 @@ use Rattle.std.proofs.Common.{◌+◌, ◌*◌, ◌^◌}
 use Rattle.md_math.specs.Sums.{sum_to}
 use Rattle.md_space.specs.Profiles.{profile_count}
 use Rattle.md_setting.specs.Meaning.{sizes_of}
-use Rattle.md_rows.specs.Terms.{AddsTerms, part_of_all}
+use Rattle.md_forms.specs.Terms.{AddsTerms}
+use Rattle.md_rows.specs.Terms.{part_of_all}
 use Rattle.md_rows.proofs.terms.push_part_of_all.Given as goal
 
 abbrev pub invariant-loop-agent : goal.invariant-loop-agent

@@ -9,8 +9,8 @@ use Rattle.md_space.specs.Profiles.{profile_count}
 use Rattle.md_math.specs.Sums.{total_by}
 use Rattle.md_lp.specs.declared.term.Term.{Term}
 use Rattle.md_lp.proofs.SparseRows.{no_term}
+use Rattle.md_forms.proofs.TermLaws.{adds-as, AddsShares, shares-more, block-fits}
 use Rattle.md_rows.specs.Terms.{part_at}
-use Rattle.md_rows.proofs.TermLaws.{adds-as, AddsShares, shares-more, block-fits}
 use Rattle.std.proofs.lemmas.List.{take_more, take_all}
 use Rattle.md_rows.proofs.terms.push_parts.Goals as goal
 

@@ -1,8 +1,8 @@
 use Rattle.std.proofs.Common.{◌+◌, ◌*◌, ◌^◌, take}
 use Rattle.md_space.specs.Profiles.{profile_count}
 use Rattle.md_setting.specs.Meaning.{sizes_of}
+use Rattle.md_forms.proofs.TermLaws.{AddsShares}
 use Rattle.md_rows.specs.Terms.{part_at}
-use Rattle.md_rows.proofs.TermLaws.{AddsShares}
 use Rattle.md_rows.proofs.terms.push_parts.Given as goal
 
 abbrev pub invariant-loop-share : goal.invariant-loop-share

@@ -1,7 +1,8 @@
 use Rattle.std.proofs.Common.{◌^◌, ℕ, ℤ, ◌+ℤ◌, neg_ℤ, [], ◌∙◌, subst, le_refl}
 use Rattle.md_math.specs.Sums.{total_by}
-use Rattle.md_rows.specs.Terms.{AddsTerms, chances_at, paid_at}
-use Rattle.md_rows.proofs.TermLaws.{adds-both, adds-all, adds-sum}
+use Rattle.md_forms.specs.Terms.{AddsTerms}
+use Rattle.md_forms.proofs.TermLaws.{adds-both, adds-all, adds-sum}
+use Rattle.md_rows.specs.Terms.{chances_at, paid_at}
 use Rattle.md_rows.proofs.FormLaws.{utility-form}
 use Rattle.md_rows.specs.Columns.{first_plus}
 use Rattle.md_setting.specs.Rows.{column_count}

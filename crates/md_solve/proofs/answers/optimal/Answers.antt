@@ -1,5 +1,12 @@
+use Rattle.std.proofs.Common.{arith}
+use Rattle.std.proofs.lemmas.Int.{ints}
+use Rattle.md_answer.specs.AnswerTo.{IsFraction}
 use Rattle.md_solve.proofs.BoundFits.{bound-fits}
 use Rattle.md_solve.proofs.answers.optimal.Goals as goal
 
 pub returns-clause-writable : goal.returns-clause-writable
-returns-clause-writable c = (c.value_of.ensures.size, c.in_ok-mechanism.ensures.accepted, bound-fits c.args.setting.now c.args.lp.now c.args.bound c.requires.program c.requires.fits.2)
+returns-clause-writable c =
+    let positive = c.worth.ensures.value.least.positive in
+    let fraction : IsFraction c.worth.result.num c.worth.result.den =
+    record { positive = omega (arith, ints, positive); num_size = c.worth.ensures.num_size; den_size = c.worth.ensures.den_size } in
+    (fraction, c.in_ok-mechanism.ensures.accepted, bound-fits c.args.setting.now c.args.lp.now c.args.bound c.requires.program c.requires.fits.2)

@@ -1,0 +1,4 @@
+pub mod PointLaws
+pub mod TermLaws
+pub mod BuiltLaws
+pub mod OneProgram

@@ -1,0 +1,4 @@
+pub mod Forms
+pub mod ProgramOf
+pub mod Built
+pub mod Terms

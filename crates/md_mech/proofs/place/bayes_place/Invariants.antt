@@ -1,7 +1,0 @@
-use Rattle.std.proofs.Common.{◌≡◌, ◌+◌, length}
-use Rattle.md_math.specs.Lists.{up_to}
-use Rattle.md_mech.specs.Rows.{bayes_rows}
-use Rattle.md_mech.proofs.place.bayes_place.Given as goal
-
-abbrev pub invariant-loop-agent : goal.invariant-loop-agent
-invariant-loop-agent l = l.row ≡ length (up_to l.agent (bayes_rows l.setting)) + l.rest

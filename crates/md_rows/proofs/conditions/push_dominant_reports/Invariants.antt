@@ -1,9 +1,0 @@
-use Rattle.md_math.specs.Lists.{up_to}
-use Rattle.md_space.specs.Profiles.{profile_at}
-use Rattle.md_setting.specs.Meaning.{sizes_of}
-use Rattle.md_mech.specs.Rows.{dominant_row_of}
-use Rattle.md_rows.specs.Built.{Extends}
-use Rattle.md_rows.proofs.conditions.push_dominant_reports.Given as goal
-
-abbrev pub invariant-loop-report : goal.invariant-loop-report
-invariant-loop-report l = Extends l.setting (up_to l.report (dominant_row_of l.setting l.agent (profile_at (sizes_of l.setting) l.rank))) l.fn.lp l.lp
