@@ -1,0 +1,7 @@
+pub mod Readings
+pub mod SetLaws
+pub mod SideLaws
+pub mod Wins
+pub mod Necessity
+pub mod DemandLaws
+pub mod WorthLaws

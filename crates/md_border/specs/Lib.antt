@@ -1,0 +1,4 @@
+pub mod Sets
+pub mod Sides
+pub mod Odds
+pub mod Worth
