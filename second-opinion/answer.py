@@ -1,0 +1,301 @@
+"""Reads and writes answer files, as docs/FORMATS.md states them.
+
+An answer is a CSV file of records. `read_answer` reads them one after the other, knows at each place which words may
+stand there, and refuses the first record that is wrong. What comes out is one of the five kinds of answer below.
+"""
+
+import re
+from dataclasses import dataclass, field
+
+from setting import Refused
+
+FILE_LIMIT = 67_108_864
+GREATEST = 2**62 - 1  # the size of a number
+GREATEST_WIDE = 2**126 - 1  # the size of a number in `value` and `wide` records
+GREATEST_PLACE = 2**32 - 1  # a row or column of a pivot or an entry
+
+NUMBER = re.compile(rb"0|-?[1-9][0-9]*")
+# A field that begins with a quote runs to the next single quote, or to the end of the file; what follows that quote up
+# to the next comma belongs to it. In any other field a quote is a byte like others.
+FIELD = re.compile(rb'"([^"]*+(?:""[^"]*+)*+)(?:"([^,\r\n]*)|\Z)|([^,\r\n]*)')
+
+
+@dataclass
+class Mechanism:
+    """Lotteries and payments by profile (a tuple of type numbers), all over the denominator `den`. `pays` is empty where
+    the setting has no payments."""
+
+    den: int
+    lotteries: dict = field(default_factory=dict)
+    pays: dict = field(default_factory=dict)
+
+
+@dataclass
+class TableAnswer:
+    """A mechanism, of which nothing is claimed."""
+
+    mechanism: Mechanism
+
+
+@dataclass
+class OptimalAnswer:
+    """A mechanism, its value (a numerator and a denominator), and multipliers by row: pairs of face and main. The main
+    ones are over the denominator `bound`."""
+
+    value: tuple
+    mechanism: Mechanism
+    bound: int
+    multipliers: dict
+
+
+@dataclass
+class InfeasibleAnswer:
+    """That there is no mechanism. The main multiplier of each pair is 0."""
+
+    multipliers: dict
+
+
+@dataclass
+class UnboundedAnswer:
+    """A mechanism, and payments by profile that gain without end when they are added to it."""
+
+    mechanism: Mechanism
+    rays: dict
+
+
+@dataclass
+class TooWideAnswer:
+    """One or two paths: for each its pivots (row, column), and its wide entry (row, column, numerator, denominator)."""
+
+    paths: list
+
+
+def records_of(data):
+    """The records of a CSV file, each a list of fields. A line ends at a newline or a carriage return, so that nothing
+    stands between those two; a line in which nothing stands is passed over."""
+    data = data.removeprefix(b"\xef\xbb\xbf")
+    at = 0
+    fields = []
+    while at < len(data):
+        if not fields and data[at] in b"\r\n":
+            at += 1
+            continue
+        match = FIELD.match(data, at)
+        quoted, rest, plain = match.groups()
+        fields.append(plain if quoted is None else quoted.replace(b'""', b'"') + (rest or b""))
+        at = match.end()
+        if data[at : at + 1] == b",":
+            at += 1
+            if at < len(data):
+                continue
+            fields.append(b"")  # the file ends behind a comma
+        yield fields
+        fields = []
+        at += 1
+
+
+class Records:
+    """The records of an answer, read in turn, with the refusals that name a record."""
+
+    def __init__(self, data):
+        self.records = records_of(data)
+        self.number = 0
+        self.fields = []
+
+    def refuse(self, reason):
+        raise Refused(66, f"answer refused: line {self.number}: {reason}")
+
+    def expect(self, **counts):
+        """Reads the next record, whose word is one of those listed, each with its number of fields; gives the word."""
+        self.fields = next(self.records, None)
+        if self.fields is None:
+            self.refuse("ended")
+        self.number += 1
+        word = self.fields[0].decode("utf-8", "replace")
+        if counts.get(word) != len(self.fields):
+            self.refuse("record")
+        return word
+
+    def integer(self, place, least, greatest):
+        """The whole number in a field (counted from 1), refused where it is none, or out of range."""
+        text = self.fields[place - 1]
+        if not NUMBER.fullmatch(text) or len(text) > 40 or not least <= int(text) <= greatest:
+            self.refuse(f"field {place}")
+        return int(text)
+
+    def integers(self, first, least):
+        """The whole numbers from a field on."""
+        return [self.integer(place, least, GREATEST) for place in range(first, len(self.fields) + 1)]
+
+    def word(self, place, *words):
+        """The word in a field, refused where it is none of those listed."""
+        text = self.fields[place - 1].decode("utf-8", "replace")
+        if text not in words:
+            self.refuse(f"field {place}")
+        return text
+
+    def finish(self):
+        """Refuses what follows the last record, which was read."""
+        if next(self.records, None) is not None:
+            self.number += 1
+            self.refuse("record")
+
+
+def read_answer(data, setting):
+    """The answer about a general setting that the bytes of a file state, or `Refused`."""
+    if len(data) > FILE_LIMIT:
+        raise Refused(66, "answer refused: too long")
+    records = Records(data)
+    records.expect(answer=4)
+    version = records.word(2, "1", "2")
+    records.word(3, "general")
+    kinds = READERS if version == "1" else ["toowide"]
+    answer = READERS[records.word(4, *kinds)](records, setting, version)
+    records.finish()
+    return answer
+
+
+def read_table(records, setting, version):
+    mechanism = read_mechanism(records, setting)
+    records.expect(end=1)
+    return TableAnswer(mechanism)
+
+
+def read_optimal(records, setting, version):
+    records.expect(value=3)
+    value = records.integer(2, -GREATEST_WIDE, GREATEST_WIDE), records.integer(3, 1, GREATEST_WIDE)
+    mechanism = read_mechanism(records, setting)
+    records.expect(bound=2)
+    bound = records.integer(2, 1, GREATEST)
+    return OptimalAnswer(value, mechanism, bound, read_multipliers(records, setting, 2))
+
+
+def read_infeasible(records, setting, version):
+    return InfeasibleAnswer(read_multipliers(records, setting, 1))
+
+
+def read_unbounded(records, setting, version):
+    mechanism = read_mechanism(records, setting)
+    rays = read_lists(records, setting, "ray") if setting.payments else {}
+    records.expect(end=1)
+    return UnboundedAnswer(mechanism, rays)
+
+
+def read_too_wide(records, setting, version):
+    paths = [read_path(records)]
+    if version == "2":
+        records.expect(again=1)
+        paths.append(read_path(records))
+    records.expect(end=1)
+    return TooWideAnswer(paths)
+
+
+READERS = {
+    "table": read_table,
+    "optimal": read_optimal,
+    "infeasible": read_infeasible,
+    "unbounded": read_unbounded,
+    "toowide": read_too_wide,
+}
+
+
+def read_mechanism(records, setting):
+    """The records from `table` to the last payment."""
+    records.expect(table=2)
+    mechanism = Mechanism(records.integer(2, 1, GREATEST))
+    for profile in setting.profiles():
+        records.expect(lottery=1 + len(setting.agents) + len(setting.outcomes))
+        numbers = read_named(records, setting, profile, 0)
+        if sum(numbers) != mechanism.den:
+            records.refuse("sum")
+        mechanism.lotteries[profile] = numbers
+    if setting.payments:
+        mechanism.pays = read_lists(records, setting, "pay")
+    return mechanism
+
+
+def read_lists(records, setting, word):
+    """One record with a number for each agent, for each profile."""
+    lists = {}
+    for profile in setting.profiles():
+        records.expect(**{word: 1 + 2 * len(setting.agents)})
+        lists[profile] = read_named(records, setting, profile, -GREATEST)
+    return lists
+
+
+def read_named(records, setting, profile, least):
+    """The numbers of a record behind the names of its profile's types."""
+    for place, (agent, kind) in enumerate(zip(setting.agents, profile), 2):
+        records.word(place, agent.types[kind])
+    return records.integers(2 + len(setting.agents), least)
+
+
+def read_multipliers(records, setting, count):
+    """The `row` records up to the end, with the face multiplier alone or with the main one: pairs by index."""
+    rows = setting.condition_count() + setting.profile_count()
+    multipliers = {}
+    least = 0
+    while records.expect(row=2 + count, end=1) == "row":
+        index = records.integer(2, least, rows - 1)
+        numbers = records.integers(3, -GREATEST)
+        multipliers[index] = (numbers + [0])[0], (numbers + [0])[1]
+        least = index + 1
+    return multipliers
+
+
+def read_path(records):
+    """The `pivot` records of a path, and the `wide` record behind them."""
+    pivots = []
+    while records.expect(pivot=3, wide=5) == "pivot":
+        pivots.append((records.integer(2, 0, GREATEST_PLACE), records.integer(3, 0, GREATEST_PLACE)))
+    row, column = records.integer(2, 0, GREATEST_PLACE), records.integer(3, 0, GREATEST_PLACE)
+    num = records.integer(4, -GREATEST_WIDE, GREATEST_WIDE)
+    return pivots, (row, column, num, records.integer(5, 1, GREATEST_WIDE))
+
+
+def write_answer(answer, setting):
+    """The text of an optimal, infeasible or unbounded answer. Rows whose multipliers are 0 are left out."""
+    lines = []
+
+    def record(word, *fields):
+        lines.append(",".join([word, *map(str, fields)]))
+
+    def lists(word, numbers):
+        for profile in numbers:
+            names = [agent.types[kind] for agent, kind in zip(setting.agents, profile)]
+            record(word, *names, *numbers[profile])
+
+    def mechanism(its):
+        record("table", its.den)
+        lists("lottery", its.lotteries)
+        lists("pay", its.pays)
+
+    if isinstance(answer, OptimalAnswer):
+        record("answer", 1, "general", "optimal")
+        record("value", *answer.value)
+        mechanism(answer.mechanism)
+        record("bound", answer.bound)
+    elif isinstance(answer, InfeasibleAnswer):
+        record("answer", 1, "general", "infeasible")
+    else:
+        record("answer", 1, "general", "unbounded")
+        mechanism(answer.mechanism)
+        lists("ray", answer.rays)
+    for index, pair in sorted(getattr(answer, "multipliers", {}).items()):
+        if pair != (0, 0):
+            record("row", index, *(pair if isinstance(answer, OptimalAnswer) else pair[:1]))
+    record("end")
+    return "\n".join(lines) + "\n"
+
+
+def has_wide_number(answer):
+    """Whether a number of an optimal, infeasible or unbounded answer is too wide for a file."""
+    lists = [pair for pair in getattr(answer, "multipliers", {}).values()]
+    lists += getattr(answer, "rays", {}).values()
+    lists.append([getattr(answer, "bound", 0)])
+    if not isinstance(answer, InfeasibleAnswer):
+        mechanism = answer.mechanism
+        lists += [[mechanism.den], *mechanism.lotteries.values(), *mechanism.pays.values()]
+    value = getattr(answer, "value", ())
+    wide = any(abs(number) > GREATEST for numbers in lists for number in numbers)
+    return wide or any(abs(number) > GREATEST_WIDE for number in value)

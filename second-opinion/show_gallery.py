@@ -1,0 +1,79 @@
+#!/usr/bin/env python3
+"""Writes the gallery: a page for each setting of examples/ that has a stored answer, and an index of them.
+
+    second-opinion/show_gallery.py [FOLDER]
+
+FOLDER is examples/pages where none is named. The picture of the README is written beside the pages. Files of other
+names are left as they are. The same files of examples/ give the same pages, byte for byte.
+"""
+
+import sys
+from html import escape
+from pathlib import Path
+
+from answer import OptimalAnswer, read_answer
+from setting import read_setting
+from show_draw import standalone
+from show_facts import Play, Prior
+from show_page import Page, document
+from show_parts import paragraph
+from show_text import html_number, remark
+
+EXAMPLES = Path(__file__).resolve().parent.parent / "examples"
+PICTURES = {"divorce"}  # the examples whose lotteries are stored as a picture too
+ENDING = "-answer.csv"
+
+
+def title_of(name):
+    """The heading of the page of an example, or its name in words."""
+    page = EXAMPLES / f"{name}.md"
+    first = page.read_text("utf-8").splitlines()[:1] if page.exists() else []
+    if first and first[0].startswith("# "):
+        return first[0][2:].strip()
+    return name.replace("-", " ").capitalize()
+
+
+def index(entries):
+    """The page that lists the others."""
+    items = "".join(
+        f'<li><a href="{name}.html">{escape(title)}</a>: {escape(kind)}{value}\n<p>{escape(words)}</p></li>\n'
+        for name, title, kind, value, words in entries
+    )
+    words = paragraph(
+        "A page for each setting of the examples whose answer is stored: its lotteries as bars, its payments, what "
+        "each type gets, and the conditions that hold with equality."
+    )
+    foot = paragraph("Made by <code>second-opinion/show_gallery.py</code>. All numbers are exact.")
+    heading = "Settings and their answers"
+    return document(heading, f"<h1>{heading}</h1>\n", f'{words}<ul class="pages">\n{items}</ul>\n', foot)
+
+
+def pages():
+    """The texts of all files, by their names."""
+    made, entries = {}, []
+    for path in sorted(EXAMPLES.glob("*" + ENDING)):
+        name = path.name.removesuffix(ENDING)
+        data = (EXAMPLES / f"{name}.toml").read_bytes()
+        setting = read_setting(data)
+        answer = read_answer(path.read_bytes(), setting)
+        title = title_of(name)
+        page = Page(setting, answer, title, [f"{name}.toml", path.name], remark(data), "index.html")
+        made[f"{name}.html"] = page.html()
+        value = f" of the value {html_number(page.play.value())}" if isinstance(answer, OptimalAnswer) else ""
+        entries.append((name, title, page.kind(), value, remark(data)))
+        if name in PICTURES:
+            made[f"{name}.svg"] = standalone(Play(setting, Prior(setting), answer.mechanism), title)
+    made["index.html"] = index(entries)
+    return made
+
+
+def main():
+    """Writes all files."""
+    folder = Path(sys.argv[1]) if len(sys.argv) > 1 else EXAMPLES / "pages"
+    folder.mkdir(parents=True, exist_ok=True)
+    for name, text in pages().items():
+        (folder / name).write_bytes(text.encode())
+
+
+if __name__ == "__main__":
+    main()
