@@ -13,7 +13,7 @@ use Rattle.md_setting.specs.Auction.{SymmetricAuction, value_count, total_weight
 use Rattle.md_setting.specs.AuctionShaped.{IsAuction}
 use Rattle.md_mech.specs.Accepted.{number_limit}
 use Rattle.md_border.specs.declared.interim.Interim.{Interim}
-use Rattle.md_border.specs.Sets.{has_kind}
+use Rattle.md_math.specs.Sets.{member}
 use Rattle.md_border.specs.Odds.{IsInterim, weight_given, demand_of}
 
 -- ---- weights
@@ -80,10 +80,10 @@ demand-small a interim v shaped h b = below (demand_of a interim v) (demand-with
 
 -- the demands of the first kinds, where they are in the set
 pub demands-within : (a : SymmetricAuction) (interim : Interim) (set k : ℕ) → IsAuction a → IsInterim a interim → k ≤ value_count a
-    → IsWithin (12 * 2 ^ 106) (sum_to k (λ v. if has_kind set v then demand_of a interim v else pos 0))
+    → IsWithin (12 * 2 ^ 106) (sum_to k (λ v. if member set v then demand_of a interim v else pos 0))
 demands-within a interim set k shaped h l =
     IsWithin-wider (k * 2 ^ 106) (12 * 2 ^ 106) _ (mul-le-mul (few shaped.few_values) (le_refl (2 ^ 106)))
-    (sum_to-within k (2 ^ 106) _ (λ v b. either (has_kind set v) (demand_of a interim v) (IsWithin-wider (12 * 10 ^ 12 * number_limit) (2 ^ 106) _ (omega arith) (demand-within a interim v shaped h (omega (arith, b, l))))))
+    (sum_to-within k (2 ^ 106) _ (λ v b. either (member set v) (demand_of a interim v) (IsWithin-wider (12 * 10 ^ 12 * number_limit) (2 ^ 106) _ (omega arith) (demand-within a interim v shaped h (omega (arith, b, l))))))
   where
     few : value_count a ≤ 12 → k ≤ 12
     few m = omega (arith, l)

@@ -1,4 +1,3 @@
-pub mod Readings
 pub mod SetLaws
 pub mod SideLaws
 pub mod Wins

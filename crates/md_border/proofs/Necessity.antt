@@ -6,9 +6,9 @@ use Rattle.std.proofs.Math.IntN.{pos-*ℤ-pos}
 use Rattle.std.proofs.Math.ListN.{replicate}
 use Rattle.md_math.specs.Lists.{number_at}
 use Rattle.md_math.specs.Sums.{sum_to, total_by}
-use Rattle.md_math.proofs.Order.{*ℤ-le, le_from_*ℤ}
+use Rattle.md_math.proofs.Order.{*ℤ-le, le_from_*ℤ, chosen-times}
 use Rattle.md_math.proofs.Ring.{linear, ring, *ℤ-zero, *ℤ_left_comm}
-use Rattle.md_math.proofs.SumLaws.{sum_to-same, sum_to-*ℤ, sum_to-swap, sum_to-if}
+use Rattle.md_math.proofs.SumLaws.{sum_to-constant, sum_to-same, sum_to-*ℤ, sum_to-swap, sum_to-if}
 use Rattle.md_math.proofs.TotalLaws.{total_by-le, total_by-sum_to, total_by-*ℤ}
 use Rattle.md_space.specs.Profiles.{IsProfile}
 use Rattle.md_space.specs.AllProfiles.{profiles_of}
@@ -23,7 +23,8 @@ use Rattle.md_mech.specs.declared.mechanism.Mechanism.{Mechanism}
 use Rattle.md_mech.specs.Mechanism.{chance_of, IsMechanism}
 use Rattle.md_mech.specs.Utility.{weighted_given}
 use Rattle.md_border.specs.declared.interim.Interim.{Interim}
-use Rattle.md_border.specs.Sets.{has_kind, has_some}
+use Rattle.md_border.specs.Sets.{has_some}
+use Rattle.md_math.specs.Sets.{member}
 use Rattle.md_border.specs.Sides.{right_of}
 use Rattle.md_border.specs.Odds.{HasOdds, weight_given, demand_of, demands_in, excess_of}
 use Rattle.md_border.proofs.SideLaws.{profile-weight}
@@ -31,31 +32,16 @@ use Rattle.md_border.proofs.Wins.{where_in, by_kinds, wins-at}
 
 -- ---- sums over bidders and kinds
 
--- as often the same number
-pub sum_to-constant : (n : ℕ) (z : ℤ) → sum_to n (λ _. z) ≡ pos n *ℤ z
-sum_to-constant zero z = (let e : pos 0 *ℤ z ≡ pos 0 = simp ring in sym e)
-sum_to-constant (suc n) z = ap (λ y. y +ℤ z) (sum_to-constant n z) ∙ one_more n z
-  where
-    one_more : (n : ℕ) (z : ℤ) → (pos n *ℤ z) +ℤ z ≡ pos (suc n) *ℤ z
-    one_more n z =
-        let e : pos (suc n) ≡ pos n +ℤ pos 1 = omega (arith, ints) in
-        rw e (simp ring (omega (arith, linear)))
-
--- a factor goes into a sum of chosen terms
-chosen-times : (s : Bool) (c z : ℤ) → c *ℤ (if s then z else pos 0) ≡ (if s then c *ℤ z else pos 0)
-chosen-times true c z = refl
-chosen-times false c z = *ℤ-zero c
-
 -- the kinds of the set, with all bidders of each, are the bidders with a value in the set
 pub by_bidders : (sizes : List ℕ) (n kinds set : ℕ) (f : ℕ → List ℕ → ℤ) → length sizes ≡ n → ((i : ℕ) → i < n → get_or sizes i 0 ≡ kinds)
-    → sum_to kinds (λ v. if has_kind set v then sum_to n (λ i. total_by (where_type i v (f i)) (profiles_of sizes)) else pos 0)
+    → sum_to kinds (λ v. if member set v then sum_to n (λ i. total_by (where_type i v (f i)) (profiles_of sizes)) else pos 0)
     ≡ total_by (λ t. sum_to n (λ i. where_in set i (f i) t)) (profiles_of sizes)
 by_bidders sizes n kinds set f long each =
-    sum_to-same kinds _ (λ v. sum_to n (λ i. if has_kind set v then total_by (where_type i v (f i)) (profiles_of sizes) else pos 0))
-    (λ v b. sym (sum_to-if n (has_kind set v) (λ i. total_by (where_type i v (f i)) (profiles_of sizes))))
-    ∙ sum_to-swap kinds n (λ v i. if has_kind set v then total_by (where_type i v (f i)) (profiles_of sizes) else pos 0)
+    sum_to-same kinds _ (λ v. sum_to n (λ i. if member set v then total_by (where_type i v (f i)) (profiles_of sizes) else pos 0))
+    (λ v b. sym (sum_to-if n (member set v) (λ i. total_by (where_type i v (f i)) (profiles_of sizes))))
+    ∙ sum_to-swap kinds n (λ v i. if member set v then total_by (where_type i v (f i)) (profiles_of sizes) else pos 0)
     ∙ sum_to-same n _ (λ i. total_by (where_in set i (f i)) (profiles_of sizes))
-    (λ i b. ap (λ k. sum_to k (λ v. if has_kind set v then total_by (where_type i v (f i)) (profiles_of sizes) else pos 0)) (sym (each i b)) ∙ sym (by_kinds sizes set i (f i) (omega (arith, long))))
+    (λ i b. ap (λ k. sum_to k (λ v. if member set v then total_by (where_type i v (f i)) (profiles_of sizes) else pos 0)) (sym (each i b)) ∙ sym (by_kinds sizes set i (f i) (omega (arith, long))))
     ∙ sym (total_by-sum_to n (λ t i. where_in set i (f i) t) (profiles_of sizes))
 
 -- ---- demands and wins
@@ -85,10 +71,10 @@ demands-won a m interim set h =
     let kinds = value_count a in
     let sizes = sizes_of (general_of a) in
     let won = λ (v : ℕ). sum_to n (λ i. weighted_given (general_of a) i v (λ t. chance_of (general_of a) m t (i + 1))) in
-    sym (sum_to-*ℤ kinds m.den (λ v. if has_kind set v then demand_of a interim v else pos 0))
-    ∙ sum_to-same kinds _ (λ v. interim.den *ℤ (if has_kind set v then won v else pos 0))
-    (λ v b. chosen-times (has_kind set v) m.den (demand_of a interim v) ∙ ap (λ z. if has_kind set v then z else pos 0) (demand-won a m interim v h b) ∙ sym (chosen-times (has_kind set v) interim.den (won v)))
-    ∙ sum_to-*ℤ kinds interim.den (λ v. if has_kind set v then won v else pos 0)
+    sym (sum_to-*ℤ kinds m.den (λ v. if member set v then demand_of a interim v else pos 0))
+    ∙ sum_to-same kinds _ (λ v. interim.den *ℤ (if member set v then won v else pos 0))
+    (λ v b. chosen-times (member set v) m.den (demand_of a interim v) ∙ ap (λ z. if member set v then z else pos 0) (demand-won a m interim v h b) ∙ sym (chosen-times (member set v) interim.den (won v)))
+    ∙ sum_to-*ℤ kinds interim.den (λ v. if member set v then won v else pos 0)
     ∙ ap (λ z. interim.den *ℤ z)
     (by_bidders sizes n kinds set (win a m) (ap length (sizes_of-general a) ∙ length-replicate n kinds)
     (λ i b. ap (λ xs. get_or xs i 0) (sizes_of-general a) ∙ get_or-replicate n i kinds 0 b))

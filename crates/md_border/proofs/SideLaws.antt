@@ -19,7 +19,8 @@ use Rattle.md_setting.specs.General.{general_of}
 use Rattle.md_setting.proofs.GeneralLaws.{sizes_of-general, weight_of-general}
 use Rattle.md_counts.specs.Weights.{counts_of, value_lists}
 use Rattle.md_counts.proofs.Regrouping.{weight_of_values, by_counts}
-use Rattle.md_counts.proofs.WeightLaws.{all-lists, sum-places}
+use Rattle.md_math.proofs.ProductLaws.{sum-places}
+use Rattle.md_counts.proofs.WeightLaws.{all-lists}
 use Rattle.md_border.specs.Sets.{has_some, sum_in}
 use Rattle.md_border.specs.Sides.{right_of, right_by_counts, right_by_power}
 use Rattle.md_border.proofs.SetLaws.{outside, sum-outside, bidders_in, one-bidder, sum_in-counts, product-outside}

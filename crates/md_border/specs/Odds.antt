@@ -10,7 +10,7 @@ use Rattle.md_mech.specs.Accepted.{number_limit}
 use Rattle.md_mech.specs.Mechanism.{chance_of}
 use Rattle.md_mech.specs.Utility.{weighted_given}
 use Rattle.md_border.specs.declared.interim.Interim.{Interim}
-use Rattle.md_border.specs.Sets.{has_kind}
+use Rattle.md_math.specs.Sets.{member}
 use Rattle.md_border.specs.Sides.{right_of}
 
 -- odds and payments for the kinds of an auction's values: the odds are 0 to 1, and no number is over the limit
@@ -38,7 +38,7 @@ demand_of a interim v = pos (a.bidders * weight_given a v) *ℤ number_at interi
 
 -- the same with the values in a set
 abbrev pub demands_in : SymmetricAuction → Interim → ℕ → ℤ
-demands_in a interim set = sum_to (value_count a) (λ v. if has_kind set v then demand_of a interim v else pos 0)
+demands_in a interim set = sum_to (value_count a) (λ v. if member set v then demand_of a interim v else pos 0)
 
 -- by how much the demands of a set are above its right side
 abbrev pub excess_of : SymmetricAuction → Interim → ℕ → ℤ

@@ -6,7 +6,7 @@ ghost use Rattle.md_setting.specs.AuctionShaped.{IsAuction};
 ghost use Rattle.md_setting.specs.General.{general_of};
 ghost use Rattle.md_mech.specs.declared.mechanism.Mechanism.{Mechanism};
 ghost use Rattle.md_mech.specs.Mechanism.{IsMechanism};
-ghost use Rattle.md_border.specs.Sets.{has_kind};
+ghost use Rattle.md_math.specs.Sets.{member};
 ghost use Rattle.md_border.specs.Odds.{IsInterim, HasOdds, weight_given, demand_of, demands_in, excess_of};
 
 use crate::Interim;
@@ -61,7 +61,7 @@ fn demand_if_in(auction: &Auction, interim: &Interim, set: u32, kind: u32) -> i1
     requires fits { IsInterim auction.now interim.now }
     requires kind_in { kind < value_count auction.now }
     requires few { kind < 12 }
-    ensures value { result ≡ (if has_kind set kind then demand_of auction.now interim.now kind else pos 0) }
+    ensures value { result ≡ (if member set kind then demand_of auction.now interim.now kind else pos 0) }
     ensures size { IsWithin (2 ^ 106) result }
 {
     if has_kind(set, kind) {

@@ -1,7 +1,8 @@
 //! The right sides of Border's conditions.
 ghost use Rattle.std.specs.Prelude.{◌≡◌, ◌^◌, ◌<◌, ◌≤◌, pos, ◌≤ℤ◌, slice_index, if◌then◌else◌};
 ghost use Rattle.md_setting.specs.Auction.{value_count, total_weight};
-ghost use Rattle.md_border.specs.Sets.{has_kind, sum_in};
+ghost use Rattle.md_border.specs.Sets.{sum_in};
+ghost use Rattle.md_math.specs.Sets.{member};
 ghost use Rattle.md_border.specs.Sides.{right_of, right_by_counts, right_by_power};
 
 use md_setting::Auction;
@@ -40,7 +41,7 @@ fn weight_in(auction: &Auction, set: u32) -> u64
 // The weight of a kind in the set, and 0 of others.
 fn weight_if_in(auction: &Auction, set: u32, kind: u32) -> u64
     requires { kind < value_count auction.now }
-    ensures value { result ≡ (if has_kind set kind then slice_index auction.now.weights kind else 0) }
+    ensures value { result ≡ (if member set kind then slice_index auction.now.weights kind else 0) }
     ensures size { result ≤ 1000000 }
 {
     let weight = auction.weight(kind);
@@ -51,7 +52,7 @@ fn weight_if_in(auction: &Auction, set: u32, kind: u32) -> u64
 #[tactic(auto, unfolding(crate::specs::Sets::has_kind))]
 pub(crate) fn has_kind(set: u32, kind: u32) -> bool
     requires { kind < 12 }
-    ensures { result ≡ has_kind set kind }
+    ensures { result ≡ member set kind }
 {
     (set >> kind) % 2 == 1
 }

@@ -12,7 +12,7 @@ use Rattle.md_math.proofs.SumLaws.{sum_to-same, sum_to-but}
 use Rattle.md_math.proofs.TotalLaws.{total_by-*ℤ, total_by-zero}
 use Rattle.md_space.proofs.TypeSums.{total-same, by_first}
 use Rattle.md_setting.specs.Refusals.{all_below}
-use Rattle.md_setting.proofs.TestLaws.{all_below-fails}
+use Rattle.md_setting.proofs.TestLaws.{all_below-fails, all_below-same}
 use Rattle.md_counts.specs.Weights.{count_in, value_lists}
 
 -- whether each kind comes as often in a list of values as c says
@@ -36,10 +36,6 @@ abbrev pub weight_behind : ℕ → (ℕ → ℕ) → ℕ → (ℕ → ℕ) → �
 weight_behind kinds f n c v = total_by (λ values. weigh kinds f c (v ∷ values)) (value_lists n kinds)
 
 -- ---- tests
-
-pub all_below-same : (n : ℕ) (p q : ℕ → Bool) → ((k : ℕ) → k < n → p k ≡ q k) → all_below n p ≡ all_below n q
-all_below-same zero p q h = refl
-all_below-same (suc n) p q h = ap₂ (λ a b. a && b) (all_below-same n p q (λ k b. h k (omega arith))) (h n (omega arith))
 
 pub less-here : (c : ℕ → ℕ) (v : ℕ) → less c v v ≡ c v - 1
 less-here c v = rw (eq-eqb v v refl) refl

@@ -5,7 +5,7 @@ use Rattle.md_math.proofs.Builders.{length-up_to}
 use Rattle.md_setting.specs.CountLists.{count_lists}
 use Rattle.md_counts.specs.Counts.{counts_at}
 use Rattle.md_counts.specs.Kept.{table_to}
-use Rattle.md_counts.proofs.ListLaws.{cut-up_to}
+use Rattle.md_math.proofs.ListLaws.{cut-up_to}
 use Rattle.md_counts.proofs.RankLaws.{ranked}
 
 -- the list at a rank, cut out of the table

@@ -1,4 +1,3 @@
-pub mod ListLaws
 pub mod RankLaws
 pub mod Agreement
 pub mod Multinomial

@@ -13,16 +13,12 @@ use Rattle.md_math.proofs.TotalLaws.{total_by-list_to}
 use Rattle.md_space.specs.Profiles.{IsProfile}
 use Rattle.md_setting.specs.CountLists.{count_lists}
 use Rattle.md_setting.specs.Refusals.{all_below}
-use Rattle.md_setting.proofs.TestLaws.{all_below-at, and_both}
+use Rattle.md_setting.proofs.TestLaws.{all_below-all, all_below-at, and_both}
 use Rattle.md_counts.specs.Counts.{counts_at, AreCounts}
 use Rattle.md_counts.specs.Weights.{count_in, counts_of, has_counts}
 use Rattle.md_counts.proofs.RankLaws.{rank_of, listed, IsListed, ranked, ranks-apart}
 
 -- ---- the counts of a list of values
-
-all_below-all : (n : ℕ) (p : ℕ → Bool) → ((k : ℕ) → k < n → p k ≡ true) → all_below n p ≡ true
-all_below-all zero p h = refl
-all_below-all (suc n) p h = and_both (all_below n p) (p n) (all_below-all n p (λ k b. h k (omega arith))) (h n (omega arith))
 
 -- a list of values has its own counts
 pub has_counts-own : (kinds : ℕ) (values : List ℕ) → has_counts (counts_of kinds values) values ≡ true

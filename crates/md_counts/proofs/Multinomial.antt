@@ -11,7 +11,7 @@ use Rattle.md_math.proofs.Order.{*ℤ_cancel, positive_pos}
 use Rattle.md_math.proofs.ProductLaws.{product_to-one, product_to-positive, factorial-positive}
 use Rattle.md_math.proofs.SumLaws.{sum_to-same, sum_to-all_zero, sum_to-*ℤ}
 use Rattle.md_counts.proofs.Agreement.{agrees, less, weight_with, weight_behind, less-here, less-elsewhere, behind-some, behind-none, weight_with-more, less-sum}
-use Rattle.md_counts.proofs.ListLaws.{product_to-times}
+use Rattle.md_math.proofs.ProductLaws.{product_to-times}
 
 -- the product of the factorials of the counts, and that of the weights, each as often as its count
 abbrev pub factorials_to : ℕ → (ℕ → ℕ) → ℕ

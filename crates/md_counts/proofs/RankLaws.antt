@@ -8,7 +8,7 @@ use Rattle.md_setting.specs.CountLists.{count_lists}
 use Rattle.md_setting.proofs.CountLaws.{one_more}
 use Rattle.md_counts.specs.Counts.{counts_at, AreCounts}
 use Rattle.md_counts.specs.Ranks.{with_first, lists_before}
-use Rattle.md_counts.proofs.ListLaws.{get_or-up_to_at, up_to-inside, IsPlaceIn, place_in, sum-cons}
+use Rattle.md_math.proofs.ListLaws.{get_or-up_to_at, up_to-inside, IsPlaceIn, place_in, sum-cons}
 
 -- ---- by the first count
 

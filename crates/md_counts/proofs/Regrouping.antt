@@ -17,7 +17,8 @@ use Rattle.md_counts.proofs.Agreement.{weigh}
 use Rattle.md_counts.proofs.ListsOfValues.{HasOneRank, one_rank, All-count_lists, total_by-count_lists}
 use Rattle.md_counts.proofs.Multinomial.{behind-share}
 use Rattle.md_counts.proofs.Symmetry.{given-first, IsSymmetric-weigh}
-use Rattle.md_counts.proofs.WeightLaws.{pos-weight_of_counts, sum-places}
+use Rattle.md_math.proofs.ProductLaws.{sum-places}
+use Rattle.md_counts.proofs.WeightLaws.{pos-weight_of_counts}
 
 -- ---- any weights
 

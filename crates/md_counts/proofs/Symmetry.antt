@@ -7,7 +7,8 @@ use Rattle.md_math.proofs.SumLaws.{sum_to-same}
 use Rattle.md_space.specs.ByType.{where_type}
 use Rattle.md_space.proofs.TypeSums.{total-same, by_first, first_only, behind_first}
 use Rattle.md_counts.specs.Weights.{count_in, value_lists}
-use Rattle.md_counts.proofs.Agreement.{weigh, all_below-same}
+use Rattle.md_setting.proofs.TestLaws.{all_below-same}
+use Rattle.md_counts.proofs.Agreement.{weigh}
 
 -- two neighbours may change their places
 pub record IsSymmetric (g : List ℕ → ℤ) : Type 0 where

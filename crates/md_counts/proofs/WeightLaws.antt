@@ -13,8 +13,8 @@ use Rattle.std.proofs.Math.Nat.{pow-zero, pow-suc, pow-le-pow_left, pow-le-pow_r
 use Rattle.md_math.specs.Products.{product_to, product_by, factorial}
 use Rattle.md_math.specs.Sums.{sum_to, total_by}
 use lib.IntN.{*ℤ_comm}
-use Rattle.md_math.proofs.Order.{chosen-le}
-use Rattle.md_math.proofs.ProductLaws.{pos-sum_by, product_to-one, factorial-positive}
+use Rattle.md_math.proofs.Order.{chosen-le, chosen-pos, same_number}
+use Rattle.md_math.proofs.ProductLaws.{pos-sum_by, sum-places, product_to-one, factorial-positive}
 use Rattle.md_math.proofs.SumLaws.{sum_to-same, sum_to-*ℤ}
 use Rattle.md_math.proofs.TotalLaws.{total_by-places, total_by-le, total_by-*ℤ}
 use Rattle.md_space.proofs.TypeSums.{total-same, by_first}
@@ -23,27 +23,14 @@ use Rattle.md_counts.specs.Counts.{AreCounts}
 use Rattle.md_counts.specs.Weights.{has_counts, value_lists, weight_of_counts, factorials, powers}
 use Rattle.md_counts.proofs.Agreement.{weigh, weight_with}
 use Rattle.md_space.proofs.Walks.{divided}
-use Rattle.md_counts.proofs.ListLaws.{one-pow, product_to-le, factorial-le}
+use Rattle.md_math.proofs.ProductLaws.{one-pow, product_to-le, factorial-le}
 use Rattle.md_counts.proofs.Multinomial.{factorials_to-positive, multinomial}
-
--- ---- lists and functions
-
-same_number : (m n : ℕ) → pos m ≡ pos n → m ≡ n
-same_number m n e = ap unsigned_abs e
-
--- the sum of a list as one over its places
-pub sum-places : (xs : List ℕ) → pos (sum_by (λ x. x) xs) ≡ sum_to (length xs) (λ k. pos (slice_index xs k))
-sum-places xs = pos-sum_by (λ x. x) xs ∙ total_by-places (λ x. pos x) xs 0
 
 -- the weight of counts as a sum of signed numbers
 pub pos-weight_of_counts : (weights : List ℕ) (n : ℕ) (counts : List ℕ) → pos (weight_of_counts weights n counts) ≡ weight_with (length counts) (slice_index weights) n (slice_index counts)
 pos-weight_of_counts weights n counts =
     pos-sum_by (λ values. if has_counts counts values then product_by (slice_index weights) values else 0) (value_lists n (length counts))
-    ∙ total-same (replicate n (length counts)) _ (weigh (length counts) (slice_index weights) (slice_index counts)) (λ values p. chosen (has_counts counts values) (product_by (slice_index weights) values))
-  where
-    chosen : (b : Bool) (x : ℕ) → pos (if b then x else 0) ≡ (if b then pos x else pos 0)
-    chosen true x = refl
-    chosen false x = refl
+    ∙ total-same (replicate n (length counts)) _ (weigh (length counts) (slice_index weights) (slice_index counts)) (λ values p. chosen-pos (has_counts counts values) (product_by (slice_index weights) values))
 
 -- ---- by factorials and powers
 

@@ -5,7 +5,7 @@ use Rattle.std.specs.Int.{bit_at}
 use Rattle.std.specs.Int.Bits.{bit_or}
 use Rattle.std.proofs.lemmas.Nat.{or_lt}
 use Rattle.std.proofs.lemmas.Nat.Bits.{bit_at_set_same, bit_at_set_other, bit_at_above}
-use Rattle.md_flow.specs.Network.{member}
+use Rattle.md_math.specs.Sets.{member}
 
 pub member-here : (set place : ℕ) → place < 12 → member (bit_or set (1 * 2 ^ place % 2 ^ 32)) place ≡ true
 unfolding member

@@ -1,7 +1,7 @@
 -- A net: source nodes with caps, demands, and which demands each node touches.
 use Rattle.std.specs.Prelude.{ℕ, ◌^◌, ◌<◌, ◌≤◌, ◌≡◌, ℤ, pos, ◌≤ℤ◌, ◌<ℤ◌, Bool, ◌==◌, List, length, slice_index}
-use Rattle.std.specs.Int.{bit_at}
 use Rattle.md_math.specs.Lists.{number_at}
+use Rattle.md_math.specs.Sets.{member}
 use Rattle.md_math.specs.Sums.{sum_to}
 
 -- the cap of each source node, each demand, and for each node the set of the demands that it touches
@@ -21,10 +21,6 @@ cap_of net u = number_at net.caps u
 
 abbrev pub want_of : Network → ℕ → ℤ
 want_of net d = number_at net.wants d
-
--- whether a set that is written as a number has a place: the bit at it is 1
-unfoldable pub member : ℕ → ℕ → Bool
-member set d = bit_at set d == 1
 
 -- whether a node touches a demand
 abbrev pub touches : Network → ℕ → ℕ → Bool

@@ -1,7 +1,8 @@
 ghost use Rattle.std.specs.Prelude.{◌≡◌, ℕ, ◌^◌, ◌<◌, ◌≤◌, pos, ◌≤ℤ◌, ◌<ℤ◌, length, slice_index};
 ghost use Rattle.md_math.specs.Lists.{number_at};
 ghost use Rattle.md_math.specs.Sums.{sum_to};
-ghost use Rattle.md_flow.specs.Network.{IsNet, node_count, demand_count, cap_of, want_of, touches, member};
+ghost use Rattle.md_flow.specs.Network.{IsNet, node_count, demand_count, cap_of, want_of, touches};
+ghost use Rattle.md_math.specs.Sets.{member};
 
 use md_lp::Sets;
 use md_num::Nums;

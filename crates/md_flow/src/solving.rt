@@ -1,5 +1,6 @@
 ghost use Rattle.std.specs.Prelude.{◌≡◌, ℕ, ◌+◌, ◌-◌, ◌*◌, ◌^◌, ◌<◌, ◌≤◌, ◌⊎◌, ℤ, pos, ◌+ℤ◌, ◌-ℤ◌, ◌*ℤ◌, ◌<ℤ◌, ◌≤ℤ◌, true, false, length, Ok, None, Some, IfOk, IfSome, OnOk, List, ◌==◌};
-ghost use Rattle.md_flow.specs.Network.{IsNet, node_count, demand_count, member, want_sum};
+ghost use Rattle.md_flow.specs.Network.{IsNet, node_count, demand_count, want_sum};
+ghost use Rattle.md_math.specs.Sets.{member};
 ghost use Rattle.md_flow.specs.Flows.{IsPartFlow, Meets, amount_in, carried};
 ghost use Rattle.md_flow.specs.Over.{over, NoneOver, IsWorst};
 ghost use Rattle.md_flow.specs.Costs.{vertex_count, edge_count};

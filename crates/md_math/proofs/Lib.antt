@@ -15,3 +15,5 @@ pub mod Prefixes
 pub mod ProductLaws
 pub mod QuotientSizes
 pub mod BoundedTests
+pub mod ListLaws
+pub mod Readings

@@ -1,7 +1,7 @@
 -- The order of signed numbers, and how products keep it.
-use Rattle.std.proofs.Common.{◌≡◌, ℕ, ◌*◌, ◌<◌, ℤ, pos, negsuc, ◌-ℤ◌, ◌*ℤ◌, neg_ℤ, ◌≤ℤ◌, ◌<ℤ◌, ◌⊎◌, inl, inr, sym, ◌∙◌, arith, mul-pos, Bool, true, false, if◌then◌else◌, refl}
+use Rattle.std.proofs.Common.{◌≡◌, ap, unsigned_abs, ℕ, ◌*◌, ◌<◌, ℤ, pos, negsuc, ◌-ℤ◌, ◌*ℤ◌, neg_ℤ, ◌≤ℤ◌, ◌<ℤ◌, ◌⊎◌, inl, inr, sym, ◌∙◌, arith, mul-pos, Bool, true, false, if◌then◌else◌, refl}
 use Rattle.std.proofs.lemmas.Int.{ints, by_lt_z}
-use Rattle.md_math.proofs.Ring.{linear, ring}
+use Rattle.md_math.proofs.Ring.{linear, ring, *ℤ-zero}
 
 pub le_from_same : (a b : ℤ) → a ≡ b → a ≤ℤ b
 le_from_same a b h = omega (arith, linear)
@@ -103,3 +103,17 @@ chosen false y z h = cc
 pub not_chosen : (t : Bool) (y z : ℤ) → t ≡ false → (if t then y else z) ≡ z
 not_chosen true y z h = cc
 not_chosen false y z h = refl
+
+pub chosen-pos : (b : Bool) (n : ℕ) → pos (if b then n else 0) ≡ (if b then pos n else pos 0)
+chosen-pos true n = refl
+chosen-pos false n = refl
+
+-- a factor goes into a number that counts where a test holds
+pub chosen-times : (b : Bool) (c z : ℤ) → c *ℤ (if b then z else pos 0) ≡ (if b then c *ℤ z else pos 0)
+chosen-times true c z = refl
+chosen-times false c z = *ℤ-zero c
+
+-- ---- natural numbers
+
+pub same_number : (m n : ℕ) → pos m ≡ pos n → m ≡ n
+same_number m n e = ap unsigned_abs e

@@ -1,5 +1,9 @@
 -- The laws of products of natural numbers, and of factorials.
-use Rattle.std.proofs.Common.{◌≡◌, ◌≢◌, ℕ, zero, suc, ◌+◌, ◌*◌, ◌^◌, ◌<◌, List, [], ◌∷◌, ◌++◌, map, length, get_or, pos, ◌+ℤ◌, ◌*ℤ◌, All, refl, sym, ap, ap₂, ◌∙◌, arith, inl, inr, add-one, mul-pos}
+use Rattle.std.proofs.Common.{◌≡◌, ◌≢◌, ℕ, zero, suc, ◌+◌, ◌*◌, ◌^◌, ◌<◌, ◌≤◌, subst, List, [], ◌∷◌, ◌++◌, map, length, get_or, pos, ◌+ℤ◌, ◌*ℤ◌, All, refl, sym, ap, ap₂, ◌∙◌, arith, inl, inr, add-one, mul-pos}
+use Rattle.std.specs.Prelude.{slice_index}
+use Rattle.std.proofs.lemmas.Nat.{mul-le}
+use Rattle.md_math.specs.Sums.{sum_to}
+use Rattle.md_math.proofs.TotalLaws.{total_by-places}
 use Rattle.std.specs.List.{sum_by}
 use Rattle.std.proofs.lemmas.Bool.{cases_lt}
 use Rattle.std.proofs.lemmas.Int.{ints}
@@ -32,7 +36,7 @@ pub product_to-* : (n : ℕ) (f g : ℕ → ℕ) → product_to n (λ k. f k * g
 product_to-* zero f g = refl
 product_to-* (suc n) f g = omega (arith, ap (λ x. x * (f n * g n)) (product_to-* n f g))
 
-one-pow : (m : ℕ) → 1 ^ m ≡ 1
+pub one-pow : (m : ℕ) → 1 ^ m ≡ 1
 one-pow zero = pow-zero 1
 one-pow (suc m) = pow-suc 1 m ∙ ap (λ x. x * 1) (one-pow m)
 
@@ -109,3 +113,59 @@ pos-sum_by f (x ∷ xs) = ap pos (sum_by-cons f x xs) ∙ pos-+ (f x) (sum_by f 
 -- the product over a list
 pub pos-product_by : {X : Type 0} → (f : X → ℕ) (x : X) (xs : List X) → pos (product_by f (x ∷ xs)) ≡ pos (f x) *ℤ pos (product_by f xs)
 pos-product_by f x xs = sym (pos-*ℤ-pos (f x) (product_by f xs))
+
+-- ---- one factor, and sizes
+
+-- one factor is a times as large, and the others are the same
+pub product_to-times : (n k a : ℕ) (f g : ℕ → ℕ) → k < n → f k ≡ a * g k → ((j : ℕ) → j < n → j ≢ k → f j ≡ g j) → product_to n f ≡ a * product_to n g
+product_to-times zero k a f g b e h = absurd (omega arith)
+product_to-times (suc n) k a f g b e h =
+    elim (cases_lt k n) [
+      | inl l ↦
+          let rest : product_to n f ≡ a * product_to n g = product_to-times n k a f g l e (λ j c d. h j (omega arith) d) in
+          let last : f n ≡ g n = h n (omega arith) (λ q. omega arith) in
+          ap (λ x. x * f n) rest ∙ ap (λ x. a * product_to n g * x) last ∙ omega arith
+      | inr l ↦
+          let same : n ≡ k = omega arith in
+          let rest : product_to n f ≡ product_to n g = others n (λ j c. h j (omega arith) (λ q. omega arith)) in
+          let last : f n ≡ a * g n = subst (λ i. f i ≡ a * g i) (sym same) e in
+          ap (λ x. x * f n) rest ∙ ap (λ x. product_to n g * x) last ∙ omega arith
+    ]
+  where
+    others : (m : ℕ) → ((j : ℕ) → j < m → f j ≡ g j) → product_to m f ≡ product_to m g
+    others m q = product_to-same m f g q
+
+-- more factors, none of which is 0, make a product no smaller
+pub product_to-le : (m n : ℕ) (f : ℕ → ℕ) → ((k : ℕ) → 0 < f k) → m ≤ n → product_to m f ≤ product_to n f
+product_to-le m zero f h b = let e : m ≡ zero = omega arith in rw e (omega arith)
+product_to-le m (suc n) f h b =
+    elim (cases_lt n m) [
+      | inl l ↦ let e : m ≡ suc n = omega arith in rw e (omega arith)
+      | inr l ↦
+          let rest : product_to m f ≤ product_to n f = product_to-le m n f h l in
+          omega (arith, mul-le (product_to n f) 1 (product_to n f) (f n) (omega arith) (h n))
+    ]
+
+pub factorial-le : (m n : ℕ) → m ≤ n → factorial m ≤ factorial n
+factorial-le m zero b = let e : m ≡ zero = omega arith in rw e (omega arith)
+factorial-le m (suc n) b =
+    elim (cases_lt n m) [
+      | inl l ↦ let e : m ≡ suc n = omega arith in rw e (omega arith)
+      | inr l ↦ omega (arith, factorial-le m n l, mul-le 1 (factorial n) (suc n) (factorial n) (omega arith) (omega arith))
+    ]
+
+-- a product with its next factor
+pub product_to-step : (k p q : ℕ) (f : ℕ → ℕ) → p ≡ product_to k f → q ≡ f k → p * q ≡ product_to (k + 1) f
+product_to-step k p q f e d = ap₂ (λ x y. x * y) e d ∙ sym (product_to-more k f)
+
+pub factorial-step : (n m p q : ℕ) → n < m → m ≤ 12 → p ≡ factorial n → q ≡ n → p * (q + 1) ≤ 479001600
+factorial-step n m p q b l e d =
+    let step : p * (q + 1) ≡ factorial (n + 1) = ap₂ (λ x y. x * (y + 1)) e d ∙ omega arith ∙ sym (factorial-more n) in
+    let most : factorial (n + 1) ≤ factorial 12 = factorial-le (n + 1) 12 (omega arith) in
+    omega (arith, step, most)
+
+-- ---- sums of natural numbers as sums of signed numbers
+
+-- the sum of a list as one over its places
+pub sum-places : (xs : List ℕ) → pos (sum_by (λ x. x) xs) ≡ sum_to (length xs) (λ k. pos (slice_index xs k))
+sum-places xs = pos-sum_by (λ x. x) xs ∙ total_by-places (λ x. pos x) xs 0

@@ -1,6 +1,7 @@
 -- The laws of sums over the places below a number.
 use Rattle.std.proofs.Common.{◌≡◌, ◌≢◌, ℕ, zero, suc, ◌+◌, ◌*◌, ◌<◌, ℤ, pos, ◌+ℤ◌, ◌-ℤ◌, ◌*ℤ◌, neg_ℤ, ◌≤ℤ◌, ◌<ℤ◌, inl, inr, refl, sym, ap, ◌∙◌, ap₂, Bool, true, false, if◌then◌else◌, eqb, eq-eqb, ne_eqb, arith, add-one}
 use Rattle.std.proofs.lemmas.Bool.{cases_lt}
+use Rattle.std.proofs.lemmas.Int.{ints}
 use lib.IntN.{*ℤ_comm}
 use Rattle.md_math.proofs.Ring.{linear, ring, *ℤ-+ℤ, +ℤ-*ℤ, *ℤ-zero, *ℤ_assoc, *ℤ_left_comm}
 use Rattle.md_math.proofs.Order.{nonneg-*ℤ, *ℤ-le}
@@ -203,3 +204,13 @@ pub sum_to-if : (n : ℕ) (t : Bool) (f : ℕ → ℤ) → sum_to n (λ j. if t 
 sum_to-if n true f = refl
 sum_to-if zero false f = refl
 sum_to-if (suc n) false f = omega (arith, linear, sum_to-if n false f)
+
+-- as often the same number
+pub sum_to-constant : (n : ℕ) (z : ℤ) → sum_to n (λ _. z) ≡ pos n *ℤ z
+sum_to-constant zero z = (let e : pos 0 *ℤ z ≡ pos 0 = simp ring in sym e)
+sum_to-constant (suc n) z = ap (λ y. y +ℤ z) (sum_to-constant n z) ∙ one_more n z
+  where
+    one_more : (n : ℕ) (z : ℤ) → (pos n *ℤ z) +ℤ z ≡ pos (suc n) *ℤ z
+    one_more n z =
+        let e : pos (suc n) ≡ pos n +ℤ pos 1 = omega (arith, ints) in
+        rw e (simp ring (omega (arith, linear)))

@@ -5,3 +5,4 @@ pub mod Lists
 pub mod Products
 pub mod Sizes
 pub mod Sums
+pub mod Sets

@@ -1,5 +1,5 @@
 -- Tests that hold at each place of a list, or below a number.
-use Rattle.std.proofs.Common.{◌≡◌, ℕ, zero, suc, ◌+◌, ◌<◌, Bool, true, false, ◌&&◌, List, [], ◌∷◌, length, get_or, refl, sym, ◌∙◌, arith, add-one, ◌≤◌, ℤ, nat_le}
+use Rattle.std.proofs.Common.{◌≡◌, ap₂, ℕ, zero, suc, ◌+◌, ◌<◌, Bool, true, false, ◌&&◌, List, [], ◌∷◌, length, get_or, refl, sym, ◌∙◌, arith, add-one, ◌≤◌, ℤ, nat_le}
 use Rattle.std.specs.List.{list_all}
 use Rattle.std.proofs.lemmas.List.Folds.{list_all-append, list_all_at}
 use Rattle.std.proofs.lemmas.Bool.Decides.{nat_tests}
@@ -24,6 +24,14 @@ right_fails false b h = refl
 
 left_fails : (a b : Bool) → a ≡ false → (a && b) ≡ false
 left_fails a b h = rw h refl
+
+pub all_below-all : (n : ℕ) (p : ℕ → Bool) → ((k : ℕ) → k < n → p k ≡ true) → all_below n p ≡ true
+all_below-all zero p h = refl
+all_below-all (suc n) p h = and_both (all_below n p) (p n) (all_below-all n p (λ k b. h k (omega arith))) (h n (omega arith))
+
+pub all_below-same : (n : ℕ) (p q : ℕ → Bool) → ((k : ℕ) → k < n → p k ≡ q k) → all_below n p ≡ all_below n q
+all_below-same zero p q h = refl
+all_below-same (suc n) p q h = ap₂ (λ a b. a && b) (all_below-same n p q (λ k b. h k (omega arith))) (h n (omega arith))
 
 pub all_below-more : (n : ℕ) (p : ℕ → Bool) → all_below n p ≡ true → p n ≡ true → all_below (n + 1) p ≡ true
 all_below-more n p e f = rw add-one (and_both (all_below n p) (p n) e f)

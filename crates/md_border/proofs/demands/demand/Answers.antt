@@ -1,6 +1,6 @@
 use Rattle.std.proofs.Common.{◌^◌, pos, ◌<ℤ◌, sym, subst}
 use Rattle.md_border.proofs.DemandLaws.{demand-small}
-use Rattle.md_border.proofs.Readings.{read, read_of, product_is}
+use Rattle.md_math.proofs.Readings.{read, read_of, product_is}
 use Rattle.md_border.proofs.demands.demand.Goals as goal
 
 pub returns-clause-size : goal.returns-clause-size

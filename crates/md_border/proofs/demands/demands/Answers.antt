@@ -5,7 +5,7 @@ use Rattle.md_math.proofs.Bits.{read_result, read_within}
 use Rattle.md_math.proofs.SizeLaws.{IsWithin-+ℤ, fits_from_IsWithin}
 use Rattle.md_math.proofs.SumLaws.{sum_to-more}
 use Rattle.md_setting.specs.Auction.{value_count}
-use Rattle.md_border.specs.Sets.{has_kind}
+use Rattle.md_math.specs.Sets.{member}
 use Rattle.md_border.specs.Odds.{demand_of}
 use Rattle.md_border.proofs.DemandLaws.{demands-within}
 use Rattle.md_border.proofs.demands.demands.Goals as goal
@@ -29,7 +29,7 @@ loop-kind-preserved c =
     rw (read_result c.demand_if_in-sum.result c.demand_if_in-sum.type_inv)
     (read_within (12 * 2 ^ 106 + 2 ^ 106) (to_z w128 c.loop-kind.sum-bits +ℤ c.demand_if_in-sum.result) (more c) (lit< tt)
     ∙ ap₂ (λ x y. x +ℤ y) c.loop-kind.invariant c.demand_if_in-sum.ensures.value
-    ∙ sym (sum_to-more c.loop-kind.kind (λ v. if has_kind c.args.set v then demand_of c.args.auction.now c.args.interim.now v else pos 0)))
+    ∙ sym (sum_to-more c.loop-kind.kind (λ v. if member c.args.set v then demand_of c.args.auction.now c.args.interim.now v else pos 0)))
 
 pub returns-clause-size : goal.returns-clause-size
 returns-clause-size c =

@@ -5,7 +5,7 @@ use Rattle.md_border.specs.Sides.{right_of}
 use Rattle.md_border.specs.Odds.{demands_in}
 use Rattle.md_border.proofs.DemandLaws.{den-within, excess-within}
 use Rattle.md_border.proofs.Necessity.{border}
-use Rattle.md_border.proofs.Readings.{read_small, read_of, product_is, difference_is}
+use Rattle.md_math.proofs.Readings.{read_small, read_of, product_is, difference_is}
 use Rattle.md_border.proofs.demands.excess.Goals as goal
 
 pub returns-clause-value : goal.returns-clause-value

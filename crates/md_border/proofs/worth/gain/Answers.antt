@@ -3,7 +3,7 @@ use Rattle.md_math.specs.Sizes.{IsWithin}
 use Rattle.md_math.proofs.SizeLaws.{IsWithin-*ℤ, AllWithin-number_at}
 use Rattle.md_mech.specs.Accepted.{number_limit}
 use Rattle.md_border.proofs.DemandLaws.{odds-within}
-use Rattle.md_border.proofs.Readings.{read, read_of, widened, product_is, add_product_is, add_product_fits}
+use Rattle.md_math.proofs.Readings.{read, read_of, widened, product_is, add_product_is, add_product_fits}
 use Rattle.md_border.proofs.WorthLaws.{surplus-within, revenue-within, gain-within}
 use Rattle.md_border.proofs.worth.gain.Goals as goal
 

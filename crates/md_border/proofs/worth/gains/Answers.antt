@@ -7,7 +7,7 @@ use Rattle.md_math.proofs.SumLaws.{sum_to-more}
 use Rattle.md_mech.proofs.WorthLaws.{step_fits}
 use Rattle.md_setting.specs.Auction.{value_count}
 use Rattle.md_border.specs.Worth.{gain_of}
-use Rattle.md_border.proofs.Readings.{read, read_of}
+use Rattle.md_math.proofs.Readings.{read, read_of}
 use Rattle.md_border.proofs.WorthLaws.{gains-within}
 use Rattle.md_border.proofs.worth.gains.Goals as goal
 

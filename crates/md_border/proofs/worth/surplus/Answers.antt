@@ -1,7 +1,7 @@
 use Rattle.std.proofs.Common.{◌*ℤ◌, sym, subst, lit<}
 use Rattle.md_math.specs.Lists.{number_at}
 use Rattle.md_math.specs.Sizes.{IsWithin}
-use Rattle.md_border.proofs.Readings.{IsRead, widened, product_is, difference_fits, difference_is}
+use Rattle.md_math.proofs.Readings.{IsRead, widened, product_is, difference_fits, difference_is}
 use Rattle.md_border.proofs.WorthLaws.{surplus-within}
 use Rattle.md_border.proofs.worth.surplus.Goals as goal
 

@@ -4,7 +4,7 @@ use Rattle.md_math.proofs.Order.{positive-*ℤ, positive_pos}
 use Rattle.md_mech.specs.Accepted.{number_limit}
 use Rattle.md_setting.specs.Auction.{total_weight}
 use Rattle.md_border.proofs.DemandLaws.{den-within, total-positive}
-use Rattle.md_border.proofs.Readings.{read, read_small, widened, product_is}
+use Rattle.md_math.proofs.Readings.{read, read_small, widened, product_is}
 use Rattle.md_border.proofs.worth.whole.Goals as goal
 
 pub returns-clause-positive : goal.returns-clause-positive

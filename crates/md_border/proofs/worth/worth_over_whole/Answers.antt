@@ -1,7 +1,7 @@
 use Rattle.std.proofs.Common.{◌*◌, ◌^◌, pos, ap, ◌∙◌, sym, subst, lit<}
 use Rattle.md_math.specs.Sizes.{IsWithin}
 use Rattle.md_mech.specs.Accepted.{number_limit}
-use Rattle.md_border.proofs.Readings.{read, read_of, widened, product_is, add_product_is, add_product_fits}
+use Rattle.md_math.proofs.Readings.{read, read_of, widened, product_is, add_product_is, add_product_fits}
 use Rattle.md_border.proofs.WorthLaws.{kept-within, worth-within}
 use Rattle.md_border.proofs.worth.worth_over_whole.Goals as goal
 

@@ -1,5 +1,5 @@
 use Rattle.std.proofs.Common.{arith}
-use Rattle.md_counts.proofs.ListLaws.{factorial-step}
+use Rattle.md_math.proofs.ProductLaws.{factorial-step}
 use Rattle.md_counts.proofs.weights.factorial.Goals as goal
 
 pub overflow_mul-product : goal.overflow_mul-product

@@ -2,7 +2,7 @@ use Rattle.std.proofs.Common.{◌+◌, ap, ◌∙◌, arith}
 use Rattle.std.specs.Prelude.{slice_index}
 use Rattle.md_math.specs.Products.{factorial}
 use Rattle.md_math.proofs.ProductLaws.{product_to-positive, factorial-positive}
-use Rattle.md_counts.proofs.ListLaws.{product_to-step}
+use Rattle.md_math.proofs.ProductLaws.{product_to-step}
 use Rattle.md_counts.proofs.WeightLaws.{factorials-small}
 use Rattle.md_counts.proofs.weights.factorials.Goals as goal
 

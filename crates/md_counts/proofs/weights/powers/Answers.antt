@@ -1,7 +1,7 @@
 use Rattle.std.proofs.Common.{ℕ, ◌+◌, ◌≤◌, ◌^◌, ap, ◌∙◌, arith, get_or}
 use Rattle.std.specs.Prelude.{slice_index}
 use Rattle.std.proofs.lemmas.List.Sums.{get_or-le-sum_by}
-use Rattle.md_counts.proofs.ListLaws.{product_to-step}
+use Rattle.md_math.proofs.ProductLaws.{product_to-step}
 use Rattle.md_counts.proofs.WeightLaws.{roof_of, power-small, powers-small}
 use Rattle.md_counts.proofs.weights.powers.Goals as goal
 

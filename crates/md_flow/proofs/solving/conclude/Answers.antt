@@ -1,5 +1,6 @@
 use Rattle.std.proofs.Common.{◌<◌, ◌∙◌, arith}
-use Rattle.md_flow.specs.Network.{member, demand_count}
+use Rattle.md_flow.specs.Network.{demand_count}
+use Rattle.md_math.specs.Sets.{member}
 use Rattle.md_flow.specs.Flows.{amount_in}
 use Rattle.md_flow.specs.Tables.{flow_of}
 use Rattle.md_flow.proofs.Worst.{IsUnreached, IsWorst-end, carried-end, Meets-end, NoneOver-meets}

@@ -1,5 +1,5 @@
 use Rattle.std.proofs.Common.{◌≡◌, ℕ, ◌<◌, ◌^◌, ◌==◌}
-use Rattle.md_flow.specs.Network.{member}
+use Rattle.md_math.specs.Sets.{member}
 use Rattle.md_flow.specs.Labels.{label_at, top_of}
 use Rattle.md_flow.proofs.solving.unreached.Given as goal
 
