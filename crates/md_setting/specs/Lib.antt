@@ -12,3 +12,4 @@ pub mod Rows
 pub mod Setting
 pub mod Shaped
 pub mod Ways
+pub mod ByKind
