@@ -1,5 +1,5 @@
 //! The rows of forms.
-ghost use Rattle.std.specs.Prelude.{◌≡◌, ℕ, ◌<◌, ◌^◌, [], ◌∷◌, OnOk};
+ghost use Rattle.std.specs.Prelude.{◌≡◌, ℕ, ◌<◌, ◌^◌, [], ◌∷◌, OnErr, OnOk};
 ghost use Rattle.md_math.specs.Sizes.{IsWithin};
 ghost use Rattle.md_lp.specs.Program.{row_count};
 ghost use Rattle.md_forms.specs.Forms.{Form};
@@ -15,7 +15,8 @@ pub fn push_form(lp: &mut Lp, kind: RowKind, terms: &[Term], right: i128) -> Res
     requires placed { AreTermsBelow (2 ^ 44) lp.old.columns terms.now }
     requires size { IsWithin (2 ^ 44) right }
     requires room { row_count lp.old < 8192 }
-    ensures { OnOk result ((form : Form) → IsWritten form kind terms.now right → Extends (form ∷ []) lp.old lp.new) }
+    ensures ok { OnOk result ((form : Form) → IsWritten form kind terms.now right → Extends (form ∷ []) lp.old lp.new) }
+    ensures err { OnErr result (lp.new ≡ lp.old) }
 {
     match lp.push_row(kind, terms, right) {
         Ok(()) => Ok(()),

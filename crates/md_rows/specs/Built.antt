@@ -1,5 +1,5 @@
 -- A program with the columns of a setting, and maybe more, that grows condition by condition.
-use Rattle.std.specs.Prelude.{◌≤◌, List}
+use Rattle.std.specs.Prelude.{ℕ, ◌≤◌, List, length, take}
 use Rattle.md_setting.specs.Setting.{GeneralSetting}
 use Rattle.md_setting.specs.Rows.{column_count}
 use Rattle.md_mech.specs.Rows.{Condition}
@@ -15,3 +15,9 @@ pub record HasRoom (s : GeneralSetting) (conditions : List Condition) (p : Progr
 -- the rows of these conditions were added at its end
 abbrev pub Extends : GeneralSetting → List Condition → Program → Program → Type 0
 Extends s conditions old new = ExtendsBy (forms_of s conditions) old new
+
+-- the rows of the first of these conditions were added at its end
+pub record ExtendsInPart (s : GeneralSetting) (conditions : List Condition) (old new : Program) : Type 0 where
+  pub count : ℕ
+  pub few : count ≤ length conditions
+  pub first : Extends s (take count conditions) old new

@@ -1,5 +1,5 @@
 //! The conditions of a setting as rows.
-ghost use Rattle.std.specs.Prelude.{◌≡◌, ◌≢◌, ◌<◌, ◌^◌, [], ◌∷◌, slice_index, OnOk};
+ghost use Rattle.std.specs.Prelude.{◌≡◌, ◌≢◌, ◌<◌, ◌^◌, [], ◌∷◌, slice_index, OnErr, OnOk};
 ghost use Rattle.md_math.specs.Sizes.{IsWithin};
 ghost use Rattle.md_space.specs.Profiles.{profile_count, profile_at};
 ghost use Rattle.md_setting.specs.Meaning.{agent_count, sizes_of};
@@ -17,7 +17,7 @@ use md_num::{NoMemory, product};
 use md_setting::Setting;
 use std::alloc::Global;
 
-/// Appends the row of a condition.
+/// Appends the row of a condition. Where memory ran out the program stays as it was.
 pub(crate) fn push_condition(
     alloc: Global,
     setting: &Setting,
@@ -26,7 +26,8 @@ pub(crate) fn push_condition(
 ) -> Result<(), NoMemory>
     requires inside { IsInside setting.now condition }
     requires room { HasRoom setting.now (named setting.now condition ∷ []) lp.old }
-    ensures { OnOk result (Extends setting.now (named setting.now condition ∷ []) lp.old lp.new) }
+    ensures ok { OnOk result (Extends setting.now (named setting.now condition ∷ []) lp.old lp.new) }
+    ensures err { OnErr result (lp.new ≡ lp.old) }
 {
     match condition {
         Condition::Dominant {
@@ -59,7 +60,8 @@ fn push_dominant(
     requires report_in { report < slice_index (sizes_of setting.now) agent }
     requires false_report { report ≢ slice_index (profile_at (sizes_of setting.now) rank) agent }
     requires room { HasRoom setting.now (dominant_row agent (profile_at (sizes_of setting.now) rank) report ∷ []) lp.old }
-    ensures { OnOk result (Extends setting.now (dominant_row agent (profile_at (sizes_of setting.now) rank) report ∷ []) lp.old lp.new) }
+    ensures ok { OnOk result (Extends setting.now (dominant_row agent (profile_at (sizes_of setting.now) rank) report ∷ []) lp.old lp.new) }
+    ensures err { OnErr result (lp.new ≡ lp.old) }
 {
     let kind = setting.space().report(rank, agent);
     let shares = dominant_shares(alloc, setting, agent, rank, report)?;
@@ -80,7 +82,8 @@ fn push_bayes(
     requires report_in { report < slice_index (sizes_of setting.now) agent }
     requires false_report { report ≢ kind }
     requires room { HasRoom setting.now (bayes_row agent kind report ∷ []) lp.old }
-    ensures { OnOk result (Extends setting.now (bayes_row agent kind report ∷ []) lp.old lp.new) }
+    ensures ok { OnOk result (Extends setting.now (bayes_row agent kind report ∷ []) lp.old lp.new) }
+    ensures err { OnErr result (lp.new ≡ lp.old) }
 {
     let shares = bayes_shares(alloc, setting, agent, kind, report)?;
     let terms = utility_terms(alloc, setting, agent, kind, &shares)?;
@@ -97,7 +100,8 @@ fn push_ex_post(
     requires agent_in { agent < agent_count setting.now }
     requires rank_in { rank < profile_count (sizes_of setting.now) }
     requires room { HasRoom setting.now (ex_post_row agent (profile_at (sizes_of setting.now) rank) ∷ []) lp.old }
-    ensures { OnOk result (Extends setting.now (ex_post_row agent (profile_at (sizes_of setting.now) rank) ∷ []) lp.old lp.new) }
+    ensures ok { OnOk result (Extends setting.now (ex_post_row agent (profile_at (sizes_of setting.now) rank) ∷ []) lp.old lp.new) }
+    ensures err { OnErr result (lp.new ≡ lp.old) }
 {
     let kind = setting.space().report(rank, agent);
     let share = Term {
@@ -118,7 +122,8 @@ fn push_interim(
     requires agent_in { agent < agent_count setting.now }
     requires kind_in { kind < slice_index (sizes_of setting.now) agent }
     requires room { HasRoom setting.now (interim_row agent kind ∷ []) lp.old }
-    ensures { OnOk result (Extends setting.now (interim_row agent kind ∷ []) lp.old lp.new) }
+    ensures ok { OnOk result (Extends setting.now (interim_row agent kind ∷ []) lp.old lp.new) }
+    ensures err { OnErr result (lp.new ≡ lp.old) }
 {
     let shares = interim_shares(alloc, setting, agent, kind)?;
     let terms = utility_terms(alloc, setting, agent, kind, &shares)?;
@@ -138,7 +143,8 @@ fn lacking(setting: &Setting, agent: u8, kind: u8) -> i128
 fn push_deficit(alloc: Global, setting: &Setting, rank: u32, lp: &mut Lp) -> Result<(), NoMemory>
     requires rank_in { rank < profile_count (sizes_of setting.now) }
     requires room { HasRoom setting.now (deficit_row (profile_at (sizes_of setting.now) rank) ∷ []) lp.old }
-    ensures { OnOk result (Extends setting.now (deficit_row (profile_at (sizes_of setting.now) rank) ∷ []) lp.old lp.new) }
+    ensures ok { OnOk result (Extends setting.now (deficit_row (profile_at (sizes_of setting.now) rank) ∷ []) lp.old lp.new) }
+    ensures err { OnErr result (lp.new ≡ lp.old) }
 {
     let terms = deficit_terms(alloc, setting, rank)?;
     push_form(lp, RowKind::AtMost, &terms, 0)
@@ -147,7 +153,8 @@ fn push_deficit(alloc: Global, setting: &Setting, rank: u32, lp: &mut Lp) -> Res
 fn push_profile(alloc: Global, setting: &Setting, rank: u32, lp: &mut Lp) -> Result<(), NoMemory>
     requires rank_in { rank < profile_count (sizes_of setting.now) }
     requires room { HasRoom setting.now (profile_row (profile_at (sizes_of setting.now) rank) ∷ []) lp.old }
-    ensures { OnOk result (Extends setting.now (profile_row (profile_at (sizes_of setting.now) rank) ∷ []) lp.old lp.new) }
+    ensures ok { OnOk result (Extends setting.now (profile_row (profile_at (sizes_of setting.now) rank) ∷ []) lp.old lp.new) }
+    ensures err { OnErr result (lp.new ≡ lp.old) }
 {
     let terms = profile_terms(alloc, setting, rank)?;
     push_form(lp, RowKind::Exact, &terms, 1)

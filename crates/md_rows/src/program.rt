@@ -1,11 +1,11 @@
 //! The linear program of a setting.
-ghost use Rattle.std.specs.Prelude.{◌≡◌, [], length, IfOk, OnOk};
+ghost use Rattle.std.specs.Prelude.{◌≡◌, [], length, IfOk, OnErr, OnOk};
 ghost use Rattle.md_setting.specs.Rows.{column_count};
 ghost use Rattle.md_setting.specs.Shaped.{IsShaped};
 ghost use Rattle.md_mech.specs.Rows.{rows_of};
 ghost use Rattle.md_lp.specs.Program.{row_count};
 ghost use Rattle.md_forms.specs.ProgramOf.{HasCostOf};
-ghost use Rattle.md_rows.specs.Built.{HasRoom, Extends};
+ghost use Rattle.md_rows.specs.Built.{HasRoom, Extends, ExtendsInPart};
 ghost use Rattle.md_rows.specs.ProgramOf.{HasEachRow, IsProgramOf};
 ghost use Rattle.md_rows.specs.Sides.{cost_in};
 ghost use Rattle.md_rows.specs.Law.{AdmitsPoints, AdmitsMechanisms, CostsPoints, CostsMechanisms};
@@ -40,10 +40,12 @@ pub fn rows_of(alloc: Global, setting: &Setting) -> Result<Lp, NoMemory>
 }
 
 /// Appends a row for each condition of a setting, in their order, to a program that has the columns of the setting's
-/// program and maybe more behind them. Each row is divided by its greatest common divisor.
+/// program and maybe more behind them. Each row is divided by its greatest common divisor. Where memory ran out the rows
+/// of the first conditions were appended, and no other.
 pub fn push_rows(alloc: Global, setting: &Setting, lp: &mut Lp) -> Result<(), NoMemory>
     requires { HasRoom setting.now (rows_of setting.now) lp.old }
-    ensures { OnOk result (Extends setting.now (rows_of setting.now) lp.old lp.new) }
+    ensures ok { OnOk result (Extends setting.now (rows_of setting.now) lp.old lp.new) }
+    ensures err { OnErr result (ExtendsInPart setting.now (rows_of setting.now) lp.old lp.new) }
 {
     for row in 0..setting.rows() {
         push_condition(alloc, setting, condition_at(setting, row), lp)?;

@@ -13,7 +13,7 @@ want_of-requires c =
     (λ same. (e.magnitude.0 (c.in-Err.is ∙ ap Err same)).1 shaped.sizes)
     (λ same. let full = (e.too_many.0 (c.in-Err.is ∙ ap Err same)).1 in omega (arith, full, c.requires.room))
 
-pub returns-in-Ok : goal.returns-in-Ok
-returns-in-Ok c = λ form written.
+pub returns-in-Ok-clause-ok : goal.returns-in-Ok-clause-ok
+returns-in-Ok-clause-ok c = λ form written.
     let e = rw (to_z-of_z w128 c.args.right c.ranges.right) at c.in-Ok.ensures in
     extends-row form c.args.kind c.args.terms.now c.args.right c.args.lp.now c.push_row.new.self c.requires.placed written e.ok

@@ -11,8 +11,8 @@ use Rattle.md_rows.proofs.RowForms.{on_ok}
 use Rattle.md_rows.proofs.ShareLaws.{bayes-sum}
 use Rattle.md_rows.proofs.conditions.push_bayes.Goals as goal
 
-pub returns : goal.returns
-returns c =
+pub returns-clause-ok : goal.returns-clause-ok
+returns-clause-ok c =
     let s = c.args.setting.now in
     let apart : c.args.report ≢ c.args.kind = c.requires.false_report in
     let inside : c.args.agent < length (sizes_of s) = omega (arith, c.requires.agent_in, length-map s.agents (λ agent. length agent.types)) in
@@ -26,4 +26,4 @@ returns c =
           ∙ c.in_ok-shares.ensures.sum (λ r. utility_as s x c.args.agent c.args.kind (profile_at (sizes_of s) r))
           ∙ bayes-sum s c.args.agent c.args.kind c.args.report (utility_in s x c.args.agent) inside c.requires.kind_in c.requires.report_in (λ e. apart (sym e));
       right_is = refl;
-    })) c.push_form.ensures
+    })) c.push_form.ensures.ok

@@ -9,8 +9,8 @@ use Rattle.md_rows.specs.Sides.{utility_as}
 use Rattle.md_rows.proofs.RowForms.{on_ok, dominant-left}
 use Rattle.md_rows.proofs.conditions.push_dominant.Goals as goal
 
-pub returns : goal.returns
-returns c =
+pub returns-clause-ok : goal.returns-clause-ok
+returns-clause-ok c =
     let s = c.args.setting.now in
     let t = profile_at (sizes_of s) c.args.rank in
     let kind : c.report-kind.result ≡ slice_index t c.args.agent = c.report-kind.ensures.value ∙ ap (λ sizes. slice_index (profile_at sizes c.args.rank) c.args.agent) c.space.ensures.sizes in
@@ -24,4 +24,4 @@ returns c =
           ∙ c.in_ok-shares.ensures.sum (λ r. utility_as s x c.args.agent c.report-kind.result (profile_at (sizes_of s) r))
           ∙ dominant-left s x c.args.agent c.args.rank c.args.report c.report-kind.result c.requires.rank_in c.requires.report_in kind;
       right_is = refl;
-    })) c.push_form.ensures
+    })) c.push_form.ensures.ok

@@ -12,13 +12,13 @@ use Rattle.md_rows.specs.Built.{Extends}
 use Rattle.md_mech.specs.Rows.{ex_post_row}
 use Rattle.md_rows.proofs.conditions.push_ex_post.Goals as goal
 
-pub returns : goal.returns
-returns c =
+pub returns-clause-ok : goal.returns-clause-ok
+returns-clause-ok c =
     let s = c.args.setting.now in
     let t = profile_at (sizes_of s) c.args.rank in
     let kind : c.report-kind.result ≡ slice_index t c.args.agent = c.report-kind.ensures.value ∙ ap (λ sizes. slice_index (profile_at sizes c.args.rank) c.args.agent) c.space.ensures.sizes in
     let less : IsWithin (0 + 1000000) (pos 0 -ℤ c.outside.result) = IsWithin-sub 0 1000000 (pos 0) c.outside.result (IsWithin-zero 0) c.outside.ensures.size in
-    let e = rw (read_result c.outside.result c.outside.type_inv, read_within (0 + 1000000) (pos 0 -ℤ c.outside.result) less (lit< tt)) at c.push_form.ensures in
+    let e = rw (read_result c.outside.result c.outside.type_inv, read_within (0 + 1000000) (pos 0 -ℤ c.outside.result) less (lit< tt)) at c.push_form.ensures.ok in
     on_ok c.push_form.result _ (Extends s (ex_post_row c.args.agent t ∷ []) c.args.lp.now c.push_form.new.lp)
     (λ f. f (form_of s (ex_post_row c.args.agent t)) (record {
       kind_is = refl;

@@ -11,8 +11,8 @@ use Rattle.md_rows.proofs.RowForms.{on_ok}
 use Rattle.md_rows.proofs.ShareLaws.{interim-sum}
 use Rattle.md_rows.proofs.conditions.push_interim.Goals as goal
 
-pub returns : goal.returns
-returns c =
+pub returns-clause-ok : goal.returns-clause-ok
+returns-clause-ok c =
     let s = c.args.setting.now in
     on_ok c.push_form.result _ (Extends s (interim_row c.args.agent c.args.kind ∷ []) c.args.lp.now c.push_form.new.lp)
     (λ f. f (form_of s (interim_row c.args.agent c.args.kind)) (record {
@@ -24,4 +24,4 @@ returns c =
           ∙ c.in_ok-shares.ensures.sum (λ r. utility_as s x c.args.agent c.args.kind (profile_at (sizes_of s) r))
           ∙ interim-sum s c.args.agent c.args.kind (utility_in s x c.args.agent);
       right_is = read_result c.lacking.result c.lacking.type_inv ∙ c.lacking.ensures.value;
-    })) c.push_form.ensures
+    })) c.push_form.ensures.ok

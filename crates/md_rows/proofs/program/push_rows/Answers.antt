@@ -17,10 +17,10 @@ push_condition-requires-clause-room c =
 pub loop-row-preserved : goal.loop-row-preserved
 loop-row-preserved c =
     let s = c.args.setting.now in
-    extends-next s (rows_of s) c.loop-row.row (named s c.condition_at.result) c.args.lp.now c.loop-row.lp c.push_condition.new.lp c.condition_at.ensures.row c.loop-row.invariant c.in_ok-push_condition.ensures
+    extends-next s (rows_of s) c.loop-row.row (named s c.condition_at.result) c.args.lp.now c.loop-row.lp c.push_condition.new.lp c.condition_at.ensures.row c.loop-row.invariant c.in_ok-push_condition.ensures.ok
 
-pub returns : goal.returns
-returns c =
+pub returns-clause-ok : goal.returns-clause-ok
+returns-clause-ok c =
     let s = c.args.setting.now in
     let whole : c.loop-row.row ≡ length (rows_of s) = omega (arith, c.loop-row-test.false, c.loop-row.auto.row-end, c.rows-row-end.ensures.count, conditions-length s) in
     extends-all s (rows_of s) c.loop-row.row c.args.lp.now c.loop-row.lp whole c.loop-row.invariant

@@ -11,7 +11,7 @@ pub returns : goal.returns
 returns c =
     let s = c.args.setting.now in
     let lp = c.push_rows.new.lp in
-    let is : IsProgramOf s lp = program-of s c.in_ok-lp.lp lp c.in_ok-lp.ensures.columns c.in_ok-lp.ensures.cost c.in_ok-lp.ensures.no_row c.in_ok-push_rows.ensures in
+    let is : IsProgramOf s lp = program-of s c.in_ok-lp.lp lp c.in_ok-lp.ensures.columns c.in_ok-lp.ensures.cost c.in_ok-lp.ensures.no_row c.in_ok-push_rows.ensures.ok in
     record {
       program = is;
       each_row = each-row s lp is;

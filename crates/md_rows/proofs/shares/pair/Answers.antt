@@ -22,7 +22,7 @@ returns c =
     let first = to_z-of_z w128 c.args.first c.ranges.first in
     let second = to_z-of_z w128 c.args.second c.ranges.second in
     let all = both c.args.low c.args.high c.args.first c.args.second c.new-shares.result.items c.push_term.new.terms.items c.push_term-2.new.terms.items c.new-shares.ensures.items
-    (omega (arith, c.requires.order)) c.requires.first_size c.requires.second_size (rw first at c.in_ok-push_term.ensures) (rw second at c.in_ok-push_term-2.ensures) in
+    (omega (arith, c.requires.order)) c.requires.first_size c.requires.second_size (rw first at c.in_ok-push_term.ensures.ok) (rw second at c.in_ok-push_term-2.ensures.ok) in
     record {
       placed = adds-all 1000000 c.args.low (c.args.high + 1) (λ x. c.args.first *ℤ x c.args.low +ℤ c.args.second *ℤ x c.args.high) c.push_term-2.new.terms.items all;
       sum = adds-sum 1000000 c.args.low (c.args.high + 1) (λ x. c.args.first *ℤ x c.args.low +ℤ c.args.second *ℤ x c.args.high) c.push_term-2.new.terms.items all;

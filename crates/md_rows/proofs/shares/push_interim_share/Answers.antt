@@ -16,7 +16,7 @@ returns-in_ok-push_term c =
     let told : c.report.result ≡ slice_index t c.args.agent = c.report.ensures.value ∙ ap (λ sizes. slice_index (profile_at sizes c.args.rank) c.args.agent) c.space.ensures.sizes in
     let less : IsWithin (0 + 1000000) (pos 0 -ℤ c.weight.result) = IsWithin-sub 0 1000000 (pos 0) c.weight.result (IsWithin-zero 0) c.weight.ensures.size in
     let minus : pos 0 -ℤ c.weight.result ≡ neg_ℤ (weight_of s t) = omega (arith, linear, ap neg_ℤ c.weight.ensures.value) in
-    let f = rw (read_result c.weight.result c.weight.type_inv, read_within (0 + 1000000) (pos 0 -ℤ c.weight.result) less (lit< tt)) at c.in_ok-push_term.ensures in
+    let f = rw (read_result c.weight.result c.weight.type_inv, read_within (0 + 1000000) (pos 0 -ℤ c.weight.result) less (lit< tt)) at c.in_ok-push_term.ensures.ok in
     rw (eq-eqb (slice_index t c.args.agent) c.args.kind (sym told ∙ c.if-report-kind.true))
     (adds-told 1000000 c.args.rank (pos 0 -ℤ c.weight.result) (neg_ℤ (weight_of s t)) c.args.shares.now.items c.push_term.new.terms.items minus (f 1000000 less))
 

@@ -11,7 +11,7 @@ use Rattle.md_rows.proofs.terms.profile_terms.Goals as goal
 pub loop-outcome-preserved : goal.loop-outcome-preserved
 loop-outcome-preserved c =
     let s = c.args.setting.now in
-    let f = rw (c.outcomes.ensures.count) at c.in_ok-push_term.ensures in
+    let f = rw (c.outcomes.ensures.count) at c.in_ok-push_term.ensures.ok in
     adds-place (2 ^ 44) 0 (c.args.rank * outcome_count s) c.loop-outcome.outcome (λ x o. pos 1 *ℤ x (c.args.rank * outcome_count s + o)) (pos 1)
     [] c.loop-outcome.terms.items c.push_term.new.terms.items c.loop-outcome.invariant (f (2 ^ 44) (record { within = omega arith })) (λ x. refl)
 

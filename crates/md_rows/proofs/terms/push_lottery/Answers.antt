@@ -15,7 +15,7 @@ loop-outcome-preserved c =
     let truth : profile_at (sizes_of s) c.replace-truth.result ≡ replaced (profile_at (sizes_of s) c.args.share.now.column) c.args.agent c.args.kind =
     ap (λ sizes. profile_at sizes c.replace-truth.result) (sym c.space.ensures.sizes) ∙ c.replace-truth.ensures.profile ∙ ap (λ sizes. replaced (profile_at sizes c.args.share.now.column) c.args.agent c.args.kind) c.space.ensures.sizes in
     let value = rw truth at (rw small at c.scaled_utility-value.ensures.value) in
-    let f = rw (read_result c.scaled_utility-value.result c.scaled_utility-value.type_inv, c.outcomes.ensures.count) at c.in_ok-push_term.ensures in
+    let f = rw (read_result c.scaled_utility-value.result c.scaled_utility-value.type_inv, c.outcomes.ensures.count) at c.in_ok-push_term.ensures.ok in
     adds-place (2 ^ 44) (c.args.share.now.column * outcome_count s) (c.args.share.now.column * outcome_count s) c.loop-outcome.outcome
     (λ x o. (c.args.share.now.value *ℤ utility_of s c.args.agent (replaced (profile_at (sizes_of s) c.args.share.now.column) c.args.agent c.args.kind) o) *ℤ x (c.args.share.now.column * outcome_count s + o)) c.scaled_utility-value.result
     c.args.terms.now.items c.loop-outcome.terms.items c.push_term.new.terms.items c.loop-outcome.invariant (f (2 ^ 44) c.scaled_utility-value.ensures.size)

@@ -19,7 +19,7 @@ loop-agent-preserved c =
     let n = profile_count (sizes_of s) in
     let count : c.profiles-profiles.result ≡ profile_count (sizes_of s) = c.profiles-profiles.ensures.count ∙ ap profile_count c.space.ensures.sizes in
     let sign : to_z w128 (of_z w128 c.args.sign) ≡ c.args.sign = to_z-of_z w128 c.args.sign c.ranges.sign in
-    let f = rw (sign, count, c.from.ensures) at c.in_ok-push_term.ensures in
+    let f = rw (sign, count, c.from.ensures) at c.in_ok-push_term.ensures.ok in
     let size : IsWithin (2 ^ 44) c.args.sign = IsWithin-wider 1 (2 ^ 44) c.args.sign (omega arith) c.requires.sign in
     let next = adds-next (2 ^ 44) c.args.first (c.args.first + i * n) (c.args.first + (i * n + c.args.rank)) (c.args.first + (i * n + c.args.rank) + 1) i (part_of_all s c.args.first c.args.rank c.args.sign)
     c.args.terms.now.items c.loop-agent.terms.items c.push_term.new.terms.items (rw sign at c.loop-agent.invariant) (f (2 ^ 44) size) (omega arith) in

@@ -25,7 +25,7 @@ loop-share-preserved c =
     let sign : to_z w128 (of_z w128 c.args.sign) ≡ c.args.sign = to_z-of_z w128 c.args.sign c.ranges.sign in
     let value = rw (sign, read_within 1000000 share.value small (lit< tt)) at c.product.ensures.value in
     let size : IsWithin (2 ^ 44) c.product.result = subst (IsWithin (2 ^ 44)) (sym value) (IsWithin-wider (1 * 1000000) (2 ^ 44) (c.args.sign *ℤ share.value) (omega arith) (IsWithin-*ℤ 1 1000000 c.args.sign share.value c.requires.sign small)) in
-    let f = rw (read_result c.product.result c.product.type_inv, count, c.from.ensures) at c.in_ok-push_term.ensures in
+    let f = rw (read_result c.product.result c.product.type_inv, count, c.from.ensures) at c.in_ok-push_term.ensures.ok in
     rw sign
     (subst (λ shares. AddsShares 1000000 (2 ^ 44) base 1 (part_at base c.args.sign) shares c.args.terms.now.items c.push_term.new.terms.items) (sym (take_more c.args.shares.now k no_term c.loop-share-test.true))
     (shares-more 1000000 (2 ^ 44) base 1 (part_at base c.args.sign) (take k c.args.shares.now) c.args.terms.now.items c.loop-share.terms.items c.push_term.new.terms.items share (rw sign at c.loop-share.invariant)
