@@ -3,20 +3,14 @@ ghost use Rattle.md_math.specs.Sizes.{IsWithin};
 ghost use Rattle.md_cert.specs.Fitting.{FitsColumns, FitsRows, IsDenominator, FitsBound, Fits};
 
 use super::*;
-use md_lp::{Lp, LpRefusal, RowKind, Term};
+use md_lp::Lp;
 use md_num::{Frac, NoMemory, Nums};
+use md_sample_programs::{buyer, held, no_deficit, outside, payer, voters};
 use std::alloc::Global;
 use std::process::Abort;
 use std::test::Fail;
 
-// ---- programs and certificates from tables of numbers
-
-// A row by its coefficients, of which a program takes those at its columns.
-struct Line {
-    kind: RowKind,
-    coefficients: [i128; 8],
-    right: i128,
-}
+// ---- certificates from tables of numbers
 
 #[derive(Clone, Copy)]
 enum Claim {
@@ -36,51 +30,14 @@ struct Case {
     fault: Option<CertFault>,
 }
 
-fn nums(alloc: Global, numbers: &[i128]) -> Result<Nums, NoMemory> {
-    let mut list = Nums::new(alloc);
-    for number in numbers {
-        list.push(*number)?;
-    }
-    Ok(list)
-}
-
-fn program(alloc: Global, cost: &[i128], lines: &[Line]) -> Result<Lp, LpRefusal> {
-    let list = nums(alloc, cost)?;
-    let columns = list.len().min(8);
-    if list.len() != columns {
-        return Err(LpRefusal::Index);
-    }
-    let mut lp = Lp::new(alloc, columns as u32, list)?;
-    for line in lines {
-        let terms = terms_of(alloc, &line.coefficients)?;
-        lp.push_row(line.kind, &terms, line.right)?;
-    }
-    Ok(lp)
-}
-
-fn terms_of(alloc: Global, coefficients: &[i128; 8]) -> Result<Vec<Term>, NoMemory> {
-    let mut terms = Vec::new(alloc);
-    let mut column = 0;
-    for value in coefficients {
-        if *value != 0 {
-            terms.push(Term {
-                column,
-                value: *value,
-            })?;
-        }
-        column = column.wrapping_add(1);
-    }
-    Ok(terms)
-}
-
 fn certificate_of(alloc: Global, lp: &Lp, case: &Case) -> Result<Certificate, NoMemory> {
     let columns = (lp.columns() as usize).min(8);
     let rows = (lp.rows() as usize).min(12);
-    let point = nums(alloc, &case.point[..columns])?;
-    let face = nums(alloc, &case.face[..rows])?;
+    let point = Nums::from_slice(alloc, &case.point[..columns])?;
+    let face = Nums::from_slice(alloc, &case.face[..rows])?;
     match case.claim {
         Claim::Optimal => {
-            let main = nums(alloc, &case.main[..rows])?;
+            let main = Nums::from_slice(alloc, &case.main[..rows])?;
             let bound = Bound {
                 den: case.over,
                 main,
@@ -94,7 +51,7 @@ fn certificate_of(alloc: Global, lp: &Lp, case: &Case) -> Result<Certificate, No
         }
         Claim::Infeasible => Ok(Certificate::Infeasible { face }),
         Claim::Unbounded => {
-            let ray = nums(alloc, &case.ray[..columns])?;
+            let ray = Nums::from_slice(alloc, &case.ray[..columns])?;
             Ok(Certificate::Unbounded { den: 1, point, ray })
         }
     }
@@ -167,39 +124,6 @@ fn judge(rt: &impl Abort, alloc: Global, lp: &Lp, cases: &[Case]) -> Result<(), 
 }
 
 // ---- one buyer, who values an item at 1 or at 3: chances to keep and to sell, payments and their negatives
-
-static SALE: [Line; 6] = [
-    Line {
-        kind: RowKind::AtMost,
-        coefficients: [0, -1, 0, 1, 1, -1, -1, 1],
-        right: 0,
-    },
-    Line {
-        kind: RowKind::AtMost,
-        coefficients: [0, 3, 0, -3, -1, 1, 1, -1],
-        right: 0,
-    },
-    Line {
-        kind: RowKind::AtMost,
-        coefficients: [0, -1, 0, 0, 1, 0, -1, 0],
-        right: 0,
-    },
-    Line {
-        kind: RowKind::AtMost,
-        coefficients: [0, 0, 0, -3, 0, 1, 0, -1],
-        right: 0,
-    },
-    Line {
-        kind: RowKind::Exact,
-        coefficients: [1, 1, 0, 0, 0, 0, 0, 0],
-        right: 1,
-    },
-    Line {
-        kind: RowKind::Exact,
-        coefficients: [0, 0, 1, 1, 0, 0, 0, 0],
-        right: 1,
-    },
-];
 
 static SALE_CASES: [Case; 6] = [
     Case {
@@ -275,74 +199,11 @@ static SALE_CASES: [Case; 6] = [
 
 #[test]
 fn sells_to_the_high_buyer_alone(rt: HostRuntime) -> Result<(), Fail> {
-    let lp = program(rt.alloc(), &[0, 0, 0, 0, 1, 1, -1, -1], &SALE)?;
+    let lp = buyer(rt.alloc(), 3)?;
     judge(&rt, rt.alloc(), &lp, &SALE_CASES)
 }
 
 // ---- two voters with two types each: chances of two outcomes at four profiles
-
-static VOTE: [Line; 12] = [
-    Line {
-        kind: RowKind::AtMost,
-        coefficients: [-1, 0, 0, 0, 1, 0, 0, 0],
-        right: 0,
-    },
-    Line {
-        kind: RowKind::AtMost,
-        coefficients: [0, 0, -1, 0, 0, 0, 1, 0],
-        right: 0,
-    },
-    Line {
-        kind: RowKind::AtMost,
-        coefficients: [0, 1, 0, 0, 0, -1, 0, 0],
-        right: 0,
-    },
-    Line {
-        kind: RowKind::AtMost,
-        coefficients: [0, 0, 0, 1, 0, 0, 0, -1],
-        right: 0,
-    },
-    Line {
-        kind: RowKind::AtMost,
-        coefficients: [-1, 0, 1, 0, 0, 0, 0, 0],
-        right: 0,
-    },
-    Line {
-        kind: RowKind::AtMost,
-        coefficients: [0, 1, 0, -1, 0, 0, 0, 0],
-        right: 0,
-    },
-    Line {
-        kind: RowKind::AtMost,
-        coefficients: [0, 0, 0, 0, -1, 0, 1, 0],
-        right: 0,
-    },
-    Line {
-        kind: RowKind::AtMost,
-        coefficients: [0, 0, 0, 0, 0, 1, 0, -1],
-        right: 0,
-    },
-    Line {
-        kind: RowKind::Exact,
-        coefficients: [1, 1, 0, 0, 0, 0, 0, 0],
-        right: 1,
-    },
-    Line {
-        kind: RowKind::Exact,
-        coefficients: [0, 0, 1, 1, 0, 0, 0, 0],
-        right: 1,
-    },
-    Line {
-        kind: RowKind::Exact,
-        coefficients: [0, 0, 0, 0, 1, 1, 0, 0],
-        right: 1,
-    },
-    Line {
-        kind: RowKind::Exact,
-        coefficients: [0, 0, 0, 0, 0, 0, 1, 1],
-        right: 1,
-    },
-];
 
 static VOTE_CASES: [Case; 1] = [Case {
     claim: Claim::Optimal,
@@ -356,24 +217,11 @@ static VOTE_CASES: [Case; 1] = [Case {
 
 #[test]
 fn follows_the_first_voter(rt: HostRuntime) -> Result<(), Fail> {
-    let lp = program(rt.alloc(), &[2, 0, 1, 1, 1, 1, 0, 2], &VOTE)?;
+    let lp = voters(rt.alloc())?;
     judge(&rt, rt.alloc(), &lp, &VOTE_CASES)
 }
 
 // ---- one agent with one outcome, which is worth 0 and should be worth 1
-
-static OUTSIDE: [Line; 2] = [
-    Line {
-        kind: RowKind::AtMost,
-        coefficients: [0, 0, 0, 0, 0, 0, 0, 0],
-        right: -1,
-    },
-    Line {
-        kind: RowKind::Exact,
-        coefficients: [1, 0, 0, 0, 0, 0, 0, 0],
-        right: 1,
-    },
-];
 
 static OUTSIDE_CASES: [Case; 4] = [
     Case {
@@ -424,17 +272,11 @@ static OUTSIDE_CASES: [Case; 4] = [
 
 #[test]
 fn shows_that_nothing_is_worth_the_outside(rt: HostRuntime) -> Result<(), Fail> {
-    let lp = program(rt.alloc(), &[0], &OUTSIDE)?;
+    let lp = outside(rt.alloc())?;
     judge(&rt, rt.alloc(), &lp, &OUTSIDE_CASES)
 }
 
 // ---- the same with payments and no demand on them: a chance, a payment and its negative
-
-static PAYMENTS: [Line; 1] = [Line {
-    kind: RowKind::Exact,
-    coefficients: [1, 0, 0, 0, 0, 0, 0, 0],
-    right: 1,
-}];
 
 static PAYMENTS_CASES: [Case; 2] = [
     Case {
@@ -459,24 +301,11 @@ static PAYMENTS_CASES: [Case; 2] = [
 
 #[test]
 fn takes_payments_without_end(rt: HostRuntime) -> Result<(), Fail> {
-    let lp = program(rt.alloc(), &[0, 1, -1], &PAYMENTS)?;
+    let lp = payer(rt.alloc())?;
     judge(&rt, rt.alloc(), &lp, &PAYMENTS_CASES)
 }
 
 // ---- the same, where the designer may not pay and would like to
-
-static DEFICIT: [Line; 2] = [
-    Line {
-        kind: RowKind::AtMost,
-        coefficients: [0, -1, 1, 0, 0, 0, 0, 0],
-        right: 0,
-    },
-    Line {
-        kind: RowKind::Exact,
-        coefficients: [1, 0, 0, 0, 0, 0, 0, 0],
-        right: 1,
-    },
-];
 
 static DEFICIT_CASES: [Case; 2] = [
     Case {
@@ -501,24 +330,11 @@ static DEFICIT_CASES: [Case; 2] = [
 
 #[test]
 fn pays_nothing_where_no_deficit_is_allowed(rt: HostRuntime) -> Result<(), Fail> {
-    let lp = program(rt.alloc(), &[0, -1, 1], &DEFICIT)?;
+    let lp = no_deficit(rt.alloc())?;
     judge(&rt, rt.alloc(), &lp, &DEFICIT_CASES)
 }
 
 // ---- two outcomes, of which the better one for the designer is not worth the outside
-
-static CHOICE: [Line; 2] = [
-    Line {
-        kind: RowKind::AtMost,
-        coefficients: [-1, 0, 0, 0, 0, 0, 0, 0],
-        right: -1,
-    },
-    Line {
-        kind: RowKind::Exact,
-        coefficients: [1, 1, 0, 0, 0, 0, 0, 0],
-        right: 1,
-    },
-];
 
 static CHOICE_CASES: [Case; 1] = [Case {
     claim: Claim::Optimal,
@@ -532,6 +348,6 @@ static CHOICE_CASES: [Case; 1] = [Case {
 
 #[test]
 fn bounds_the_cost_by_the_face_alone(rt: HostRuntime) -> Result<(), Fail> {
-    let lp = program(rt.alloc(), &[0, 5], &CHOICE)?;
+    let lp = held(rt.alloc())?;
     judge(&rt, rt.alloc(), &lp, &CHOICE_CASES)
 }

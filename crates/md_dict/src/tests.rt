@@ -1,47 +1,8 @@
 use super::*;
-use md_lp::{Entry, Lp, RowKind, Term};
-use md_num::{Nums, Width};
-use std::alloc::Global;
-use std::process::Abort;
+use md_lp::Entry;
+use md_num::Width;
+use md_sample_programs::buyer;
 use std::test::Fail;
-
-fn terms(alloc: Global, pairs: &[(u32, i128)]) -> Result<Vec<Term>, Fail> {
-    let mut terms = Vec::new(alloc);
-    for (column, value) in pairs {
-        terms.push(Term {
-            column: *column,
-            value: *value,
-        })?;
-    }
-    Ok(terms)
-}
-
-// Who buys an item for 1 or for `high`, with payments: six rows over eight columns.
-fn buyer(rt: &impl Abort, alloc: Global, high: i64) -> Result<Lp, Fail> {
-    let mut cost = Nums::new(alloc);
-    for x in [0, 0, 0, 0, 1, 1, -1, -1] {
-        cost.push(x)?;
-    }
-    assert_eq!(rt; cost.len(), 8);
-    let mut lp = Lp::new(alloc, 8, cost)?;
-    let low_truth = terms(alloc, &[(1, -1), (3, 1), (4, 1), (5, -1), (6, -1), (7, 1)])?;
-    lp.push_row(RowKind::AtMost, low_truth.as_slice(), 0)?;
-    let high = i128::from(high);
-    let high_truth = terms(
-        alloc,
-        &[(1, high), (3, -high), (4, -1), (5, 1), (6, 1), (7, -1)],
-    )?;
-    lp.push_row(RowKind::AtMost, high_truth.as_slice(), 0)?;
-    let low_share = terms(alloc, &[(1, -1), (4, 1), (6, -1)])?;
-    lp.push_row(RowKind::AtMost, low_share.as_slice(), 0)?;
-    let high_share = terms(alloc, &[(3, -high), (5, 1), (7, -1)])?;
-    lp.push_row(RowKind::AtMost, high_share.as_slice(), 0)?;
-    let low_odds = terms(alloc, &[(0, 1), (1, 1)])?;
-    lp.push_row(RowKind::Exact, low_odds.as_slice(), 1)?;
-    let high_odds = terms(alloc, &[(2, 1), (3, 1)])?;
-    lp.push_row(RowKind::Exact, high_odds.as_slice(), 1)?;
-    Ok(lp)
-}
 
 fn width(bits: u8) -> Result<Width, Fail> {
     Ok(Width::new(bits).ok_or("no width")?)
@@ -65,7 +26,7 @@ fn entry_at(dict: &Dict, row: u32, column: u32) -> Option<i128> {
 
 #[test]
 fn follows_the_path_of_a_buyer(rt: HostRuntime) -> Result<(), Fail> {
-    let lp = buyer(&rt, rt.alloc(), 3)?;
+    let lp = buyer(rt.alloc(), 3)?;
     let mut dict = Dict::start(rt.alloc(), &lp, width(62)?)?;
     assert_eq!(rt; dict.den(), 1);
     assert_eq!(rt; dict.greatest(), 4);
@@ -89,7 +50,7 @@ fn follows_the_path_of_a_buyer(rt: HostRuntime) -> Result<(), Fail> {
 
 #[test]
 fn names_the_first_wide_entry(rt: HostRuntime) -> Result<(), Fail> {
-    let lp = buyer(&rt, rt.alloc(), 20)?;
+    let lp = buyer(rt.alloc(), 20)?;
     let Err(refusal) = Dict::start(rt.alloc(), &lp, width(4)?) else {
         return Err("a wide basis started".into());
     };
@@ -100,7 +61,7 @@ fn names_the_first_wide_entry(rt: HostRuntime) -> Result<(), Fail> {
         den: 1,
     };
     assert_eq!(rt; refusal, StartRefusal::TooWide(first));
-    let lp = buyer(&rt, rt.alloc(), 5)?;
+    let lp = buyer(rt.alloc(), 5)?;
     let mut dict = Dict::start(rt.alloc(), &lp, width(4)?)?;
     pivot_at(&mut dict, 4, 0)?;
     let entry = Entry {

@@ -1,86 +1,10 @@
 use super::*;
-use md_lp::{Lp, LpRefusal, Path, Pivot, RowKind, Term};
+use md_lp::{Path, Pivot};
 use md_num::{NoMemory, Nums, Width};
+use md_sample_programs::buyer;
 use std::alloc::Global;
 use std::process::Abort;
 use std::test::Fail;
-
-// ---- who buys an item for 1 or for `high`
-
-// A row by its coefficients.
-#[derive(Clone, Copy)]
-struct Line {
-    kind: RowKind,
-    coefficients: [i128; 8],
-    right: i128,
-}
-
-fn nums(alloc: Global, numbers: &[i128]) -> Result<Nums, NoMemory> {
-    let mut list = Nums::new(alloc);
-    for number in numbers {
-        list.push(*number)?;
-    }
-    Ok(list)
-}
-
-fn terms_of(alloc: Global, coefficients: &[i128; 8]) -> Result<Vec<Term>, NoMemory> {
-    let mut terms = Vec::new(alloc);
-    let mut column = 0;
-    for value in coefficients {
-        if *value != 0 {
-            terms.push(Term {
-                column,
-                value: *value,
-            })?;
-        }
-        column = column.wrapping_add(1);
-    }
-    Ok(terms)
-}
-
-fn program(alloc: Global, cost: &[i128], lines: &[Line]) -> Result<Lp, LpRefusal> {
-    let list = nums(alloc, cost)?;
-    let columns = list.len().min(8);
-    if list.len() != columns {
-        return Err(LpRefusal::Index);
-    }
-    let mut lp = Lp::new(alloc, columns as u32, list)?;
-    for line in lines {
-        let terms = terms_of(alloc, &line.coefficients)?;
-        lp.push_row(line.kind, &terms, line.right)?;
-    }
-    Ok(lp)
-}
-
-fn at_most(coefficients: [i128; 8]) -> Line {
-    Line {
-        kind: RowKind::AtMost,
-        coefficients,
-        right: 0,
-    }
-}
-
-fn exactly_one(coefficients: [i128; 8]) -> Line {
-    Line {
-        kind: RowKind::Exact,
-        coefficients,
-        right: 1,
-    }
-}
-
-// Chances to keep and to sell, payments and their negatives.
-fn buyer(alloc: Global, high: i64) -> Result<Lp, LpRefusal> {
-    let high = i128::from(high);
-    let lines = [
-        at_most([0, -1, 0, 1, 1, -1, -1, 1]),
-        at_most([0, high, 0, -high, -1, 1, 1, -1]),
-        at_most([0, -1, 0, 0, 1, 0, -1, 0]),
-        at_most([0, 0, 0, -high, 0, 1, 0, -1]),
-        exactly_one([1, 1, 0, 0, 0, 0, 0, 0]),
-        exactly_one([0, 0, 1, 1, 0, 0, 0, 0]),
-    ];
-    program(alloc, &[0, 0, 0, 0, 1, 1, -1, -1], &lines)
-}
 
 fn path_of(alloc: Global, pivots: &[(u32, u32)]) -> Result<Path, NoMemory> {
     let mut path = Path::new(alloc);
