@@ -1,9 +1,10 @@
 -- What some words ask for.
 use Rattle.std.proofs.Common.{◌≡◌, refl, codes, [], ◌∷◌, Some, None}
 use Rattle.clap.proofs.OnLiterals.{clap_on_literals}
-use Rattle.md_words.specs.Words.{command_of, audit, rows, solve, replay}
+use Rattle.md_words.specs.Words.{command_of}
+use Rattle.md_words.specs.declared.command.Command.TheVariants.{Audit, Rows, Solve, Replay}
 
-audit_of_two : command_of (codes "audit" ∷ codes "a" ∷ codes "b" ∷ []) ≡ Some (audit (codes "a") (codes "b"))
+audit_of_two : command_of (codes "audit" ∷ codes "a" ∷ codes "b" ∷ []) ≡ Some (record { command = Audit; setting = codes "a"; second = codes "b"; width = 62 })
 unfolding clap_on_literals
 audit_of_two = refl
 
@@ -15,11 +16,11 @@ rows_of_an_option : command_of (codes "rows" ∷ codes "-1" ∷ []) ≡ None
 unfolding clap_on_literals
 rows_of_an_option = refl
 
-rows_behind_two_dashes : command_of (codes "rows" ∷ codes "--" ∷ codes "-1" ∷ []) ≡ Some (rows (codes "-1"))
+rows_behind_two_dashes : command_of (codes "rows" ∷ codes "--" ∷ codes "-1" ∷ []) ≡ Some (record { command = Rows; setting = codes "-1"; second = []; width = 62 })
 unfolding clap_on_literals
 rows_behind_two_dashes = refl
 
-solve_within_4 : command_of (codes "solve" ∷ codes "x" ∷ codes "--width" ∷ codes "4" ∷ []) ≡ Some (solve (codes "x") 4)
+solve_within_4 : command_of (codes "solve" ∷ codes "x" ∷ codes "--width" ∷ codes "4" ∷ []) ≡ Some (record { command = Solve; setting = codes "x"; second = []; width = 4 })
 unfolding clap_on_literals
 solve_within_4 = refl
 
@@ -31,7 +32,7 @@ solve_for_help : command_of (codes "solve" ∷ codes "--help" ∷ []) ≡ None
 unfolding clap_on_literals
 solve_for_help = refl
 
-replay_within_the_greatest : command_of (codes "replay" ∷ codes "x" ∷ codes "p" ∷ []) ≡ Some (replay (codes "x") (codes "p") 62)
+replay_within_the_greatest : command_of (codes "replay" ∷ codes "x" ∷ codes "p" ∷ []) ≡ Some (record { command = Replay; setting = codes "x"; second = codes "p"; width = 62 })
 unfolding clap_on_literals
 replay_within_the_greatest = refl
 

@@ -1,21 +1,19 @@
 -- What the words of a call ask for. The first word names a command, and `clap` reads the rest as the arguments of that
 -- command (Commands and Forms say which).
-use Rattle.std.specs.Prelude.{ℕ, ℤ, pos, negsuc, ◌&&◌, nat_le, List, Option, Some, None, Result, Ok, Err, codes, if◌then◌else◌, option_map, option_and_then}
+use Rattle.std.specs.Prelude.{ℕ, ℤ, pos, negsuc, ◌&&◌, nat_le, List, [], Option, Some, None, Result, Ok, Err, codes, if◌then◌else◌, option_map, option_and_then}
 use Rattle.clap.specs.Words.{Row, Text, first_of}
 use Rattle.md_num.specs.WholeText.{whole_of}
 use Rattle.md_num.specs.declared.whole.NumRefusal.{NumRefusal}
 use Rattle.md_words.specs.Commands.{command_in, form_of}
 use Rattle.md_words.specs.Forms.{app_of_form, arguments_of}
 use Rattle.md_words.specs.declared.command.Command.{Command}
-use Rattle.md_words.specs.declared.command.Command.TheVariants.{Audit, Rows, Check, Solve, Replay}
 
--- a command with the names of its files, the setting first, and its width
-pub data Order : Type 0 where
-  audit : Text → Text → Order
-  rows : Text → Order
-  check : Text → Text → Order
-  solve : Text → ℕ → Order
-  replay : Text → Text → ℕ → Order
+-- a command with the names of its files and its width
+pub record Order : Type 0 where
+  pub command : Command
+  pub setting : Text
+  pub second : Text
+  pub width : ℕ
 
 -- ---- the width
 
@@ -40,26 +38,26 @@ width_or_greatest (Some text) = width_of text
 
 -- ---- the arguments that clap found, by their ids
 
-abbrev pub first_in : List Row → Option Text
-first_in found = first_of (codes "first") found
+abbrev pub setting_in : List Row → Option Text
+setting_in found = first_of (codes "first") found
 
-abbrev pub second_in : List Row → Option Text
-second_in found = first_of (codes "second") found
+-- a text, or the empty one
+abbrev pub text_or_empty : Option Text → Text
+text_or_empty None = []
+text_or_empty (Some text) = text
+
+-- the name of the second file; it is empty for a command of one file, since clap finds a second name exactly where the
+-- command's form has one
+abbrev pub second_in : List Row → Text
+second_in found = text_or_empty (first_of (codes "second") found)
 
 abbrev pub width_in : List Row → Option ℕ
 width_in found = width_or_greatest (first_of (codes "width") found)
 
--- a command with the setting's name and the further arguments that were found; none where a width is refused
-abbrev pub order_with : Command → Text → List Row → Option Order
-order_with Audit setting found = option_map (audit setting) (second_in found)
-order_with Rows setting found = Some (rows setting)
-order_with Check setting found = option_map (check setting) (second_in found)
-order_with Solve setting found = option_map (solve setting) (width_in found)
-order_with Replay setting found =
-    option_and_then (λ pivots. option_map (replay setting pivots) (width_in found)) (second_in found)
-
+-- a command with the arguments that were found; none where a width is refused
 abbrev pub order_of_found : Command → List Row → Option Order
-order_of_found command found = option_and_then (λ setting. order_with command setting found) (first_in found)
+order_of_found command found =
+    option_and_then (λ setting. option_map (λ width. record { command = command; setting = setting; second = second_in found; width = width }) (width_in found)) (setting_in found)
 
 -- ---- the words
 

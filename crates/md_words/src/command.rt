@@ -5,17 +5,17 @@ ghost use Rattle.md_words.specs.Commands.{command_in, command_named, form_of};
 use crate::form::Form;
 
 /// A command, apart from its arguments.
-#[derive(Clone, Copy)]
-pub(crate) enum Command {
-    /// `audit SETTING ANSWER`
+#[derive(Clone, Copy, Debug, PartialEq, Eq)]
+pub enum Command {
+    /// `audit SETTING ANSWER` tries a mechanism against all conditions of a setting.
     Audit,
-    /// `rows SETTING`
+    /// `rows SETTING` prints the linear program of a setting.
     Rows,
-    /// `check SETTING ANSWER`
+    /// `check SETTING ANSWER` checks an answer about a setting.
     Check,
-    /// `solve SETTING [--width W]`
+    /// `solve SETTING [--width W]` solves a setting within a width.
     Solve,
-    /// `replay SETTING PIVOTS [--width W]`
+    /// `replay SETTING PIVOTS [--width W]` carries out pivots on the linear program of a setting within a width.
     Replay,
 }
 

@@ -1,4 +1,4 @@
-//! The words of a call: which command they ask for, with its names and width.
+//! The words of a call: which command they ask for, with the names of its files and its width.
 #![tactic(auto)]
 
 mod command;
@@ -8,4 +8,5 @@ mod order;
 #[cfg(test)]
 mod tests;
 
+pub use command::Command;
 pub use order::{Order, order_of};

@@ -17,32 +17,15 @@ const GREATEST_WIDTH: u8 = 62;
 
 /// A command with the names of its files and its width.
 #[derive(Clone, Copy, Debug, PartialEq, Eq)]
-pub enum Order<'a> {
-    /// Tries a mechanism against all conditions of a setting.
-    Audit {
-        setting: &'a str,
-        answer: &'a str,
-    },
-    /// Prints the linear program of a setting.
-    Rows {
-        setting: &'a str,
-    },
-    /// Checks an answer about a setting.
-    Check {
-        setting: &'a str,
-        answer: &'a str,
-    },
-    /// Solves a setting within a width.
-    Solve {
-        setting: &'a str,
-        width: Width,
-    },
-    /// Carries out pivots on the linear program of a setting within a width.
-    Replay {
-        setting: &'a str,
-        pivots: &'a str,
-        width: Width,
-    },
+pub struct Order<'a> {
+    /// What is to be done.
+    pub command: Command,
+    /// The name of the setting file.
+    pub setting: &'a str,
+    /// The name of the second file; empty for a command of one file.
+    pub second: &'a str,
+    /// The width that is asked for; the greatest one where none is.
+    pub width: Width,
 }
 
 /// What the words of a call ask for, the first of which names the command.
@@ -83,27 +66,12 @@ fn order_for<'a>(
 fn order_from<'a>(command: Command, matches: &ArgMatches<'a>) -> Option<Order<'a>>
     ensures { option_map asked result ≡ order_of_found command (rows_of (found_of matches.now)) }
 {
-    let setting = text_of(matches, "first")?;
-    match command {
-        Command::Audit => Some(Order::Audit {
-            setting,
-            answer: text_of(matches, "second")?,
-        }),
-        Command::Rows => Some(Order::Rows { setting }),
-        Command::Check => Some(Order::Check {
-            setting,
-            answer: text_of(matches, "second")?,
-        }),
-        Command::Solve => Some(Order::Solve {
-            setting,
-            width: width_from(matches)?,
-        }),
-        Command::Replay => Some(Order::Replay {
-            setting,
-            pivots: text_of(matches, "second")?,
-            width: width_from(matches)?,
-        }),
-    }
+    Some(Order {
+        command,
+        setting: text_of(matches, "first")?,
+        second: text_of(matches, "second").unwrap_or(""),
+        width: width_from(matches)?,
+    })
 }
 
 // The width that was asked for, or the greatest one.

@@ -1,45 +1,48 @@
 //! What words ask for.
-use crate::{Order, order_of};
+use crate::{Command, Order, order_of};
 use md_num::Width;
 use std::alloc::{AllocError, Global};
 use std::test::Fail;
 
-// What words are expected to ask for: the command, the first name, the second name and the width; empty and 0 where
-// there is none.
-type Expected = (&'static str, &'static str, &'static str, u8);
-
-const NOTHING: Expected = ("", "", "", 0);
+// What words are expected to ask for: the command, the two names and the width; none where they are no command.
+type Expected = Option<(Command, &'static str, &'static str, u8)>;
 
 static CASES: [(&[&str], Expected); 26] = [
-    (&["audit", "a", "b"], ("audit", "a", "b", 0)),
-    (&["check", "a", "b"], ("check", "a", "b", 0)),
-    (&["rows", "a"], ("rows", "a", "", 0)),
-    (&["solve", "a"], ("solve", "a", "", 62)),
-    (&["solve", "a", "--width", "4"], ("solve", "a", "", 4)),
-    (&["solve", "--width=61", "a"], ("solve", "a", "", 61)),
-    (&["replay", "a", "b"], ("replay", "a", "b", 62)),
+    (&["audit", "a", "b"], Some((Command::Audit, "a", "b", 62))),
+    (&["check", "a", "b"], Some((Command::Check, "a", "b", 62))),
+    (&["rows", "a"], Some((Command::Rows, "a", "", 62))),
+    (&["solve", "a"], Some((Command::Solve, "a", "", 62))),
+    (
+        &["solve", "a", "--width", "4"],
+        Some((Command::Solve, "a", "", 4)),
+    ),
+    (
+        &["solve", "--width=61", "a"],
+        Some((Command::Solve, "a", "", 61)),
+    ),
+    (&["replay", "a", "b"], Some((Command::Replay, "a", "b", 62))),
     (
         &["replay", "a", "--width", "62", "b"],
-        ("replay", "a", "b", 62),
+        Some((Command::Replay, "a", "b", 62)),
     ),
-    (&["rows", "--", "-1"], ("rows", "-1", "", 0)),
-    (&["rows", ""], ("rows", "", "", 0)),
-    (&[], NOTHING),
-    (&[""], NOTHING),
-    (&["Audit", "a", "b"], NOTHING),
-    (&["realise", "a", "b"], NOTHING),
-    (&["audit", "a"], NOTHING),
-    (&["audit", "a", "b", "c"], NOTHING),
-    (&["rows", "-1"], NOTHING),
-    (&["rows", "a", "--width", "4"], NOTHING),
-    (&["solve"], NOTHING),
-    (&["solve", "a", "--width"], NOTHING),
-    (&["solve", "a", "--width", "3"], NOTHING),
-    (&["solve", "a", "--width", "63"], NOTHING),
-    (&["solve", "a", "--width", "04"], NOTHING),
-    (&["solve", "a", "--width", "4", "--width", "4"], NOTHING),
-    (&["solve", "--help"], NOTHING),
-    (&["-h"], NOTHING),
+    (&["rows", "--", "-1"], Some((Command::Rows, "-1", "", 62))),
+    (&["rows", ""], Some((Command::Rows, "", "", 62))),
+    (&[], None),
+    (&[""], None),
+    (&["Audit", "a", "b"], None),
+    (&["realise", "a", "b"], None),
+    (&["audit", "a"], None),
+    (&["audit", "a", "b", "c"], None),
+    (&["rows", "-1"], None),
+    (&["rows", "a", "--width", "4"], None),
+    (&["solve"], None),
+    (&["solve", "a", "--width"], None),
+    (&["solve", "a", "--width", "3"], None),
+    (&["solve", "a", "--width", "63"], None),
+    (&["solve", "a", "--width", "04"], None),
+    (&["solve", "a", "--width", "4", "--width", "4"], None),
+    (&["solve", "--help"], None),
+    (&["-h"], None),
 ];
 
 fn words(alloc: Global, texts: &[&str]) -> Result<Vec<String>, AllocError> {
@@ -50,33 +53,27 @@ fn words(alloc: Global, texts: &[&str]) -> Result<Vec<String>, AllocError> {
     Ok(words)
 }
 
-fn parts<'a>(order: &Option<Order<'a>>) -> (&'static str, &'a str, &'a str, Option<Width>) {
-    match order {
-        None => ("", "", "", None),
-        Some(Order::Audit { setting, answer }) => ("audit", setting, answer, None),
-        Some(Order::Rows { setting }) => ("rows", setting, "", None),
-        Some(Order::Check { setting, answer }) => ("check", setting, answer, None),
-        Some(Order::Solve { setting, width }) => ("solve", setting, "", Some(*width)),
-        Some(
-            Order::Replay {
-                setting,
-                pivots,
-                width,
-            },
-        ) => ("replay", setting, pivots, Some(*width)),
+// Whether an order is the expected one.
+fn matches(order: &Option<Order<'_>>, expected: &Expected) -> bool {
+    match (order, expected) {
+        (Some(order), Some((command, setting, second, bits))) => {
+            order.command == *command
+                && order.setting == *setting
+                && order.second == *second
+                && Some(order.width) == Width::new(*bits)
+        }
+        (None, None) => true,
+        _ => false,
     }
 }
 
 #[test]
 fn reads_what_is_asked(rt: HostRuntime) -> Result<(), Fail> {
     let alloc = rt.alloc();
-    for (texts, (name, first, second, bits)) in &CASES {
+    for (texts, expected) in &CASES {
         let words = words(alloc, texts)?;
-        let expected = (*name, *first, *second, Width::new(*bits));
-        match order_of(alloc, &words) {
-            Ok(order) => assert!(rt; parts(&order) == expected, "at {texts:?}"),
-            Err(error) => return Err(error.into()),
-        }
+        let order = order_of(alloc, &words)?;
+        assert!(rt; matches(&order, expected), "at {texts:?}");
     }
     Ok(())
 }
