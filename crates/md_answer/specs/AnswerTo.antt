@@ -1,45 +1,16 @@
 -- What is known of an answer that was read for a setting, and what an answer must be to be written.
-use Rattle.std.specs.Prelude.{◌≡◌, ℕ, ◌*◌, ◌-◌, ◌^◌, ◌<◌, ℤ, pos, ◌≤ℤ◌, false, List, [], length, All, IfSome}
-use Rattle.md_math.specs.Lists.{number_at}
-use Rattle.md_math.specs.Sizes.{IsWithin, AllWithin}
-use Rattle.md_space.specs.Profiles.{profile_count}
+use Rattle.std.specs.Prelude.{◌≡◌, [], IfSome}
 use Rattle.md_setting.specs.Setting.{GeneralSetting}
-use Rattle.md_setting.specs.Meaning.{agent_count, sizes_of}
 use Rattle.md_setting.specs.Rows.{row_count}
 use Rattle.md_mech.specs.Accepted.{IsAccepted}
-use Rattle.md_lp.specs.declared.pivot.Pivot.{Pivot}
-use Rattle.md_lp.specs.declared.wide.Wide.{Wide}
 use Rattle.md_cert.specs.declared.bound.Bound.{Bound}
-use Rattle.md_cert.specs.Fitting.{IsDenominator}
+use Rattle.md_parts.specs.Fitting.{IsFraction, AreMultipliers, IsBoundOver, IsRayFor, HasFraction, HasWidePlaces}
 use Rattle.md_answer.specs.declared.answer.Answer.{Answer}
 use Rattle.md_answer.specs.declared.answer.Answer.TheVariants.{Table, Optimal, Infeasible, Unbounded, TooWide}
 
--- a number over a denominator of at least 1, both of at most 126 bits
-pub record IsFraction (num den : ℤ) : Type 0 where
-  pub positive : pos 1 ≤ℤ den
-  pub num_size : IsWithin (2 ^ 126 - 1) num
-  pub den_size : IsWithin (2 ^ 126 - 1) den
-
--- a multiplier of at most 62 bits for each of so many rows
-pub record AreMultipliers (rows : ℕ) (numbers : List ℤ) : Type 0 where
-  pub one_each : length numbers ≡ rows
-  pub sizes : AllWithin (2 ^ 62 - 1) numbers
-
 -- multipliers of the rows of the setting's program
-pub record IsBoundFor (s : GeneralSetting) (bound : Bound) : Type 0 where
-  pub den : IsDenominator bound.den
-  pub main : AreMultipliers (row_count s) bound.main
-  pub face : AreMultipliers (row_count s) bound.face
-
--- a number for each profile and agent, which is 0 where payments are off
-pub record IsRayFor (s : GeneralSetting) (ray : List ℤ) : Type 0 where
-  pub one_each : length ray ≡ profile_count (sizes_of s) * agent_count s
-  pub sizes : AllWithin (2 ^ 62 - 1) ray
-  pub off : s.payments ≡ false → (k : ℕ) → number_at ray k ≡ pos 0
-
--- the entry is a fraction
-abbrev pub HasFraction : Wide → Type 0
-HasFraction wide = IsFraction wide.entry.num wide.entry.den
+abbrev pub IsBoundFor : GeneralSetting → Bound → Type 0
+IsBoundFor s bound = IsBoundOver (row_count s) bound
 
 -- the answer has the setting's sizes, and its numbers are in their ranges
 abbrev pub IsAnswerTo : GeneralSetting → Answer → Type 0
@@ -48,15 +19,6 @@ IsAnswerTo s (Optimal value mechanism bound) = IsFraction value.num value.den ×
 IsAnswerTo s (Infeasible face) = AreMultipliers (row_count s) face
 IsAnswerTo s (Unbounded mechanism ray) = IsAccepted s mechanism × IsRayFor s ray
 IsAnswerTo s (TooWide cuts first second) = (cuts ≡ []) × HasFraction first × IfSome second HasFraction
-
--- a row and a column, as the types of pivots and entries hold them
-pub record IsTablePlace (row column : ℕ) : Type 0 where
-  pub row_in : row < 2 ^ 32
-  pub column_in : column < 2 ^ 32
-
--- the places of a path and of the entry at its end are as their types hold them
-abbrev pub HasWidePlaces : Wide → Type 0
-HasWidePlaces wide = All (λ (p : Pivot). IsTablePlace p.row p.column) wide.path × IsTablePlace wide.entry.row wide.entry.column
 
 -- the places that an answer names are as its types hold them
 abbrev pub HasPlaces : Answer → Type 0

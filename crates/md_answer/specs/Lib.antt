@@ -1,15 +1,4 @@
-pub mod Fields
-pub mod Ranges
 pub mod Kinds
-pub mod Reading
-pub mod Repeated
-pub mod Left
-pub mod Ahead
-pub mod Records
-pub mod FieldsRead
-pub mod Table
-pub mod Multipliers
-pub mod Path
 pub mod Answers
 pub mod AnswerTo
 pub mod Pivots

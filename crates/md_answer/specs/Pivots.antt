@@ -2,12 +2,12 @@
 use Rattle.std.specs.Prelude.{◌≡◌, ℕ, List, [], Result, All}
 use Rattle.md_lp.specs.declared.pivot.Pivot.{Pivot}
 use Rattle.md_records.specs.Text.{records_of}
-use Rattle.md_answer.specs.declared.answer.AnswerRefusal.{AnswerRefusal}
-use Rattle.md_answer.specs.declared.pivots.Pivots.{Pivots}
-use Rattle.md_answer.specs.Reading.{Reading, ◌>>=◌, nothing_more}
-use Rattle.md_answer.specs.Path.{path_of}
-use Rattle.md_answer.specs.Answers.{read_end, answered}
-use Rattle.md_answer.specs.AnswerTo.{IsTablePlace}
+use Rattle.md_parts.specs.declared.refusal.AnswerRefusal.{AnswerRefusal}
+use Rattle.md_answer.specs.declared.pivots_file.Pivots.{Pivots}
+use Rattle.md_parts.specs.Reading.{Reading, ◌>>=◌, nothing_more, answered}
+use Rattle.md_parts.specs.Path.{path_of}
+use Rattle.md_parts.specs.LastRecord.{read_end}
+use Rattle.md_parts.specs.Fitting.{IsTablePlace}
 
 -- no record comes before the pivots, and the program of a general setting has no rows that were added as cuts
 abbrev pub whole_pivots : Reading Pivots

@@ -1,7 +1,6 @@
 //! Which answer a file holds.
-ghost use Rattle.std.specs.Prelude.{◌≡◌, option_map};
-
-use crate::version::Version;
+ghost use Rattle.std.specs.Prelude.{◌≡◌, map};
+ghost use Rattle.md_answer.specs.Kinds.{word_of, kind_of, answer_words};
 
 /// The kinds of answers about a setting.
 #[derive(Clone, Copy, Debug, PartialEq, Eq)]
@@ -18,17 +17,14 @@ pub(crate) enum Kind {
     TooWide,
 }
 
-/// What the first record of an answer says.
-#[derive(Clone, Copy, Debug, PartialEq, Eq)]
-pub(crate) struct Head {
-    pub(crate) version: Version,
-    pub(crate) kind: Kind,
+/// The words of all kinds, in their order.
+pub(crate) fn answer_words() -> [&'static str; 5]
+    ensures { map (λ w. w.now) result ≡ answer_words }
+{
+    ["table", "optimal", "infeasible", "unbounded", "toowide"]
 }
 
 impl Kind {
-    ghost use Rattle.std.specs.Str.{bytes_eq};
-    ghost use Rattle.md_answer.specs.Kinds.{word_of, number_of, kind_field, stands_in};
-
     /// The word that names it.
     pub(crate) fn word(self) -> &'static str
         ensures { result.now ≡ word_of self }
@@ -42,39 +38,16 @@ impl Kind {
         }
     }
 
-    // Whether a text is its word.
-    fn has_word(self, text: &[u8]) -> bool
-        ensures { result ≡ bytes_eq text.now (word_of self) }
+    /// The kind whose word stands at a place.
+    pub(crate) fn at(place: usize) -> Kind
+        ensures { result ≡ kind_of place }
     {
-        text == self.word().as_bytes()
-    }
-
-    /// The kind that a text names.
-    pub(crate) fn named(text: &[u8]) -> Option<Kind>
-        ensures { option_map number_of result ≡ kind_field text.now }
-    {
-        if Kind::Table.has_word(text) {
-            Some(Kind::Table)
-        } else if Kind::Optimal.has_word(text) {
-            Some(Kind::Optimal)
-        } else if Kind::Infeasible.has_word(text) {
-            Some(Kind::Infeasible)
-        } else if Kind::Unbounded.has_word(text) {
-            Some(Kind::Unbounded)
-        } else if Kind::TooWide.has_word(text) {
-            Some(Kind::TooWide)
-        } else {
-            None
-        }
-    }
-
-    /// Whether answers of the kind stand in a version of the format.
-    pub(crate) fn stands_in(self, version: Version) -> bool
-        ensures { result ≡ stands_in version self }
-    {
-        match version {
-            Version::One => true,
-            Version::Two => self == Kind::TooWide,
+        match place {
+            0 => Kind::Table,
+            1 => Kind::Optimal,
+            2 => Kind::Infeasible,
+            3 => Kind::Unbounded,
+            _ => Kind::TooWide,
         }
     }
 }

@@ -2,23 +2,16 @@
 #![tactic(auto)]
 
 mod answer;
-mod fields;
 mod kind;
-mod multipliers;
-mod path;
-mod pivots;
-mod range;
-mod read;
+mod pivots_file;
 mod reading;
-mod rows;
-mod table;
-mod version;
-mod write;
+mod writing;
 
-pub use answer::{Answer, AnswerRefusal};
-pub use pivots::{Pivots, read_pivots};
-pub use read::read_answer;
-pub use write::write_answer;
+pub use answer::Answer;
+pub use md_parts::AnswerRefusal;
+pub use pivots_file::{Pivots, read_pivots};
+pub use reading::read_answer;
+pub use writing::write_answer;
 
 #[cfg(test)]
 mod tests;

@@ -1,122 +1,134 @@
-//! Reading an answer record by record.
-ghost use Rattle.std.specs.Prelude.{◌≡◌, ◌≢◌, ◌<◌, ◌≤◌, ◌+◌, ◌∷◌, ℕ, List, [], length, true, false, MatchResult, Ok, Err};
-ghost use Rattle.std.specs.Ordering.{int_eq};
-ghost use Rattle.md_records.specs.Text.{records_of};
-ghost use Rattle.md_answer.specs.Reading.{Rest, nothing_left};
-ghost use Rattle.md_answer.specs.Records.{record_with};
-ghost use Rattle.md_answer.specs.Repeated.{comes_next};
+//! Reading a whole answer.
+ghost use Rattle.std.specs.Prelude.{◌≡◌, ◌≢◌, Ok, Err, IfOk, MatchResult};
+ghost use Rattle.md_answer.specs.Kinds.{kind_of};
+ghost use Rattle.md_answer.specs.AnswerTo.{IsAnswerTo, HasPlaces};
+ghost use Rattle.md_answer.specs.Answers.{table_answer, optimal_answer, infeasible_answer, unbounded_answer, too_wide_answer, answer_by, answer_of};
 
-use crate::AnswerRefusal;
-use crate::fields::Fields;
-use md_records::{Record, Records};
+use crate::kind::{Kind, answer_words};
+use crate::{Answer, AnswerRefusal};
+use md_lp::Sets;
+use md_parts::{
+    Head, Reader, Version, read_bound, read_face, read_first, read_last, read_mechanism, read_pays,
+    read_second, read_value, read_wide,
+};
+use md_setting::Setting;
 use std::alloc::Global;
-use std::marker::Model;
 
-/// The records of an answer that are left, and how many were read.
-#[derive(Drop)]
-pub(crate) struct Reader<'a> {
-    // the record that comes next, where one does, and those after it
-    next: Option<Record>,
-    others: Records<'a>,
-    read: u64,
+// A mechanism alone.
+fn read_table(
+    alloc: Global,
+    reader: &mut Reader,
+    setting: &Setting,
+) -> Result<Answer, AnswerRefusal>
+    ensures { MatchResult result
+        (λ answer. table_answer setting.now reader.old ≡ Ok (answer, reader.new))
+        (λ refusal. refusal ≢ AnswerRefusal.Memory → table_answer setting.now reader.old ≡ Err refusal) }
+{
+    let mechanism = read_mechanism(alloc, reader, setting)?;
+    Ok(Answer::Table(mechanism))
 }
 
-impl<'a> Model for Reader<'a> {
-    ghost use Rattle.std.specs.Prelude.{◌+◌, ◌<◌, ◌^◌, length};
-    ghost use Rattle.md_answer.specs.Reading.{Rest};
-    ghost use Rattle.md_answer.specs.Ahead.{with_next};
-
-    ghost Value = { Rest };
-
-    ghost view = { λ r. record { read = r.read; left = with_next r.next r.others } };
-
-    ghost invariant = { λ r. r.read + length (with_next r.next r.others) < 2 ^ 64 };
+// A value, a mechanism and multipliers.
+fn read_optimal(
+    alloc: Global,
+    reader: &mut Reader,
+    setting: &Setting,
+) -> Result<Answer, AnswerRefusal>
+    ensures { MatchResult result
+        (λ answer. optimal_answer setting.now reader.old ≡ Ok (answer, reader.new))
+        (λ refusal. refusal ≢ AnswerRefusal.Memory → optimal_answer setting.now reader.old ≡ Err refusal) }
+{
+    let value = read_value(reader)?;
+    let mechanism = read_mechanism(alloc, reader, setting)?;
+    let bound = read_bound(alloc, reader, setting.rows())?;
+    Ok(Answer::Optimal {
+        value,
+        mechanism,
+        bound,
+    })
 }
 
-impl<'a> Reader<'a> {
-    /// All records of a file.
-    pub(crate) fn new(alloc: Global, bytes: &'a [u8]) -> Result<Reader<'a>, AnswerRefusal>
-        ensures { MatchResult result
-            (λ reader. reader ≡ record { read = 0; left = records_of bytes.now })
-            (λ refusal. refusal ≡ AnswerRefusal.Memory) }
-    {
-        let _fits = bytes.len();
-        let mut others = Records::new(alloc, bytes);
-        let next = others.next()?;
-        Ok(Reader {
-            next,
-            others,
-            read: 0,
-        })
-    }
+// Face multipliers alone.
+fn read_infeasible(
+    alloc: Global,
+    reader: &mut Reader,
+    setting: &Setting,
+) -> Result<Answer, AnswerRefusal>
+    ensures { MatchResult result
+        (λ answer. infeasible_answer setting.now reader.old ≡ Ok (answer, reader.new))
+        (λ refusal. refusal ≢ AnswerRefusal.Memory → infeasible_answer setting.now reader.old ≡ Err refusal) }
+{
+    let face = read_face(alloc, reader, setting.rows())?;
+    Ok(Answer::Infeasible { face })
+}
 
-    /// Whether a record is left and begins with a word.
-    pub(crate) fn comes_next(&self, word: &str) -> bool
-        ensures { result ≡ comes_next word.now self.now.left }
-    {
-        match &self.next {
-            Some(next) => next.is(0, word.as_bytes()),
-            None => false,
-        }
-    }
+// A mechanism and a ray.
+fn read_unbounded(
+    alloc: Global,
+    reader: &mut Reader,
+    setting: &Setting,
+) -> Result<Answer, AnswerRefusal>
+    ensures { MatchResult result
+        (λ answer. unbounded_answer setting.now reader.old ≡ Ok (answer, reader.new))
+        (λ refusal. refusal ≢ AnswerRefusal.Memory → unbounded_answer setting.now reader.old ≡ Err refusal) }
+{
+    let mechanism = read_mechanism(alloc, reader, setting)?;
+    let ray = read_pays(alloc, reader, setting, "ray")?;
+    Ok(Answer::Unbounded { mechanism, ray })
+}
 
-    // Takes the next record.
-    fn take(&mut self) -> Result<Record, AnswerRefusal>
-        ensures { MatchResult result
-            (λ next. (self.old.left ≡ next ∷ self.new.left) × (self.new.read ≡ self.old.read + 1))
-            (λ refusal. refusal ≢ AnswerRefusal.Memory → (self.old.left ≡ []) × (refusal ≡ AnswerRefusal.End self.old.read)) }
-    {
-        let Some(next) = self.next.take() else {
-            return Err(AnswerRefusal::End(self.read));
-        };
-        self.next = self.others.next()?;
-        self.read += 1;
-        Ok(next)
-    }
+// Where the paths become too wide.
+fn read_too_wide(
+    alloc: Global,
+    reader: &mut Reader,
+    version: Version,
+) -> Result<Answer, AnswerRefusal>
+    ensures { MatchResult result
+        (λ answer. too_wide_answer version reader.old ≡ Ok (answer, reader.new))
+        (λ refusal. refusal ≢ AnswerRefusal.Memory → too_wide_answer version reader.old ≡ Err refusal) }
+{
+    let first = read_wide(alloc, reader)?;
+    let second = read_second(alloc, reader, version)?;
+    Ok(Answer::TooWide {
+        cuts: Sets::new(alloc),
+        first,
+        second,
+    })
+}
 
-    /// The next record, which must begin with a word and have so many fields after it.
-    pub(crate) fn next(&mut self, word: &str, count: usize) -> Result<Fields, AnswerRefusal>
-        ensures { MatchResult result
-            (λ fields. record_with word.now count self.old ≡ Ok (fields, self.new))
-            (λ refusal. refusal ≢ AnswerRefusal.Memory → record_with word.now count self.old ≡ Err refusal) }
-    {
-        let next = self.take()?;
-        if next.is(0, word.as_bytes()) && next.len() - 1 == count {
-            Ok(Fields::new(next, self.read))
-        } else {
-            Err(AnswerRefusal::Line(self.read))
-        }
+// What stands between the first record and the last.
+fn read_by_kind(
+    alloc: Global,
+    reader: &mut Reader,
+    setting: &Setting,
+    head: Head,
+) -> Result<Answer, AnswerRefusal>
+    ensures { MatchResult result
+        (λ answer. answer_by setting.now head.version (kind_of head.word) reader.old ≡ Ok (answer, reader.new))
+        (λ refusal. refusal ≢ AnswerRefusal.Memory → answer_by setting.now head.version (kind_of head.word) reader.old ≡ Err refusal) }
+{
+    match Kind::at(head.word) {
+        Kind::Table => read_table(alloc, reader, setting),
+        Kind::Optimal => read_optimal(alloc, reader, setting),
+        Kind::Infeasible => read_infeasible(alloc, reader, setting),
+        Kind::Unbounded => read_unbounded(alloc, reader, setting),
+        Kind::TooWide => read_too_wide(alloc, reader, head.version),
     }
+}
 
-    /// No record may be left.
-    pub(crate) fn end(&self) -> Result<(), AnswerRefusal>
-        ensures { MatchResult result
-            (λ _. nothing_left self.now ≡ Ok (tt, self.now))
-            (λ refusal. nothing_left self.now ≡ Err refusal) }
-    {
-        match &self.next {
-            None => Ok(()),
-            Some(_) => Err(AnswerRefusal::Line(self.read + 1)),
-        }
-    }
+/// Reads an answer about a setting.
+pub fn read_answer(alloc: Global, bytes: &[u8], setting: &Setting) -> Result<Answer, AnswerRefusal>
+    ensures reads { MatchResult result
+        (λ answer. answer_of setting.now bytes.now ≡ Ok answer)
+        (λ refusal. refusal ≢ AnswerRefusal.Memory → answer_of setting.now bytes.now ≡ Err refusal) }
 
-    /// A field of the record that was read last holds something else than it must.
-    pub(crate) fn refusal_at(&self, field: u64) -> AnswerRefusal
-        ensures { result ≡ AnswerRefusal.Cell self.now.read field }
-    {
-        AnswerRefusal::Cell(self.read, field)
-    }
-
-    /// The numbers of the record that was read last must add to what they should.
-    pub(crate) fn adds(&self, sum: i128, wanted: i128) -> Result<(), AnswerRefusal>
-        ensures { MatchResult result
-            (λ _. int_eq sum wanted ≡ true)
-            (λ refusal. (int_eq sum wanted ≡ false) × (refusal ≡ AnswerRefusal.Sum self.now.read)) }
-    {
-        if sum == wanted {
-            Ok(())
-        } else {
-            Err(AnswerRefusal::Sum(self.read))
-        }
-    }
+    // What is read has the setting's sizes, and its numbers are in their ranges.
+    ensures accepted { IfOk result (IsAnswerTo setting.now) }
+    ensures places { IfOk result HasPlaces }
+{
+    let mut reader = Reader::new(alloc, bytes)?;
+    let head = read_first(&mut reader, "general", &answer_words())?;
+    let answer = read_by_kind(alloc, &mut reader, setting, head)?;
+    read_last(&mut reader)?;
+    Ok(answer)
 }

@@ -1,9 +1,0 @@
-use Rattle.std.proofs.lemmas.Result.{MatchResult-weaker}
-use Rattle.md_answer.proofs.MultiplierSteps.{bound-read, bound-fails}
-use Rattle.md_answer.proofs.multipliers.read_bound_denominator.Goals as goal
-
-pub returns : goal.returns
-returns c =
-    MatchResult-weaker c.number.result c.number.ensures.read
-    (λ den reads. bound-read c.args.reader.now c.next.new.self c.in_ok-fields.fields c.number.new.self den c.in_ok-fields.ensures reads)
-    (λ refusal fails _. bound-fails c.args.reader.now c.next.new.self c.in_ok-fields.fields refusal c.in_ok-fields.ensures fails)

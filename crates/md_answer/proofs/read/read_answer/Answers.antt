@@ -1,8 +1,0 @@
-use Rattle.md_answer.proofs.AnswerRead.{answer-known}
-use Rattle.md_answer.proofs.read.read_answer.Goals as goal
-
-pub returns-clause-accepted : goal.returns-clause-accepted
-returns-clause-accepted c = (answer-known c.args.setting.now c.in_ok-head.head.version c.in_ok-head.head.kind c.read_first.new.reader c.read_by_kind.new.reader c.in_ok-answer.answer c.in_ok-answer.ensures).0
-
-pub returns-clause-places : goal.returns-clause-places
-returns-clause-places c = (answer-known c.args.setting.now c.in_ok-head.head.version c.in_ok-head.head.kind c.read_first.new.reader c.read_by_kind.new.reader c.in_ok-answer.answer c.in_ok-answer.ensures).1

@@ -1,0 +1,7 @@
+use Rattle.std.proofs.Common.{◌≡◌, ◌++◌, ◌∷◌, []}
+use Rattle.md_math.specs.Lists.{number_at, up_to}
+use Rattle.md_parts.specs.Rows.{row_unless_zero}
+use Rattle.md_parts.proofs.multipliers.push_face.Given as goal
+
+abbrev pub invariant-loop-row : goal.invariant-loop-row
+invariant-loop-row l = l.to.items ≡ l.fn.to.items ++ up_to l.row (λ r. row_unless_zero r (number_at l.face r ∷ []))

@@ -1,0 +1,17 @@
+pub mod Fields
+pub mod Ranges
+pub mod Versions
+pub mod Reading
+pub mod Repeated
+pub mod Left
+pub mod Ahead
+pub mod Records
+pub mod FieldsRead
+pub mod FirstRecord
+pub mod LastRecord
+pub mod Table
+pub mod Multipliers
+pub mod Path
+pub mod Fitting
+pub mod Rows
+pub mod Written
