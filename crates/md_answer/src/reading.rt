@@ -1,5 +1,6 @@
 //! Reading a whole answer.
 ghost use Rattle.std.specs.Prelude.{◌≡◌, ◌≢◌, Ok, Err, IfOk, MatchResult};
+ghost use Rattle.md_setting.specs.ByKind.{IsGeneral, WhereGeneral};
 ghost use Rattle.md_answer.specs.Kinds.{kind_of};
 ghost use Rattle.md_answer.specs.AnswerTo.{IsAnswerTo, HasPlaces};
 ghost use Rattle.md_answer.specs.Answers.{table_answer, optimal_answer, infeasible_answer, unbounded_answer, too_wide_answer, answer_by, answer_of};
@@ -11,7 +12,7 @@ use md_parts::{
     Head, Reader, Version, read_bound, read_face, read_first, read_last, read_mechanism, read_pays,
     read_second, read_value, read_wide,
 };
-use md_setting::Setting;
+use md_setting::{Setting, SettingFile};
 use std::alloc::Global;
 
 // A mechanism alone.
@@ -116,13 +117,11 @@ fn read_by_kind(
     }
 }
 
-/// Reads an answer about a setting.
-pub fn read_answer(alloc: Global, bytes: &[u8], setting: &Setting) -> Result<Answer, AnswerRefusal>
+// Reads an answer about a setting.
+fn read_about(alloc: Global, bytes: &[u8], setting: &Setting) -> Result<Answer, AnswerRefusal>
     ensures reads { MatchResult result
         (λ answer. answer_of setting.now bytes.now ≡ Ok answer)
         (λ refusal. refusal ≢ AnswerRefusal.Memory → answer_of setting.now bytes.now ≡ Err refusal) }
-
-    // What is read has the setting's sizes, and its numbers are in their ranges.
     ensures accepted { IfOk result (IsAnswerTo setting.now) }
     ensures places { IfOk result HasPlaces }
 {
@@ -131,4 +130,25 @@ pub fn read_answer(alloc: Global, bytes: &[u8], setting: &Setting) -> Result<Ans
     let answer = read_by_kind(alloc, &mut reader, setting, head)?;
     read_last(&mut reader)?;
     Ok(answer)
+}
+
+/// Reads an answer about the general setting of a file.
+///
+/// # Errors
+/// The first record that may not stand there, has a wrong field or does not add to what it must, that no end stands
+/// among the records, or want of memory.
+pub fn read_answer(alloc: Global, bytes: &[u8], file: &SettingFile) -> Result<Answer, AnswerRefusal>
+    requires general { IsGeneral file.now }
+    ensures reads { WhereGeneral (λ s. MatchResult result
+        (λ answer. answer_of s bytes.now ≡ Ok answer)
+        (λ refusal. refusal ≢ AnswerRefusal.Memory → answer_of s bytes.now ≡ Err refusal)) file.now }
+
+    // What is read has the setting's sizes, and its numbers are in their ranges.
+    ensures accepted { WhereGeneral (λ s. IfOk result (IsAnswerTo s)) file.now }
+    ensures places { IfOk result HasPlaces }
+{
+    match file {
+        SettingFile::General(setting) => read_about(alloc, bytes, setting),
+        SettingFile::Auction(_) => unreachable!(),
+    }
 }

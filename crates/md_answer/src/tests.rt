@@ -2,7 +2,7 @@
 use super::*;
 use md_lp::Pivot;
 use md_samples::{SampleAgent, Utility, choice, sale, setting, unbounded, unmet};
-use md_setting::{Rational, RawSetting, Setting};
+use md_setting::{Rational, RawSetting, Setting, SettingFile};
 use std::alloc::{AllocError, Global};
 use std::test::Fail;
 
@@ -41,11 +41,50 @@ fn lone(alloc: Global) -> Result<RawSetting, AllocError> {
     Ok(raw)
 }
 
-fn built(alloc: Global, raw: RawSetting) -> Result<Setting, Fail> {
+fn built(alloc: Global, raw: RawSetting) -> Result<SettingFile, Fail> {
     let Ok(setting) = Setting::new(alloc, raw) else {
         return Err("no setting")?;
     };
-    Ok(setting)
+    Ok(SettingFile::General(setting))
+}
+
+// The refusal of an answer, where it is refused.
+fn refused(alloc: Global, bytes: &[u8], file: &SettingFile) -> Result<Option<AnswerRefusal>, Fail> {
+    match file {
+        SettingFile::General(_) => Ok(read_answer(alloc, bytes, file).err()),
+        SettingFile::Auction(_) => Err("an auction")?,
+    }
+}
+
+// An answer that is read, and written again.
+fn rewritten(alloc: Global, bytes: &[u8], file: &SettingFile) -> Result<Vec<u8>, Fail> {
+    match file {
+        SettingFile::General(_) => {
+            let answer = read_answer(alloc, bytes, file)?;
+            Ok(write_answer(alloc, file, &answer)?)
+        }
+        SettingFile::Auction(_) => Err("an auction")?,
+    }
+}
+
+// The pivots of a file.
+fn listed(alloc: Global, bytes: &[u8], file: &SettingFile) -> Result<Pivots, Fail> {
+    match file {
+        SettingFile::General(_) => Ok(read_pivots(alloc, bytes, file)?),
+        SettingFile::Auction(_) => Err("an auction")?,
+    }
+}
+
+// The refusal of a file of pivots, where it is refused.
+fn refused_pivots(
+    alloc: Global,
+    bytes: &[u8],
+    file: &SettingFile,
+) -> Result<Option<AnswerRefusal>, Fail> {
+    match file {
+        SettingFile::General(_) => Ok(read_pivots(alloc, bytes, file).err()),
+        SettingFile::Auction(_) => Err("an auction")?,
+    }
 }
 
 const BUYER: usize = 0;
@@ -61,7 +100,7 @@ const NO_DEFICIT: usize = 4;
 const CHOICE: usize = 5;
 
 // The settings of the tests, in the order of their numbers.
-fn settings(alloc: Global) -> Result<Vec<Setting>, Fail> {
+fn settings(alloc: Global) -> Result<Vec<SettingFile>, Fail> {
     let mut settings = Vec::new(alloc);
     settings.push(built(alloc, sale(alloc, 3, 1)?)?)?;
     settings.push(built(alloc, vote(alloc)?)?)?;
@@ -122,8 +161,7 @@ fn writes_what_was_read(rt: HostRuntime) -> Result<(), Fail> {
         let Some(setting) = settings.get(*setting) else {
             return Err("no setting")?;
         };
-        let answer = read_answer(alloc, text.as_bytes(), setting)?;
-        let written = write_answer(alloc, setting, &answer)?;
+        let written = rewritten(alloc, text.as_bytes(), setting)?;
         assert!(rt; written.as_slice() == text.as_bytes(), "at {text}");
     }
     Ok(())
@@ -143,7 +181,7 @@ fn tells_where_a_file_ends_early(rt: HostRuntime) -> Result<(), Fail> {
             let front = &bytes[..place];
             if front.ends_with(b"\n") {
                 records = records.saturating_add(1);
-                let refusal = read_answer(alloc, front, setting).err();
+                let refusal = refused(alloc, front, setting)?;
                 assert!(rt;
                     refusal == Some(AnswerRefusal::End(records)),
                     "at {records} of {text}"
@@ -181,8 +219,7 @@ fn writes_an_answer_in_one_way(rt: HostRuntime) -> Result<(), Fail> {
         let Some(setting) = settings.get(*setting) else {
             return Err("no setting")?;
         };
-        let answer = read_answer(alloc, text.as_bytes(), setting)?;
-        let written = write_answer(alloc, setting, &answer)?;
+        let written = rewritten(alloc, text.as_bytes(), setting)?;
         assert!(rt; written.as_slice() == wanted.as_bytes(), "at {text}");
     }
     Ok(())
@@ -399,10 +436,8 @@ fn tells_the_first_reason_to_refuse(rt: HostRuntime) -> Result<(), Fail> {
         let Some(setting) = settings.get(*setting) else {
             return Err("no setting")?;
         };
-        assert!(rt;
-            read_answer(alloc, text.as_bytes(), setting).err() == Some(*refusal),
-            "at {text}"
-        );
+        let found = refused(alloc, text.as_bytes(), setting)?;
+        assert!(rt; found == Some(*refusal), "at {text}");
     }
     Ok(())
 }
@@ -433,11 +468,11 @@ fn reads_the_pivots_of_a_file(rt: HostRuntime) -> Result<(), Fail> {
     let alloc = rt.alloc();
     let setting = built(alloc, lone(alloc)?)?;
     for (text, wanted) in &LISTED {
-        let pivots = read_pivots(alloc, text.as_bytes(), &setting)?;
+        let pivots = listed(alloc, text.as_bytes(), &setting)?;
         assert!(rt; pivots.path.as_slice() == wanted.as_slice(), "at {text}");
         assert!(rt; pivots.cuts.is_empty(), "at {text}");
     }
-    let none = read_pivots(alloc, b"end\n", &setting)?;
+    let none = listed(alloc, b"end\n", &setting)?;
     assert!(rt; none.path.is_empty());
     Ok(())
 }
@@ -467,10 +502,8 @@ fn tells_the_first_reason_to_refuse_pivots(rt: HostRuntime) -> Result<(), Fail> 
     let alloc = rt.alloc();
     let setting = built(alloc, lone(alloc)?)?;
     for (text, refusal) in &PIVOTS_REFUSED {
-        assert!(rt;
-            read_pivots(alloc, text.as_bytes(), &setting).err() == Some(*refusal),
-            "at {text}"
-        );
+        let found = refused_pivots(alloc, text.as_bytes(), &setting)?;
+        assert!(rt; found == Some(*refusal), "at {text}");
     }
     Ok(())
 }

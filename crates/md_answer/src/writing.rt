@@ -1,5 +1,6 @@
 //! Writing a whole answer.
 ghost use Rattle.std.specs.Prelude.{◌≡◌, ◌++◌, IfOk, OnOk, Ok};
+ghost use Rattle.md_setting.specs.ByKind.{IsGeneral, WhereGeneral};
 ghost use Rattle.md_answer.specs.declared.answer.Answer.{Answer};
 ghost use Rattle.md_answer.specs.AnswerTo.{IsAnswerTo, HasPlaces};
 ghost use Rattle.md_answer.specs.Answers.{answer_of};
@@ -13,7 +14,7 @@ use md_parts::{
     push_value, push_wide,
 };
 use md_records::{Row, write_records};
-use md_setting::Setting;
+use md_setting::{Setting, SettingFile};
 use std::alloc::Global;
 
 // The version of the format in which an answer stands.
@@ -94,16 +95,33 @@ fn rows_of(alloc: Global, setting: &Setting, answer: &Answer) -> Result<Vec<Row>
     Ok(rows)
 }
 
-/// Writes an answer about a setting as its one text.
-pub fn write_answer(alloc: Global, setting: &Setting, answer: &Answer) -> Result<Vec<u8>, NoMemory>
+// The text of an answer about a setting.
+fn text_about(alloc: Global, setting: &Setting, answer: &Answer) -> Result<Vec<u8>, NoMemory>
     requires { IsAnswerTo setting.now answer.now }
     ensures text { IfOk result (λ text. text.items ≡ text_of_answer setting.now answer.now) }
-
-    // What is written is read as the same answer.
     ensures reads_back { IfOk result (λ text. answer_of setting.now text.items ≡ Ok answer.now) }
     ensures law { (a : Answer) → IsAnswerTo setting.now a → HasPlaces a → answer_of setting.now (text_of_answer setting.now a) ≡ Ok a }
 {
     let _few = setting.rows();
     let rows = rows_of(alloc, setting, answer)?;
     write_records(alloc, &rows)
+}
+
+/// Writes an answer about the general setting of a file as its one text.
+///
+/// # Errors
+/// Want of memory.
+pub fn write_answer(alloc: Global, file: &SettingFile, answer: &Answer) -> Result<Vec<u8>, NoMemory>
+    requires general { IsGeneral file.now }
+    requires fits { WhereGeneral (λ s. IsAnswerTo s answer.now) file.now }
+    ensures text { WhereGeneral (λ s. IfOk result (λ text. text.items ≡ text_of_answer s answer.now)) file.now }
+
+    // What is written is read as the same answer.
+    ensures reads_back { WhereGeneral (λ s. IfOk result (λ text. answer_of s text.items ≡ Ok answer.now)) file.now }
+    ensures law { (a : Answer) → WhereGeneral (λ s. IsAnswerTo s a → HasPlaces a → answer_of s (text_of_answer s a) ≡ Ok a) file.now }
+{
+    match file {
+        SettingFile::General(setting) => text_about(alloc, setting, answer),
+        SettingFile::Auction(_) => unreachable!(),
+    }
 }

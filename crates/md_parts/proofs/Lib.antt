@@ -17,3 +17,5 @@ pub mod WrittenRows
 pub mod WrittenTables
 pub mod WrittenParts
 pub mod MadeRows
+pub mod CutSteps
+pub mod CutsWritten

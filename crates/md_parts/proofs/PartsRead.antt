@@ -20,10 +20,10 @@ use Rattle.md_parts.specs.declared.version.Version.{Version}
 use Rattle.md_parts.specs.declared.version.Version.TheVariants.{One, Two}
 use Rattle.md_parts.specs.Fields.{Field, numbers_of, number_field, any_number, denominator_field, wide_number, wide_denominator, is_place, table_place}
 use Rattle.md_parts.specs.Reading.{Rest, then_read, read_record}
-use Rattle.md_parts.specs.Repeated.{has_word, after_first, repeated_in, repeated}
+use Rattle.md_parts.specs.Repeated.{has_word, repeated_in, repeated}
 use Rattle.md_parts.specs.Table.{ray_of, value_of}
-use Rattle.md_parts.specs.Multipliers.{row_fields, record_of, number_in, number_for, numbers_for, row_records, bound_denominator, bound_of, face_of}
-use Rattle.md_parts.specs.Path.{pivot_fields, pivot_of, path_of, entry_of, wide_of, second_of}
+use Rattle.md_parts.specs.Multipliers.{row_fields, after_row, record_of, number_in, number_for, numbers_for, row_records, bound_denominator, bound_of, face_of}
+use Rattle.md_parts.specs.Path.{pivot_fields, no_change, pivot_of, path_of, entry_of, wide_of, second_of}
 use Rattle.md_parts.specs.Fitting.{IsFraction, AreMultipliers, IsBoundOver, IsRayFor, HasFraction, IsTablePlace, HasWidePlaces}
 use Rattle.md_parts.proofs.NumbersRead.{IsInField, number_field-is, numbers-first, record-was_read}
 use Rattle.md_parts.proofs.Blocks.{in_two}
@@ -107,31 +107,31 @@ entry-known rest after entry h =
 not_both : (refusal : AnswerRefusal) (value : List (List ℤ) × Rest) → Err refusal ≡ Ok value → ⊥
 not_both refusal value e = cc
 
-repeated-if : (P : List ℤ → Type 0) (word : List ℕ) (fields : ℕ → List Field) (least read : ℕ) (next : List (List ℕ)) (others : List (List (List ℕ))) (b : Bool) (records : List (List ℤ)) (after : Rest)
-    → ((numbers : List ℤ) (rest : Rest) → read_record word (fields least) record { read = read; left = next ∷ others } ≡ Ok (numbers, rest) → P numbers)
-    → ((n : ℕ) (more : List (List ℤ)) (rest : Rest) → repeated_in word fields n (read + 1) others ≡ Ok (more, rest) → All P more)
+repeated-if : {S : Type 0} (P : List ℤ → Type 0) (word : List ℕ) (fields : S → List Field) (later : S → List ℤ → S) (state : S) (read : ℕ) (next : List (List ℕ)) (others : List (List (List ℕ))) (b : Bool) (records : List (List ℤ)) (after : Rest)
+    → ((numbers : List ℤ) (rest : Rest) → read_record word (fields state) record { read = read; left = next ∷ others } ≡ Ok (numbers, rest) → P numbers)
+    → ((s : S) (more : List (List ℤ)) (rest : Rest) → repeated_in word fields later s (read + 1) others ≡ Ok (more, rest) → All P more)
     → if◌then◌else◌ {A = Result (List (List ℤ) × Rest) AnswerRefusal} b
-    (then_read (read_record word (fields least) record { read = read; left = next ∷ others }) (λ numbers _. then_read (repeated_in word fields (after_first numbers) (read + 1) others) (λ more rest. Ok (numbers ∷ more, rest))))
+    (then_read (read_record word (fields state) record { read = read; left = next ∷ others }) (λ numbers _. then_read (repeated_in word fields later (later state numbers) (read + 1) others) (λ more rest. Ok (numbers ∷ more, rest))))
     (Ok ([], record { read = read; left = next ∷ others })) ≡ Ok (records, after)
     → All P records
-repeated-if P word fields least read next others true records after one more h =
-    let first = in_two (read_record word (fields least) record { read = read; left = next ∷ others }) _ records after h in
-    let second = in_two (repeated_in word fields (after_first first.one) (read + 1) others) (λ more rest. Ok (first.one ∷ more, rest)) records after first.next_is in
+repeated-if {S} P word fields later state read next others true records after one more h =
+    let first = in_two (read_record word (fields state) record { read = read; left = next ∷ others }) _ records after h in
+    let second = in_two (repeated_in word fields later (later state first.one) (read + 1) others) (λ more rest. Ok (first.one ∷ more, rest)) records after first.next_is in
     let pair : (first.one ∷ second.one, second.mid) ≡ (records, after) = cc in
     subst (λ (rs : List (List ℤ)). All P rs) (ap (λ (p : List (List ℤ) × Rest). p.0) pair)
-    (All-cons P first.one second.one (one first.one first.mid first.first_is) (more (after_first first.one) second.one second.mid second.first_is))
-repeated-if P word fields least read next others false records after one more h =
+    (All-cons P first.one second.one (one first.one first.mid first.first_is) (more (later state first.one) second.one second.mid second.first_is))
+repeated-if {S} P word fields later state read next others false records after one more h =
     let pair : ([], record { read = read; left = next ∷ others }) ≡ (records, after) = cc in
     subst (λ (rs : List (List ℤ)). All P rs) (ap (λ (p : List (List ℤ) × Rest). p.0) pair) (All-nil P)
 
-repeated-left : (P : List ℤ → Type 0) (word : List ℕ) (fields : ℕ → List Field) → ((least : ℕ) (rest after : Rest) (numbers : List ℤ) → read_record word (fields least) rest ≡ Ok (numbers, after) → P numbers)
-    → (least read : ℕ) (left : List (List (List ℕ))) (records : List (List ℤ)) (after : Rest) → repeated_in word fields least read left ≡ Ok (records, after) → All P records
-repeated-left P word fields known least read [] records after h =
+repeated-left : {S : Type 0} (P : List ℤ → Type 0) (word : List ℕ) (fields : S → List Field) (later : S → List ℤ → S) → ((state : S) (rest after : Rest) (numbers : List ℤ) → read_record word (fields state) rest ≡ Ok (numbers, after) → P numbers)
+    → (state : S) (read : ℕ) (left : List (List (List ℕ))) (records : List (List ℤ)) (after : Rest) → repeated_in word fields later state read left ≡ Ok (records, after) → All P records
+repeated-left {S} P word fields later known state read [] records after h =
     let pair : ([], record { read = read; left = [] }) ≡ (records, after) = cc in
     subst (λ (rs : List (List ℤ)). All P rs) (ap (λ (p : List (List ℤ) × Rest). p.0) pair) (All-nil P)
-repeated-left P word fields known least read (next ∷ others) records after h =
-    repeated-if P word fields least read next others (has_word word next) records after (λ numbers rest e. known least record { read = read; left = next ∷ others } rest numbers e)
-    (λ n more rest e. repeated-left P word fields known n (read + 1) others more rest e) h
+repeated-left {S} P word fields later known state read (next ∷ others) records after h =
+    repeated-if P word fields later state read next others (has_word word next) records after (λ numbers rest e. known state record { read = read; left = next ∷ others } rest numbers e)
+    (λ s more rest e. repeated-left P word fields later known s (read + 1) others more rest e) h
 
 -- ---- multipliers
 
@@ -158,7 +158,7 @@ number_for-within place limit (numbers ∷ others) row all =
 
 multipliers-known : (rows count i : ℕ) (rest after : Rest) (records : List (List ℤ)) → i < count → row_records rows count rest ≡ Ok (records, after) → AreMultipliers rows (numbers_for (suc i) rows records)
 multipliers-known rows count i rest after records l h =
-    let all = repeated-left (λ (ns : List ℤ). IsWithin (2 ^ 62 - 1) (number_at ns (suc i))) (codes "row") (row_fields rows count)
+    let all = repeated-left (λ (ns : List ℤ). IsWithin (2 ^ 62 - 1) (number_at ns (suc i))) (codes "row") (row_fields rows count) after_row
     (λ least r a ns e. row-number rows count least i r a ns l e) 0 rest.read rest.left records after h in
     let long = length-list_to rows (number_for (suc i) records) in
     record {
@@ -208,10 +208,10 @@ all-pivots (ns ∷ records) all =
 
 pub path-known : (rest after : Rest) (path : List Pivot) → path_of rest ≡ Ok (path, after) → All (λ (p : Pivot). IsTablePlace p.row p.column) path
 path-known rest after path h =
-    let two = in_two (repeated (codes "pivot") pivot_fields 0 rest) _ path after h in
-    let all = repeated-left (λ (ns : List ℤ). IsPlaced (pivot_of ns)) (codes "pivot") pivot_fields
-    (λ least r a ns e. table-place-known (number_at ns 0) (number_at ns 1) (record-field (codes "pivot") (pivot_fields least) r a ns 0 table_place e (lit< tt)) (record-field (codes "pivot") (pivot_fields least) r a ns 1 table_place e (lit< tt)))
-    0 rest.read rest.left two.one two.mid two.first_is in
+    let two = in_two (repeated (codes "pivot") pivot_fields no_change tt rest) _ path after h in
+    let all = repeated-left (λ (ns : List ℤ). IsPlaced (pivot_of ns)) (codes "pivot") pivot_fields no_change
+    (λ state r a ns e. table-place-known (number_at ns 0) (number_at ns 1) (record-field (codes "pivot") (pivot_fields state) r a ns 0 table_place e (lit< tt)) (record-field (codes "pivot") (pivot_fields state) r a ns 1 table_place e (lit< tt)))
+    tt rest.read rest.left two.one two.mid two.first_is in
     let pair : (map pivot_of two.one, two.mid) ≡ (path, after) = cc in
     subst (λ (ps : List Pivot). All IsPlaced ps) (ap (λ (p : List Pivot × Rest). p.0) pair) (all-pivots two.one all)
 

@@ -4,7 +4,7 @@ use Rattle.md_parts.specs.declared.refusal.AnswerRefusal.{AnswerRefusal}
 use Rattle.md_parts.specs.declared.refusal.AnswerRefusal.TheVariants.{Line, Cell, End}
 use Rattle.md_parts.specs.Fields.{Field, numbers_of}
 use Rattle.md_parts.specs.Reading.{Rest, then_read, is_record, read_record, fields_after_word}
-use Rattle.md_parts.specs.Repeated.{comes_next, after_first, repeated_in, repeated}
+use Rattle.md_parts.specs.Repeated.{comes_next, repeated_in, repeated}
 
 -- records that were read before those that come
 abbrev pub before_others : List (List ℤ) → Result (List (List ℤ) × Rest) AnswerRefusal → Result (List (List ℤ) × Rest) AnswerRefusal
@@ -65,52 +65,52 @@ pub fewer_left : (word : List ℕ) (fields : List Field) (rest after : Rest) (nu
 fewer_left word fields rest after numbers h = let f = was_first word fields rest after numbers h in rw f.left (omega arith)
 
 -- no such record comes
-pub repeated-ends : (word : List ℕ) (fields : ℕ → List Field) (least : ℕ) (now : Rest) → comes_next word now.left ≡ false → repeated word fields least now ≡ Ok ([], now)
-repeated-ends word fields least now h = ends now.read now.left h
+pub repeated-ends : {S : Type 0} (word : List ℕ) (fields : S → List Field) (later : S → List ℤ → S) (state : S) (now : Rest) → comes_next word now.left ≡ false → repeated word fields later state now ≡ Ok ([], now)
+repeated-ends {S} word fields later state now h = ends now.read now.left h
   where
-    ends : (read : ℕ) (left : List (List (List ℕ))) → comes_next word left ≡ false → repeated_in word fields least read left ≡ Ok ([], record { read = read; left = left })
+    ends : (read : ℕ) (left : List (List (List ℕ))) → comes_next word left ≡ false → repeated_in word fields later state read left ≡ Ok ([], record { read = read; left = left })
     ends read [] h = refl
     ends read (next ∷ others) h = rw h refl
 
 -- one comes and is refused
-pub repeated-fails : (word : List ℕ) (fields : ℕ → List Field) (least : ℕ) (now : Rest) (refusal : AnswerRefusal) → comes_next word now.left ≡ true → read_record word (fields least) now ≡ Err refusal
-    → repeated word fields least now ≡ Err refusal
-repeated-fails word fields least now refusal h one = fails now.read now.left h one
+pub repeated-fails : {S : Type 0} (word : List ℕ) (fields : S → List Field) (later : S → List ℤ → S) (state : S) (now : Rest) (refusal : AnswerRefusal) → comes_next word now.left ≡ true → read_record word (fields state) now ≡ Err refusal
+    → repeated word fields later state now ≡ Err refusal
+repeated-fails {S} word fields later state now refusal h one = fails now.read now.left h one
   where
-    fails : (read : ℕ) (left : List (List (List ℕ))) → comes_next word left ≡ true → read_record word (fields least) record { read = read; left = left } ≡ Err refusal → repeated_in word fields least read left ≡ Err refusal
+    fails : (read : ℕ) (left : List (List (List ℕ))) → comes_next word left ≡ true → read_record word (fields state) record { read = read; left = left } ≡ Err refusal → repeated_in word fields later state read left ≡ Err refusal
     fails read [] h one = cc
     fails read (next ∷ others) h one = rw (h, one) refl
 
 -- one comes and is read
-pub repeated-more : (word : List ℕ) (fields : ℕ → List Field) (least : ℕ) (now next : Rest) (numbers : List ℤ) → comes_next word now.left ≡ true → read_record word (fields least) now ≡ Ok (numbers, next)
-    → repeated word fields least now ≡ then_read (repeated word fields (after_first numbers) next) (λ more rest. Ok (numbers ∷ more, rest))
-repeated-more word fields least now next numbers h one = more now.read now.left h one
+pub repeated-more : {S : Type 0} (word : List ℕ) (fields : S → List Field) (later : S → List ℤ → S) (state : S) (now next : Rest) (numbers : List ℤ) → comes_next word now.left ≡ true → read_record word (fields state) now ≡ Ok (numbers, next)
+    → repeated word fields later state now ≡ then_read (repeated word fields later (later state numbers) next) (λ more rest. Ok (numbers ∷ more, rest))
+repeated-more {S} word fields later state now next numbers h one = more now.read now.left h one
   where
-    more : (read : ℕ) (left : List (List (List ℕ))) → comes_next word left ≡ true → read_record word (fields least) record { read = read; left = left } ≡ Ok (numbers, next)
-        → repeated_in word fields least read left ≡ then_read (repeated word fields (after_first numbers) next) (λ more rest. Ok (numbers ∷ more, rest))
+    more : (read : ℕ) (left : List (List (List ℕ))) → comes_next word left ≡ true → read_record word (fields state) record { read = read; left = left } ≡ Ok (numbers, next)
+        → repeated_in word fields later state read left ≡ then_read (repeated word fields later (later state numbers) next) (λ more rest. Ok (numbers ∷ more, rest))
     more read [] h one = cc
     more read (first ∷ others) h one =
-        let e = after-first word (fields least) read first others numbers next one in
-        rw (h, one) (ap (λ (r : Rest). then_read (repeated word fields (after_first numbers) r) (λ more rest. Ok (numbers ∷ more, rest))) e)
+        let e = after-first word (fields state) read first others numbers next one in
+        rw (h, one) (ap (λ (r : Rest). then_read (repeated word fields later (later state numbers) r) (λ more rest. Ok (numbers ∷ more, rest))) e)
 
 -- a loop over the records: what was read before, and what comes
-pub record IsSoFar (word : List ℕ) (fields : ℕ → List Field) (least : ℕ) (start now : Rest) (records : List (List ℤ)) : Type 0 where
-  pub so_far : repeated word fields 0 start ≡ before_others records (repeated word fields least now)
+pub record IsSoFar {S : Type 0} (word : List ℕ) (fields : S → List Field) (later : S → List ℤ → S) (first state : S) (start now : Rest) (records : List (List ℤ)) : Type 0 where
+  pub so_far : repeated word fields later first start ≡ before_others records (repeated word fields later state now)
 
-pub so_far-none : (word : List ℕ) (fields : ℕ → List Field) (start : Rest) → IsSoFar word fields 0 start start []
-so_far-none word fields start = record { so_far = before_none (repeated word fields 0 start) }
+pub so_far-none : {S : Type 0} (word : List ℕ) (fields : S → List Field) (later : S → List ℤ → S) (first : S) (start : Rest) → IsSoFar word fields later first first start start []
+so_far-none {S} word fields later first start = record { so_far = before_none (repeated word fields later first start) }
 
-pub so_far-more : (word : List ℕ) (fields : ℕ → List Field) (least : ℕ) (start now next : Rest) (records : List (List ℤ)) (numbers : List ℤ) → IsSoFar word fields least start now records
-    → comes_next word now.left ≡ true → read_record word (fields least) now ≡ Ok (numbers, next) → IsSoFar word fields (after_first numbers) start next (records ++ numbers ∷ [])
-so_far-more word fields least start now next records numbers h comes one = record {
-  so_far = h.so_far ∙ ap (λ r. before_others records r) (repeated-more word fields least now next numbers comes one) ∙ before_more records numbers (repeated word fields (after_first numbers) next);
+pub so_far-more : {S : Type 0} (word : List ℕ) (fields : S → List Field) (later : S → List ℤ → S) (first state : S) (start now next : Rest) (records : List (List ℤ)) (numbers : List ℤ) → IsSoFar word fields later first state start now records
+    → comes_next word now.left ≡ true → read_record word (fields state) now ≡ Ok (numbers, next) → IsSoFar word fields later first (later state numbers) start next (records ++ numbers ∷ [])
+so_far-more {S} word fields later first state start now next records numbers h comes one = record {
+  so_far = h.so_far ∙ ap (λ r. before_others records r) (repeated-more word fields later state now next numbers comes one) ∙ before_more records numbers (repeated word fields later (later state numbers) next);
 }
 
-pub so_far-fails : (word : List ℕ) (fields : ℕ → List Field) (least : ℕ) (start now : Rest) (records : List (List ℤ)) (refusal : AnswerRefusal) → IsSoFar word fields least start now records
-    → comes_next word now.left ≡ true → read_record word (fields least) now ≡ Err refusal → repeated word fields 0 start ≡ Err refusal
-so_far-fails word fields least start now records refusal h comes one = h.so_far ∙ ap (λ r. before_others records r) (repeated-fails word fields least now refusal comes one)
+pub so_far-fails : {S : Type 0} (word : List ℕ) (fields : S → List Field) (later : S → List ℤ → S) (first state : S) (start now : Rest) (records : List (List ℤ)) (refusal : AnswerRefusal) → IsSoFar word fields later first state start now records
+    → comes_next word now.left ≡ true → read_record word (fields state) now ≡ Err refusal → repeated word fields later first start ≡ Err refusal
+so_far-fails {S} word fields later first state start now records refusal h comes one = h.so_far ∙ ap (λ r. before_others records r) (repeated-fails word fields later state now refusal comes one)
 
-pub so_far-all : (word : List ℕ) (fields : ℕ → List Field) (least : ℕ) (start now : Rest) (records : List (List ℤ)) → IsSoFar word fields least start now records
-    → comes_next word now.left ≡ false → repeated word fields 0 start ≡ Ok (records, now)
-so_far-all word fields least start now records h ends =
-    h.so_far ∙ ap (λ r. before_others records r) (repeated-ends word fields least now ends) ∙ ap (λ (l : List (List ℤ)). Ok (l, now)) (append-nil records)
+pub so_far-all : {S : Type 0} (word : List ℕ) (fields : S → List Field) (later : S → List ℤ → S) (first state : S) (start now : Rest) (records : List (List ℤ)) → IsSoFar word fields later first state start now records
+    → comes_next word now.left ≡ false → repeated word fields later first start ≡ Ok (records, now)
+so_far-all {S} word fields later first state start now records h ends =
+    h.so_far ∙ ap (λ r. before_others records r) (repeated-ends word fields later state now ends) ∙ ap (λ (l : List (List ℤ)). Ok (l, now)) (append-nil records)

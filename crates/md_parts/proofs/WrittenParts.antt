@@ -35,8 +35,8 @@ use Rattle.md_parts.specs.Fields.{Field, word_field, denominator_field, wide_num
 use Rattle.md_parts.specs.Reading.{◌>>=◌, nothing_more, read_record}
 use Rattle.md_parts.specs.Repeated.{comes_next, repeated}
 use Rattle.md_parts.specs.Table.{denominator_of, lottery_of, each_profile, all_payments_of, mechanism_of, ray_of, value_of}
-use Rattle.md_parts.specs.Multipliers.{row_fields, number_for, numbers_for, row_records, bound_denominator, bound_of, face_of}
-use Rattle.md_parts.specs.Path.{pivot_fields, pivot_of, path_of, entry_of, wide_of, second_of, version_with}
+use Rattle.md_parts.specs.Multipliers.{row_fields, after_row, number_for, numbers_for, row_records, bound_denominator, bound_of, face_of}
+use Rattle.md_parts.specs.Path.{pivot_fields, no_change, pivot_of, path_of, entry_of, wide_of, second_of, version_with}
 use Rattle.md_parts.specs.Fitting.{IsFraction, AreMultipliers, IsBoundOver, IsRayFor, HasFraction, IsTablePlace, HasWidePlaces}
 use Rattle.md_parts.specs.Rows.{number_row, first_row, end_row, profile_row, profile_rows, payment_rows, mechanism_rows, ray_rows, value_row, row_unless_zero, face_rows, bound_rows, pivot_row, entry_row, wide_rows, again_row, second_rows}
 use Rattle.md_parts.proofs.NumbersRead.{IsInField}
@@ -190,7 +190,7 @@ rows-read : (rows count : ℕ) (f : ℕ → List ℤ) (others : Rows) → AreRow
 rows-read rows count f others h few ends =
     subst (λ (l : Rows). IsWrittenBefore others (row_records rows count) l (records_from 0 rows f)) (sym (rows-written rows f)) (record {
       read = λ n.
-          repeated-written (codes "row") (row_fields rows count) 0 (records_from 0 rows f) n others (hold-from rows count 0 rows 0 f h.each (omega arith) (omega arith) few) ends
+          repeated-written (codes "row") (row_fields rows count) after_row 0 (records_from 0 rows f) n others (hold-from rows count 0 rows 0 f h.each (omega arith) (omega arith) few) ends
           ∙ ap (λ (k : ℕ). Ok (records_from 0 rows f, record { read = n + k; left = others })) (sym (length-map (records_from 0 rows f) (number_row (codes "row"))));
     })
 
@@ -253,18 +253,18 @@ pivots-of : (path : List Pivot) → map pivot_of (map pivot_numbers path) ≡ pa
 pivots-of [] = refl
 pivots-of (p ∷ path) = ap (λ (l : List Pivot). p ∷ l) (pivots-of path)
 
-pivots-hold : (least : ℕ) (path : List Pivot) → All IsPlaced path → HoldFrom pivot_fields least (map pivot_numbers path)
-pivots-hold least [] all = tt
-pivots-hold least (p ∷ path) all = (places-hold p.row p.column [] [] [] (All-head IsPlaced p path all) holds-none, pivots-hold (p.row + 1) path (All-tail IsPlaced p path all))
+pivots-hold : (path : List Pivot) → All IsPlaced path → HoldFrom pivot_fields no_change tt (map pivot_numbers path)
+pivots-hold [] all = tt
+pivots-hold (p ∷ path) all = (places-hold p.row p.column [] [] [] (All-head IsPlaced p path all) holds-none, pivots-hold path (All-tail IsPlaced p path all))
 
 pub path-written : (path : List Pivot) (others : Rows) → All IsPlaced path → comes_next (codes "pivot") others ≡ false → IsWrittenBefore others path_of (map pivot_row path) path
 path-written path others all ends =
     let records = map pivot_numbers path in
     subst (λ (found : List Pivot). IsWrittenBefore others path_of (map pivot_row path) found) (pivots-of path)
-    (written-as others (repeated (codes "pivot") pivot_fields 0) (λ rs. map pivot_of rs) (map pivot_row path) records
-    (subst (λ (l : Rows). IsWrittenBefore others (repeated (codes "pivot") pivot_fields 0) l records) (pivot_rows-as path) (record {
+    (written-as others (repeated (codes "pivot") pivot_fields no_change tt) (λ rs. map pivot_of rs) (map pivot_row path) records
+    (subst (λ (l : Rows). IsWrittenBefore others (repeated (codes "pivot") pivot_fields no_change tt) l records) (pivot_rows-as path) (record {
       read = λ n.
-          repeated-written (codes "pivot") pivot_fields 0 records n others (pivots-hold 0 path all) ends
+          repeated-written (codes "pivot") pivot_fields no_change tt records n others (pivots-hold path all) ends
           ∙ ap (λ (k : ℕ). Ok (records, record { read = n + k; left = others })) (sym (length-map records (number_row (codes "pivot"))));
     })))
 

@@ -9,8 +9,8 @@ use Rattle.md_math.proofs.Builders.{map-up_to, up_to-same}
 use Rattle.md_num.specs.WholeText.{text_of}
 use Rattle.md_parts.specs.Fields.{Field, number_field, is_place, place_field}
 use Rattle.md_parts.specs.Reading.{then_read}
-use Rattle.md_parts.specs.Repeated.{comes_next, after_first, repeated}
-use Rattle.md_parts.specs.Multipliers.{row_fields, record_of, number_in, number_for}
+use Rattle.md_parts.specs.Repeated.{comes_next, repeated}
+use Rattle.md_parts.specs.Multipliers.{row_fields, after_row, record_of, number_in, number_for}
 use Rattle.md_parts.specs.Rows.{number_row, row_unless_zero}
 use Rattle.md_parts.specs.Written.{Holds}
 use Rattle.md_parts.proofs.NumbersRead.{IsInField}
@@ -19,18 +19,18 @@ use Rattle.md_parts.proofs.Spread.{int_eq-own, int_eq-other}
 use Rattle.md_parts.proofs.WrittenRecords.{holds-cons, holds-numbers, number_field-holds, record-written, same_bytes}
 
 -- each record holds what its fields may, after the one before it
-abbrev pub HoldFrom : (ℕ → List Field) → ℕ → List (List ℤ) → Type 0
-HoldFrom fields least [] = Unit {0}
-HoldFrom fields least (numbers ∷ others) = Holds (fields least) (map text_of numbers) numbers × HoldFrom fields (after_first numbers) others
+abbrev pub HoldFrom : {S : Type 0} → (S → List Field) → (S → List ℤ → S) → S → List (List ℤ) → Type 0
+HoldFrom fields later state [] = Unit {0}
+HoldFrom fields later state (numbers ∷ others) = Holds (fields state) (map text_of numbers) numbers × HoldFrom fields later (later state numbers) others
 
-pub repeated-written : (word : List ℕ) (fields : ℕ → List Field) (least : ℕ) (records : List (List ℤ)) (read : ℕ) (others : List (List (List ℕ))) → HoldFrom fields least records → comes_next word others ≡ false
-    → repeated word fields least record { read = read; left = map (number_row word) records ++ others } ≡ Ok (records, record { read = read + length records; left = others })
-repeated-written word fields least [] read others h ends = rw (add-zero read) (repeated-ends word fields least record { read = read; left = others } ends)
-repeated-written word fields least (numbers ∷ records) read others h ends =
-    let one = record-written word (fields least) (map text_of numbers) numbers read (map (number_row word) records ++ others) h.0 in
-    let more = repeated-written word fields (after_first numbers) records (read + 1) others h.1 ends in
+pub repeated-written : {S : Type 0} (word : List ℕ) (fields : S → List Field) (later : S → List ℤ → S) (state : S) (records : List (List ℤ)) (read : ℕ) (others : List (List (List ℕ))) → HoldFrom fields later state records → comes_next word others ≡ false
+    → repeated word fields later state record { read = read; left = map (number_row word) records ++ others } ≡ Ok (records, record { read = read + length records; left = others })
+repeated-written {S} word fields later state [] read others h ends = rw (add-zero read) (repeated-ends word fields later state record { read = read; left = others } ends)
+repeated-written {S} word fields later state (numbers ∷ records) read others h ends =
+    let one = record-written word (fields state) (map text_of numbers) numbers read (map (number_row word) records ++ others) h.0 in
+    let more = repeated-written word fields later (later state numbers) records (read + 1) others h.1 ends in
     let count : read + 1 + length records ≡ read + suc (length records) = omega arith in
-    repeated-more word fields least record { read = read; left = map (number_row word) (numbers ∷ records) ++ others } record { read = read + 1; left = map (number_row word) records ++ others } numbers (same_bytes word) one
+    repeated-more word fields later state record { read = read; left = map (number_row word) (numbers ∷ records) ++ others } record { read = read + 1; left = map (number_row word) records ++ others } numbers (same_bytes word) one
     ∙ ap (λ r. then_read r (λ more rest. Ok (numbers ∷ more, rest))) more
     ∙ ap (λ (n : ℕ). Ok (numbers ∷ records, record { read = n; left = others })) count
 
@@ -77,7 +77,7 @@ pub place-holds : (from below place : ℕ) → from ≤ place → place < below 
 place-holds from below place l m small = record { passes = is_place-inside from below place l m; small = record { within = omega arith } }
 
 hold-if : (b : Bool) (rows count row least : ℕ) (multipliers : List ℤ) (others : List (List ℤ)) → length multipliers ≡ count → All (IsInField 62 (λ _. true)) multipliers → least ≤ row → row < rows → rows ≤ 2 ^ 32
-    → ((k : ℕ) → k ≤ suc row → HoldFrom (row_fields rows count) k others) → HoldFrom (row_fields rows count) least (unless_zero b row multipliers ++ others)
+    → ((k : ℕ) → k ≤ suc row → HoldFrom (row_fields rows count) after_row k others) → HoldFrom (row_fields rows count) after_row least (unless_zero b row multipliers ++ others)
 hold-if true rows count row least multipliers others long all l m few more = more least (omega arith)
 hold-if false rows count row least multipliers others long all l m few more =
     let numbers : Holds (replicate count (number_field 62 (λ _. true))) (map text_of multipliers) multipliers = subst (λ (n : ℕ). Holds (replicate n (number_field 62 (λ _. true))) (map text_of multipliers) multipliers) long (holds-numbers 62 (λ _. true) multipliers (lit≤ tt) all) in (
@@ -87,7 +87,7 @@ hold-if false rows count row least multipliers others long all l m few more =
     )
 
 pub hold-from : (rows count row n least : ℕ) (f : ℕ → List ℤ) → ((k : ℕ) → k < rows → (length (f k) ≡ count) × All (IsInField 62 (λ _. true)) (f k)) → least ≤ row → row + n ≤ rows → rows ≤ 2 ^ 32
-    → HoldFrom (row_fields rows count) least (records_from row n f)
+    → HoldFrom (row_fields rows count) after_row least (records_from row n f)
 hold-from rows count row zero least f each l m few = tt
 hold-from rows count row (suc n) least f each l m few =
     let (long, all) = each row (omega arith) in

@@ -1,5 +1,6 @@
 -- What stands in the fields of a record after its word.
-use Rattle.std.specs.Prelude.{ℕ, ◌+◌, ◌^◌, ℤ, pos, Bool, true, ◌&&◌, List, [], ◌∷◌, Option, None, Some, Result, Ok, Err, int_le, int_lt, if◌then◌else◌}
+use Rattle.std.specs.Prelude.{ℕ, ◌+◌, ◌^◌, ℤ, pos, Bool, true, not, ◌&&◌, nat_eq, unsigned_abs, List, [], ◌∷◌, Option, None, Some, Result, Ok, Err, int_le, int_lt, if◌then◌else◌}
+use Rattle.std.specs.List.{list_any}
 use Rattle.std.specs.Str.{bytes_eq}
 use Rattle.md_num.specs.WholeText.{whole_of}
 
@@ -41,6 +42,13 @@ is_place from below number = int_le (pos from) number && int_lt number (pos belo
 
 abbrev pub place_field : ℕ → ℕ → Field
 place_field from below = number_field 62 (is_place from below)
+
+-- a number is one of the places from one on and below another, and is none of those that are taken
+abbrev pub is_free_place : ℕ → ℕ → List ℕ → ℤ → Bool
+is_free_place from below taken number = is_place from below number && not (list_any (nat_eq (unsigned_abs number)) taken)
+
+abbrev pub free_place_field : ℕ → ℕ → List ℕ → Field
+free_place_field from below taken = number_field 62 (is_free_place from below taken)
 
 -- the place of a row or column of a table
 abbrev pub table_place : Field

@@ -12,6 +12,7 @@ pub mod LastRecord
 pub mod Table
 pub mod Multipliers
 pub mod Path
+pub mod Cuts
 pub mod Fitting
 pub mod Rows
 pub mod Written

@@ -1,5 +1,5 @@
 -- The records of multipliers: one for each row of a program, of which those of zeros are left out.
-use Rattle.std.specs.Prelude.{ℕ, ℤ, pos, List, [], ◌∷◌, Option, None, Some, replicate, codes, if◌then◌else◌}
+use Rattle.std.specs.Prelude.{ℕ, ◌+◌, ℤ, pos, unsigned_abs, List, [], ◌∷◌, Option, None, Some, replicate, codes, if◌then◌else◌}
 use Rattle.std.specs.Ordering.{int_eq}
 use Rattle.md_math.specs.Lists.{number_at, list_to}
 use Rattle.md_cert.specs.declared.bound.Bound.{Bound}
@@ -7,9 +7,13 @@ use Rattle.md_parts.specs.Fields.{Field, any_number, denominator_field, place_fi
 use Rattle.md_parts.specs.Reading.{Reading, ◌>>=◌, nothing_more, read_record}
 use Rattle.md_parts.specs.Repeated.{repeated}
 
--- the fields of a row's record after its word: the number of the row, of `rows` many, and then `count` multipliers
+-- the fields of a row's record after its word: the number of the row, of `rows` many and not below the least, and then `count` multipliers
 abbrev pub row_fields : ℕ → ℕ → ℕ → List Field
 row_fields rows count least = place_field least rows ∷ replicate count any_number
+
+-- rows ascend: the least row that may come is one more than the row before it
+abbrev pub after_row : ℕ → List ℤ → ℕ
+after_row least numbers = unsigned_abs (number_at numbers 0) + 1
 
 -- the record of a row, where there is one
 abbrev pub record_of : List (List ℤ) → ℕ → Option (List ℤ)
@@ -30,7 +34,7 @@ numbers_for place rows records = list_to rows (number_for place records)
 
 -- the records of some of so many rows, with so many multipliers each
 abbrev pub row_records : ℕ → ℕ → Reading (List (List ℤ))
-row_records rows count = repeated (codes "row") (row_fields rows count) 0
+row_records rows count = repeated (codes "row") (row_fields rows count) after_row 0
 
 -- the face multipliers of so many rows alone
 abbrev pub face_of : ℕ → Reading (List ℤ)

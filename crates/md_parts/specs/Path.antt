@@ -1,5 +1,5 @@
 -- The records of paths of pivots, each with an entry that is too wide at its end.
-use Rattle.std.specs.Prelude.{ℕ, ℤ, List, [], ◌∷◌, map, codes, Option, None, Some, unsigned_abs}
+use Rattle.std.specs.Prelude.{ℤ, List, [], ◌∷◌, map, codes, Option, None, Some, unsigned_abs}
 use Rattle.md_math.specs.Lists.{number_at}
 use Rattle.md_lp.specs.declared.pivot.Pivot.{Pivot}
 use Rattle.md_lp.specs.declared.entry.Entry.{Entry}
@@ -10,16 +10,19 @@ use Rattle.md_parts.specs.Fields.{Field, table_place, wide_number, wide_denomina
 use Rattle.md_parts.specs.Reading.{Reading, ◌>>=◌, nothing_more, read_record}
 use Rattle.md_parts.specs.Repeated.{repeated}
 
--- the row and the column of a pivot, whatever pivot comes before it
-abbrev pub pivot_fields : ℕ → List Field
-pivot_fields least = table_place ∷ table_place ∷ []
+-- the row and the column of a pivot, whatever pivots come before it
+abbrev pub pivot_fields : Unit {0} → List Field
+pivot_fields _ = table_place ∷ table_place ∷ []
+
+abbrev pub no_change : Unit {0} → List ℤ → Unit {0}
+no_change state numbers = state
 
 abbrev pub pivot_of : List ℤ → Pivot
 pivot_of numbers = record { row = unsigned_abs (number_at numbers 0); column = unsigned_abs (number_at numbers 1) }
 
 abbrev pub path_of : Reading (List Pivot)
 path_of = do
-  records ← repeated (codes "pivot") pivot_fields 0
+  records ← repeated (codes "pivot") pivot_fields no_change tt
   nothing_more (map pivot_of records)
 
 -- an entry with its place and its denominator

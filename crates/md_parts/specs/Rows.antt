@@ -88,3 +88,11 @@ again_row = codes "again" ∷ []
 abbrev pub second_rows : Option Wide → List (List (List ℕ))
 second_rows None = []
 second_rows (Some second) = again_row ∷ wide_rows second
+
+-- ---- cuts
+
+abbrev pub cut_row : ℕ → List (List ℕ)
+cut_row set = number_row (codes "cut") (pos set ∷ [])
+
+abbrev pub cut_rows : List ℕ → List (List (List ℕ))
+cut_rows sets = map cut_row sets

@@ -2,7 +2,7 @@
 ghost use Rattle.std.specs.Prelude.{◌≡◌, ◌≢◌, ◌<◌, ◌≤◌, ◌+◌, ◌∷◌, [], ℕ, pos, List, drop, length, ℤ, ◌+ℤ◌, ◌^◌, ◌++◌, replicate, unsigned_abs, MatchResult, MatchOption, option_map, map, IfSome, IfOk, Ok, Err, true, IsTrue};
 ghost use Rattle.md_math.specs.Sums.{total};
 ghost use Rattle.md_num.specs.Limits.{limit_of};
-ghost use Rattle.md_parts.specs.Fields.{word_field, place_field, table_place};
+ghost use Rattle.md_parts.specs.Fields.{word_field, place_field, is_free_place, free_place_field, table_place};
 ghost use Rattle.md_parts.specs.Records.{fields_after_word};
 ghost use Rattle.md_parts.specs.Versions.{version_field, version_number};
 ghost use Rattle.md_parts.specs.Ranges.{ranged_field, in_range};
@@ -164,6 +164,27 @@ impl Fields {
         Ok(place as u64)
     }
 
+    /// The next field must be a place from one on and below another, and none of those that are taken.
+    ///
+    /// # Errors
+    /// The field is no such number, or one that is taken.
+    #[tactic(auto, using(crate::proofs::FieldSteps::field_steps))]
+    pub fn free_place(&mut self, from: u32, below: u32, taken: &[u32]) -> Result<u32, AnswerRefusal>
+        requires { 0 < length self.old.texts }
+        ensures read { MatchResult result
+            (λ place. Reads (free_place_field from below taken.now ∷ []) self.old self.new (pos place ∷ []))
+            (λ refusal. FailsIn (free_place_field from below taken.now ∷ []) self.old refusal) }
+        ensures free { IfOk result (λ place. is_free_place from below taken.now (pos place) ≡ true) }
+    {
+        match read_whole(self.text(), 62) {
+            Ok(number) if is_free(number, from, below, taken) => {
+                self.step();
+                Ok(number as u32)
+            }
+            _ => Err(self.refusal()),
+        }
+    }
+
     /// The next two fields must be the row and the column of a place of a table.
     pub fn table_place(&mut self) -> Result<(u32, u32), AnswerRefusal>
         requires { 2 ≤ length self.old.texts }
@@ -215,6 +236,17 @@ impl Fields {
         }
         Ok(sum)
     }
+}
+
+// Whether a number is a place from one on and below another, and none of those that are taken.
+fn is_free(number: i128, from: u32, below: u32, taken: &[u32]) -> bool
+    ensures { result ≡ is_free_place from below taken.now number }
+{
+    let place = Range::Place {
+        from: u64::from(from),
+        below: u64::from(below),
+    };
+    place.has(number) && !taken.contains(&(number as u32))
 }
 
 // The place of the first of some words that a text is.

@@ -1,6 +1,7 @@
 //! Parts of answers, read and written as records.
 #![tactic(auto)]
 
+mod cuts;
 mod fields;
 mod first_record;
 mod last_record;
@@ -15,6 +16,7 @@ mod refusal;
 mod value;
 mod version;
 
+pub use cuts::{push_cuts, read_cuts};
 pub use fields::Fields;
 pub use first_record::{Head, push_first, read_first};
 pub use last_record::{push_end, read_last};

@@ -20,8 +20,8 @@ use std::alloc::Global;
 // The record of a pivot.
 fn read_pivot(reader: &mut Reader) -> Result<Pivot, AnswerRefusal>
     ensures { MatchResult result
-        (λ pivot. read_record (codes "pivot") (pivot_fields 0) reader.old ≡ Ok (pos pivot.row ∷ pos pivot.column ∷ [], reader.new))
-        (λ refusal. refusal ≢ AnswerRefusal.Memory → read_record (codes "pivot") (pivot_fields 0) reader.old ≡ Err refusal) }
+        (λ pivot. read_record (codes "pivot") (pivot_fields tt) reader.old ≡ Ok (pos pivot.row ∷ pos pivot.column ∷ [], reader.new))
+        (λ refusal. refusal ≢ AnswerRefusal.Memory → read_record (codes "pivot") (pivot_fields tt) reader.old ≡ Err refusal) }
 {
     let mut fields = reader.next("pivot", 2)?;
     let (row, column) = fields.table_place()?;

@@ -4,7 +4,7 @@ use Rattle.md_setting.specs.Rows.{row_count}
 use Rattle.md_records.specs.Written.{text_of_records}
 use Rattle.md_answer.specs.Answers.{answer_of}
 use Rattle.md_answer.proofs.WrittenAnswers.{answer-reads_back}
-use Rattle.md_answer.proofs.writing.write_answer.Goals as goal
+use Rattle.md_answer.proofs.writing.text_about.Goals as goal
 
 pub returns-in_err-rows-clause-law : goal.returns-in_err-rows-clause-law
 returns-in_err-rows-clause-law c =
