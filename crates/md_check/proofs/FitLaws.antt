@@ -26,7 +26,8 @@ use Rattle.md_rows.proofs.BuiltLaws.{rows-length}
 use Rattle.md_mech.proofs.CountLaws.{conditions-length}
 use Rattle.md_rows.proofs.PointLaws.{point-length, point-nonneg, point-within}
 use Rattle.md_claims.specs.Rays.{paying, ray_of}
-use Rattle.md_answer.specs.AnswerTo.{AreMultipliers, IsBoundFor, IsRayFor}
+use Rattle.md_answer.specs.AnswerTo.{IsBoundFor}
+use Rattle.md_parts.specs.Fitting.{AreMultipliers, IsRayFor}
 use Rattle.md_claims.specs.Certificates.{optimal_certificate, unbounded_certificate}
 
 -- ---- multipliers

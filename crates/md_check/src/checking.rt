@@ -1,5 +1,6 @@
 //! The verdict on an answer.
 ghost use Rattle.std.specs.Prelude.{◌≡◌, ◌↔◌, IfOk};
+ghost use Rattle.md_setting.specs.ByKind.{IsGeneral, WhereGeneral};
 ghost use Rattle.md_lp.specs.Program.{Program};
 ghost use Rattle.md_mech.specs.Accepted.{IsAccepted};
 ghost use Rattle.md_mech.specs.Admissible.{IsAdmissible};
@@ -10,7 +11,8 @@ ghost use Rattle.md_cert.specs.Fault.{IsFirstFault};
 ghost use Rattle.md_cert.specs.Fitting.{Fits};
 ghost use Rattle.md_rows.specs.ProgramOf.{IsProgramOf};
 ghost use Rattle.md_answer.specs.declared.answer.Answer.TheVariants.{Optimal, Infeasible, Unbounded};
-ghost use Rattle.md_answer.specs.AnswerTo.{IsAnswerTo, IsFraction, IsBoundFor, AreMultipliers, IsRayFor};
+ghost use Rattle.md_answer.specs.AnswerTo.{IsAnswerTo, IsBoundFor};
+ghost use Rattle.md_parts.specs.Fitting.{IsFraction, AreMultipliers, IsRayFor};
 ghost use Rattle.md_setting.specs.Rows.{row_count};
 ghost use Rattle.md_check.specs.declared.verdict.Verdict.TheVariants.{Valid, Undecided};
 ghost use Rattle.md_claims.specs.Certificates.{optimal_certificate, unbounded_certificate};
@@ -26,20 +28,24 @@ use md_lp::Lp;
 use md_mech::{Mechanism, audit};
 use md_num::{Frac, NoMemory, Nums};
 use md_rows::rows_of;
-use md_setting::Setting;
+use md_setting::{Setting, SettingFile};
 use std::alloc::Global;
 
 /// The verdict on an answer to the setting: valid where all its conditions hold, undecided where it claims nothing, and
 /// else rejected with the first condition that fails.
-pub fn check(alloc: Global, setting: &Setting, answer: &Answer) -> Result<Verdict, NoMemory>
-    requires { IsAnswerTo setting.now answer.now }
-    ensures verdict { IfOk result (IsVerdict setting.now answer.now) }
+pub fn check(alloc: Global, file: &SettingFile, answer: &Answer) -> Result<Verdict, NoMemory>
+    requires general { IsGeneral file.now }
+    requires answer { WhereGeneral (λ s. IsAnswerTo s answer.now) file.now }
+    ensures verdict { WhereGeneral (λ s. IfOk result (IsVerdict s answer.now)) file.now }
     ensures undecided { IfOk result (λ verdict. (verdict ≡ Undecided) ↔ ClaimsNothing answer.now) }
 
     // Where all conditions hold nothing else is answered, and what the answer claims is so.
-    ensures sound { IfOk result (λ verdict. (p : Program) → IsProgramOf setting.now p → IsSound setting.now p answer.now → verdict ≡ Valid) }
-    ensures claim { IfOk result (λ verdict. verdict ≡ Valid → ClaimHolds setting.now answer.now) }
+    ensures sound { WhereGeneral (λ s. IfOk result (λ verdict. (p : Program) → IsProgramOf s p → IsSound s p answer.now → verdict ≡ Valid)) file.now }
+    ensures claim { WhereGeneral (λ s. IfOk result (λ verdict. verdict ≡ Valid → ClaimHolds s answer.now)) file.now }
 {
+    let SettingFile::General(setting) = file else {
+        unreachable!()
+    };
     match answer {
         Answer::Table(_) | Answer::TooWide { .. } => Ok(Verdict::Undecided),
         Answer::Optimal {

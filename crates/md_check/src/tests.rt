@@ -4,7 +4,7 @@ use md_answer::read_answer;
 use md_mech::Broken;
 use md_num::Frac;
 use md_samples::{sale, unbounded, unmet};
-use md_setting::{RawSetting, Setting};
+use md_setting::{RawSetting, Setting, SettingFile};
 use std::alloc::Global;
 use std::process::Abort;
 use std::test::Fail;
@@ -19,9 +19,10 @@ fn judge(rt: &impl Abort, alloc: Global, raw: RawSetting, cases: &[Case]) -> Res
     let Ok(setting) = Setting::new(alloc, raw) else {
         return Err("no setting")?;
     };
+    let file = SettingFile::General(setting);
     for case in cases {
-        let answer = read_answer(alloc, case.text.as_bytes(), &setting)?;
-        assert_eq!(rt; check(alloc, &setting, &answer)?, case.verdict);
+        let answer = read_answer(alloc, case.text.as_bytes(), &file)?;
+        assert_eq!(rt; check(alloc, &file, &answer)?, case.verdict);
     }
     Ok(())
 }

@@ -3,7 +3,7 @@ ghost use Rattle.std.specs.Prelude.{◌≡◌, ◌<◌, ◌^◌, ◌↔◌, ◌*
 ghost use Rattle.md_math.specs.Divisors.{IsLeastTerms};
 ghost use Rattle.md_mech.specs.Accepted.{IsAccepted};
 ghost use Rattle.md_setting.specs.Meaning.{total_of};
-ghost use Rattle.md_answer.specs.AnswerTo.{IsFraction};
+ghost use Rattle.md_parts.specs.Fitting.{IsFraction};
 ghost use Rattle.md_mech.specs.Value.{HasValue};
 ghost use Rattle.md_check.specs.Values.{IsOtherValue};
 

@@ -9,7 +9,8 @@ use Rattle.md_cert.specs.Fitting.{FitsRows, FitsBound}
 use Rattle.md_rows.specs.ProgramOf.{IsProgramOf}
 use Rattle.md_mech.proofs.CountLaws.{conditions-length}
 use Rattle.md_rows.proofs.BuiltLaws.{rows-length}
-use Rattle.md_answer.specs.AnswerTo.{AreMultipliers, IsBoundFor}
+use Rattle.md_answer.specs.AnswerTo.{IsBoundFor}
+use Rattle.md_parts.specs.Fitting.{AreMultipliers}
 
 program-rows : (s : GeneralSetting) (p : Program) → IsProgramOf s p → row_count p ≡ setting_rows s
 program-rows s p is = rows-length s (rows_of s) p.rows is.rows ∙ conditions-length s

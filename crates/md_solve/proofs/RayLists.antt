@@ -19,7 +19,7 @@ use Rattle.md_rows.specs.Columns.{first_minus, plus_column, minus_column, paymen
 use Rattle.md_rows.proofs.FormLaws.{plus-at_rank, minus-at_rank, payment-on, payment-off}
 use Rattle.md_rows.specs.ProgramOf.{IsProgramOf}
 use Rattle.md_claims.specs.Rays.{pays_along}
-use Rattle.md_answer.specs.AnswerTo.{IsRayFor}
+use Rattle.md_parts.specs.Fitting.{IsRayFor}
 
 -- ---- places
 

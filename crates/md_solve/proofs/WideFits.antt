@@ -6,7 +6,7 @@ use Rattle.md_lp.specs.declared.wide.Wide.{Wide}
 use Rattle.md_simplex.specs.declared.order.Order.{Order}
 use Rattle.md_simplex.specs.Runs.{IsFirstWideOf}
 use Rattle.md_simplex.proofs.WideSizes.{wide-sizes}
-use Rattle.md_answer.specs.AnswerTo.{HasFraction}
+use Rattle.md_parts.specs.Fitting.{HasFraction}
 
 pub wide-fits : (order : Order) (p : Program) (width : ℕ) (wide : Wide) → IsShaped p → width ≤ 62 → IsFirstWideOf order p width wide → HasFraction wide
 wide-fits order p width wide shaped few first =

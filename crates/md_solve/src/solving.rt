@@ -1,5 +1,6 @@
 //! The paths of a setting's program, and what is told of their ends.
 ghost use Rattle.std.specs.Prelude.{◌≡◌, ◌↔◌, List, IfOk};
+ghost use Rattle.md_setting.specs.ByKind.{IsGeneral, WhereGeneral};
 ghost use Rattle.md_lp.specs.Program.{Program};
 ghost use Rattle.md_lp.specs.declared.pivot.Pivot.{Pivot};
 ghost use Rattle.md_mech.specs.Admissible.{IsAdmissible};
@@ -22,7 +23,7 @@ use md_answer::Answer;
 use md_lp::{Lp, Sets};
 use md_num::{NoMemory, Width};
 use md_rows::rows_of;
-use md_setting::Setting;
+use md_setting::{Setting, SettingFile};
 use md_simplex::{SimplexError, run};
 use std::alloc::Global;
 
@@ -32,37 +33,41 @@ use std::alloc::Global;
 /// and again with a gain each time. There are two paths, one of each order of columns; the backward one is taken where the
 /// forward one has a basis with an entry that is too wide. Where both have one, the pivots to the first such basis and its
 /// first such entry are told instead, for each path.
-pub fn solve(alloc: Global, setting: &Setting, width: Width) -> Result<Answer, NoMemory>
-    ensures solved { IfOk result (IsSolved setting.now width) }
+pub fn solve(alloc: Global, file: &SettingFile, width: Width) -> Result<Answer, NoMemory>
+    requires general { IsGeneral file.now }
+    ensures solved { WhereGeneral (λ s. IfOk result (IsSolved s width)) file.now }
 
     // A setting and a width have one answer.
-    ensures only { (other : Answer) → IsSolved setting.now width other → IfOk result (λ answer. answer ≡ other) }
+    ensures only { WhereGeneral (λ s. (other : Answer) → IsSolved s width other → IfOk result (λ answer. answer ≡ other)) file.now }
 
     // What is claimed is so, over mechanisms of any denominator, with numbers of any size.
-    ensures optimal { IfOk result (WhereOptimal (λ value mechanism bound. IsOptimal setting.now mechanism)) }
-    ensures value { IfOk result (WhereOptimal (λ value mechanism bound. IsValueOf setting.now mechanism value)) }
-    ensures infeasible { IfOk result (WhereInfeasible (λ face. IsInfeasible setting.now)) }
-    ensures unbounded { IfOk result (WhereUnbounded (λ mechanism ray. Grows setting.now mechanism ray)) }
-    ensures admissible { IfOk result (WhereUnbounded (λ mechanism ray. IsAdmissible setting.now mechanism)) }
+    ensures optimal { WhereGeneral (λ s. IfOk result (WhereOptimal (λ value mechanism bound. IsOptimal s mechanism))) file.now }
+    ensures value { WhereGeneral (λ s. IfOk result (WhereOptimal (λ value mechanism bound. IsValueOf s mechanism value))) file.now }
+    ensures infeasible { WhereGeneral (λ s. IfOk result (WhereInfeasible (λ face. IsInfeasible s))) file.now }
+    ensures unbounded { WhereGeneral (λ s. IfOk result (WhereUnbounded (λ mechanism ray. Grows s mechanism ray))) file.now }
+    ensures admissible { WhereGeneral (λ s. IfOk result (WhereUnbounded (λ mechanism ray. IsAdmissible s mechanism))) file.now }
 
     // A mechanism of which nothing is claimed is never the answer.
-    ensures claims { IfOk result (λ answer. ¬ IsMechanismAlone answer) }
+    ensures claims { WhereGeneral (λ s. IfOk result (λ answer. ¬ IsMechanismAlone answer)) file.now }
 
     // Where a path is taken, the claim is that of its end, and it is made wherever it is so.
-    ensures taken { (p : Program) (order : Order) (pivots : List Pivot) (step : Step) → IsProgramOf setting.now p → IsTaken order p width pivots step → IfOk result (ClaimsEnd step) }
-    ensures none { IfOk result (λ answer. ¬ IsTooWide answer → ClaimsInfeasible answer ↔ IsInfeasible setting.now) }
-    ensures no_bound { IfOk result (λ answer. ¬ IsTooWide answer → ClaimsUnbounded answer ↔ HasNoBound setting.now) }
+    ensures taken { WhereGeneral (λ s. (p : Program) (order : Order) (pivots : List Pivot) (step : Step) → IsProgramOf s p → IsTaken order p width pivots step → IfOk result (ClaimsEnd step)) file.now }
+    ensures none { WhereGeneral (λ s. IfOk result (λ answer. ¬ IsTooWide answer → ClaimsInfeasible answer ↔ IsInfeasible s)) file.now }
+    ensures no_bound { WhereGeneral (λ s. IfOk result (λ answer. ¬ IsTooWide answer → ClaimsUnbounded answer ↔ HasNoBound s)) file.now }
 
     // Where a basis of each path is wide, this is told, and nothing else.
-    ensures wide { (p : Program) → IsProgramOf setting.now p → MeetsWideBasis Order.Forward p width → MeetsWideBasis Order.Backward p width → IfOk result IsTooWide }
+    ensures wide { WhereGeneral (λ s. (p : Program) → IsProgramOf s p → MeetsWideBasis Order.Forward p width → MeetsWideBasis Order.Backward p width → IfOk result IsTooWide) file.now }
 
     // In whatever terms the setting's program is written, its paths give this answer, which is a certificate of its claim.
-    ensures every_program { (p : Program) → IsProgramOf setting.now p → IfOk result (IsSolvedBy setting.now p width) }
-    ensures certified { (p : Program) → IsProgramOf setting.now p → IfOk result (IsCertifiedAnswer setting.now p) }
+    ensures every_program { WhereGeneral (λ s. (p : Program) → IsProgramOf s p → IfOk result (IsSolvedBy s p width)) file.now }
+    ensures certified { WhereGeneral (λ s. (p : Program) → IsProgramOf s p → IfOk result (IsCertifiedAnswer s p)) file.now }
 
     // The answer can be written, and what is written is read as the same answer.
-    ensures writable { IfOk result (IsAnswerTo setting.now) }
+    ensures writable { WhereGeneral (λ s. IfOk result (IsAnswerTo s)) file.now }
 {
+    let SettingFile::General(setting) = file else {
+        unreachable!()
+    };
     let _shaped = setting.space();
     let lp = rows_of(alloc, setting)?;
     answer(alloc, setting, &lp, width)

@@ -3,7 +3,7 @@ use super::*;
 use md_answer::write_answer;
 use md_num::Width;
 use md_samples::{sale, unbounded, unmet};
-use md_setting::{RawSetting, Setting};
+use md_setting::{RawSetting, Setting, SettingFile};
 use std::alloc::{AllocError, Global};
 use std::test::Fail;
 
@@ -64,9 +64,10 @@ fn solves_settings(rt: HostRuntime) -> Result<(), Fail> {
         let Ok(setting) = Setting::new(alloc, raw(alloc, *problem)?) else {
             return Err("no setting")?;
         };
+        let file = SettingFile::General(setting);
         let width = Width::new(*bits).ok_or("no width")?;
-        let answer = solve(alloc, &setting, width)?;
-        let written = write_answer(alloc, &setting, &answer)?;
+        let answer = solve(alloc, &file, width)?;
+        let written = write_answer(alloc, &file, &answer)?;
         assert!(rt; written.as_slice() == text.as_bytes(), "at {text}");
     }
     Ok(())

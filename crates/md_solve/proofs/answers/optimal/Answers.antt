@@ -1,6 +1,6 @@
 use Rattle.std.proofs.Common.{arith}
 use Rattle.std.proofs.lemmas.Int.{ints}
-use Rattle.md_answer.specs.AnswerTo.{IsFraction}
+use Rattle.md_parts.specs.Fitting.{IsFraction}
 use Rattle.md_solve.proofs.BoundFits.{bound-fits}
 use Rattle.md_solve.proofs.answers.optimal.Goals as goal
 

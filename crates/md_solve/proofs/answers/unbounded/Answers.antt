@@ -1,5 +1,5 @@
 use Rattle.std.proofs.Common.{sym, subst}
-use Rattle.md_answer.specs.AnswerTo.{IsRayFor}
+use Rattle.md_parts.specs.Fitting.{IsRayFor}
 use Rattle.md_solve.proofs.RayLists.{ray-fits}
 use Rattle.md_solve.proofs.answers.unbounded.Goals as goal
 
