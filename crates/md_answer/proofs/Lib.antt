@@ -1,2 +1,3 @@
-pub mod AnswerRead
 pub mod WrittenAnswers
+pub mod OddsRead
+pub mod OddsSteps

@@ -1,5 +1,6 @@
 //! Reading a whole answer.
 ghost use Rattle.std.specs.Prelude.{◌≡◌, ◌≢◌, Ok, Err, IfOk, MatchResult};
+ghost use Rattle.md_setting.specs.Setting.{GeneralSetting};
 ghost use Rattle.md_setting.specs.ByKind.{IsGeneral, WhereGeneral};
 ghost use Rattle.md_answer.specs.Kinds.{kind_of};
 ghost use Rattle.md_answer.specs.AnswerTo.{IsAnswerTo, HasPlaces};
@@ -21,9 +22,10 @@ fn read_table(
     reader: &mut Reader,
     setting: &Setting,
 ) -> Result<Answer, AnswerRefusal>
-    ensures { MatchResult result
+    ensures reads { MatchResult result
         (λ answer. table_answer setting.now reader.old ≡ Ok (answer, reader.new))
         (λ refusal. refusal ≢ AnswerRefusal.Memory → table_answer setting.now reader.old ≡ Err refusal) }
+    ensures known { IfOk result (λ answer. IsAnswerTo setting.now answer × HasPlaces answer) }
 {
     let mechanism = read_mechanism(alloc, reader, setting)?;
     Ok(Answer::Table(mechanism))
@@ -35,9 +37,10 @@ fn read_optimal(
     reader: &mut Reader,
     setting: &Setting,
 ) -> Result<Answer, AnswerRefusal>
-    ensures { MatchResult result
+    ensures reads { MatchResult result
         (λ answer. optimal_answer setting.now reader.old ≡ Ok (answer, reader.new))
         (λ refusal. refusal ≢ AnswerRefusal.Memory → optimal_answer setting.now reader.old ≡ Err refusal) }
+    ensures known { IfOk result (λ answer. IsAnswerTo setting.now answer × HasPlaces answer) }
 {
     let value = read_value(reader)?;
     let mechanism = read_mechanism(alloc, reader, setting)?;
@@ -55,9 +58,10 @@ fn read_infeasible(
     reader: &mut Reader,
     setting: &Setting,
 ) -> Result<Answer, AnswerRefusal>
-    ensures { MatchResult result
+    ensures reads { MatchResult result
         (λ answer. infeasible_answer setting.now reader.old ≡ Ok (answer, reader.new))
         (λ refusal. refusal ≢ AnswerRefusal.Memory → infeasible_answer setting.now reader.old ≡ Err refusal) }
+    ensures known { IfOk result (λ answer. IsAnswerTo setting.now answer × HasPlaces answer) }
 {
     let face = read_face(alloc, reader, setting.rows())?;
     Ok(Answer::Infeasible { face })
@@ -69,9 +73,10 @@ fn read_unbounded(
     reader: &mut Reader,
     setting: &Setting,
 ) -> Result<Answer, AnswerRefusal>
-    ensures { MatchResult result
+    ensures reads { MatchResult result
         (λ answer. unbounded_answer setting.now reader.old ≡ Ok (answer, reader.new))
         (λ refusal. refusal ≢ AnswerRefusal.Memory → unbounded_answer setting.now reader.old ≡ Err refusal) }
+    ensures known { IfOk result (λ answer. IsAnswerTo setting.now answer × HasPlaces answer) }
 {
     let mechanism = read_mechanism(alloc, reader, setting)?;
     let ray = read_pays(alloc, reader, setting, "ray")?;
@@ -84,9 +89,10 @@ fn read_too_wide(
     reader: &mut Reader,
     version: Version,
 ) -> Result<Answer, AnswerRefusal>
-    ensures { MatchResult result
+    ensures reads { MatchResult result
         (λ answer. too_wide_answer version reader.old ≡ Ok (answer, reader.new))
         (λ refusal. refusal ≢ AnswerRefusal.Memory → too_wide_answer version reader.old ≡ Err refusal) }
+    ensures known { (s : GeneralSetting) → IfOk result (λ answer. IsAnswerTo s answer × HasPlaces answer) }
 {
     let first = read_wide(alloc, reader)?;
     let second = read_second(alloc, reader, version)?;
@@ -104,9 +110,10 @@ fn read_by_kind(
     setting: &Setting,
     head: Head,
 ) -> Result<Answer, AnswerRefusal>
-    ensures { MatchResult result
+    ensures reads { MatchResult result
         (λ answer. answer_by setting.now head.version (kind_of head.word) reader.old ≡ Ok (answer, reader.new))
         (λ refusal. refusal ≢ AnswerRefusal.Memory → answer_by setting.now head.version (kind_of head.word) reader.old ≡ Err refusal) }
+    ensures known { IfOk result (λ answer. IsAnswerTo setting.now answer × HasPlaces answer) }
 {
     match Kind::at(head.word) {
         Kind::Table => read_table(alloc, reader, setting),

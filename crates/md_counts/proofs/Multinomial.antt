@@ -24,7 +24,7 @@ pub factorials_to-positive : (kinds : ℕ) (c : ℕ → ℕ) → 0 < factorials_
 factorials_to-positive kinds c = product_to-positive kinds (λ v. factorial (c v)) (λ v b. factorial-positive (c v))
 
 -- one of v taken away
-factorials-less : (kinds : ℕ) (c : ℕ → ℕ) (v : ℕ) → v < kinds → 0 < c v → factorials_to kinds c ≡ c v * factorials_to kinds (less c v)
+pub factorials-less : (kinds : ℕ) (c : ℕ → ℕ) (v : ℕ) → v < kinds → 0 < c v → factorials_to kinds c ≡ c v * factorials_to kinds (less c v)
 factorials-less kinds c v b p =
     product_to-times kinds v (c v) (λ u. factorial (c u)) (λ u. factorial (less c v u)) b
     (one (c v) p ∙ ap (λ n. c v * factorial n) (sym (less-here c v)))

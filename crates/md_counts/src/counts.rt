@@ -1,7 +1,8 @@
 //! The lists of counts, kept one after another.
 ghost use Rattle.std.specs.Prelude.{◌≡◌, ◌^◌, ◌<◌, ◌≤◌, ◌++◌, length, slice_index, IfOk, Err};
 ghost use Rattle.std.specs.List.{sum};
-ghost use Rattle.md_setting.specs.Auction.{total_weight};
+ghost use Rattle.md_setting.specs.Auction.{total_weight, value_count};
+ghost use Rattle.md_setting.specs.AuctionShaped.{IsAuction};
 ghost use Rattle.md_setting.specs.CountLists.{count_lists};
 ghost use Rattle.md_counts.specs.Counts.{list_count, counts_at, AreFew, AreCounts};
 ghost use Rattle.md_counts.specs.Kept.{table_to};
@@ -11,6 +12,7 @@ use crate::CountsRefusal;
 use crate::ways::Ways;
 use crate::weights::weight_of;
 use md_num::NoMemory;
+use md_setting::Auction;
 use std::alloc::Global;
 use std::marker::Model;
 
@@ -68,6 +70,18 @@ impl Counts {
             ways,
             table,
         })
+    }
+
+    /// The lists of counts of an auction, of which there are never too many.
+    pub fn of(alloc: Global, auction: &Auction) -> Result<Counts, NoMemory>
+        ensures ok { IfOk result (λ counts. counts ≡ record { bidders = auction.now.bidders; kinds = value_count auction.now }) }
+        ensures shaped { IsAuction auction.now }
+    {
+        match Counts::new(alloc, auction.bidders(), auction.kinds()) {
+            Ok(counts) => Ok(counts),
+            Err(CountsRefusal::TooManyCounts) => unreachable!(),
+            Err(CountsRefusal::Memory) => Err(NoMemory),
+        }
     }
 
     /// The number of lists.

@@ -1,10 +1,11 @@
 -- Cuts that are written are read as the same sets.
-use Rattle.std.proofs.Common.{◌≡◌, ◌≢◌, ℕ, zero, suc, ◌+◌, ◌<◌, ◌≤◌, ◌^◌, ℤ, pos, Bool, true, false, not, nat_eq, List, [], ◌∷◌, ◌++◌, map, length, codes, Ok, refl, sym, ap, subst, ◌∙◌, arith, append_assoc, length-append, lit≤}
+use Rattle.std.proofs.Common.{◌≡◌, ◌≢◌, ℕ, zero, suc, ◌+◌, ◌<◌, ◌≤◌, ◌^◌, ℤ, pos, Bool, true, false, not, nat_eq, List, [], ◌∷◌, ◌++◌, map, length, codes, Ok, refl, sym, ap, subst, ◌∙◌, arith, All, append_assoc, length-append, lit≤}
 use Rattle.std.specs.Prelude.{slice_index}
 use Rattle.std.specs.List.{list_any}
 use Rattle.std.proofs.lemmas.Bool.Decides.{nat_tests}
 use Rattle.std.proofs.lemmas.Int.{ints}
 use Rattle.std.proofs.Math.Pow.{pow_mono}
+use Rattle.std.proofs.lemmas.List.Elements.{All-nil, All-cons}
 use Rattle.std.proofs.lemmas.List.{length-map}
 use Rattle.md_num.specs.WholeText.{text_of}
 use Rattle.md_parts.specs.Fields.{is_place, is_free_place, free_place_field}
@@ -91,5 +92,10 @@ cuts-written sets kinds others few h ends =
           repeated-written (codes "cut") (cut_fields kinds) with_cut [] records n others (cuts-hold kinds sets [] sets few h refl) ends
           ∙ ap (λ (k : ℕ). Ok (records, record { read = n + k; left = others })) (sym (length-map records (number_row (codes "cut"))));
     })))
+
+-- no record is empty
+pub cuts-some : (sets : List ℕ) → All (λ (row : List (List ℕ)). 0 < length row) (cut_rows sets)
+cuts-some [] = All-nil (λ (row : List (List ℕ)). 0 < length row)
+cuts-some (set ∷ sets) = All-cons (λ (row : List (List ℕ)). 0 < length row) (cut_row set) (cut_rows sets) (omega arith) (cuts-some sets)
 
 pub ruleset laws = (cuts-written)

@@ -1,4 +1,5 @@
 pub mod FieldSteps
+pub mod AmountSteps
 pub mod RecordSteps
 pub mod FirstSteps
 pub mod TableSteps

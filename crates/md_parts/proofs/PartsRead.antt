@@ -1,5 +1,5 @@
 -- What is known of parts that were read.
-use Rattle.std.proofs.Common.{◌≡◌, ℕ, zero, suc, ◌+◌, ◌<◌, ◌≤◌, ◌^◌, ◌-◌, ℤ, pos, ◌≤ℤ◌, ◌<ℤ◌, Bool, true, false, List, [], ◌∷◌, map, length, get_or, replicate, codes, Option, None, Some, Result, Ok, Err, if◌then◌else◌, int_le, unsigned_abs, refl, sym, ap, subst, arith, All, IfSome, lit≤, lit<}
+use Rattle.std.proofs.Common.{◌≡◌, ℕ, zero, suc, ◌+◌, ◌<◌, ◌≤◌, ◌^◌, ◌-◌, ℤ, pos, ◌≤ℤ◌, ◌<ℤ◌, Bool, true, false, List, [], ◌∷◌, map, length, get_or, replicate, codes, Option, None, Some, Result, Ok, Err, if◌then◌else◌, int_le, unsigned_abs, refl, sym, ap, subst, arith, All, IfSome, IfOk, MatchResult, lit≤, lit<}
 use Rattle.std.proofs.lemmas.Int.{ints}
 use Rattle.std.proofs.lemmas.List.{length-replicate}
 use Rattle.std.proofs.lemmas.List.Elements.{All-nil, All-cons, All-head, All-tail}
@@ -21,13 +21,13 @@ use Rattle.md_parts.specs.declared.version.Version.TheVariants.{One, Two}
 use Rattle.md_parts.specs.Fields.{Field, numbers_of, number_field, any_number, denominator_field, wide_number, wide_denominator, is_place, table_place}
 use Rattle.md_parts.specs.Reading.{Rest, then_read, read_record}
 use Rattle.md_parts.specs.Repeated.{has_word, repeated_in, repeated}
-use Rattle.md_parts.specs.Table.{ray_of, value_of}
+use Rattle.md_parts.specs.Table.{all_payments_of, ray_of, value_of}
 use Rattle.md_parts.specs.Multipliers.{row_fields, after_row, record_of, number_in, number_for, numbers_for, row_records, bound_denominator, bound_of, face_of}
 use Rattle.md_parts.specs.Path.{pivot_fields, no_change, pivot_of, path_of, entry_of, wide_of, second_of}
 use Rattle.md_parts.specs.Fitting.{IsFraction, AreMultipliers, IsBoundOver, IsRayFor, HasFraction, IsTablePlace, HasWidePlaces}
 use Rattle.md_parts.proofs.NumbersRead.{IsInField, number_field-is, numbers-first, record-was_read}
 use Rattle.md_parts.proofs.Blocks.{in_two}
-use Rattle.md_parts.proofs.MechanismRead.{pays-known}
+use Rattle.md_parts.proofs.MechanismRead.{mechanism-accepted, pays-known}
 
 -- ---- a field of a record that was read
 
@@ -194,8 +194,11 @@ bound-known rows rest after bound h =
 
 -- ---- rays and paths
 
+pub paid-known : (word : List ℕ) (s : GeneralSetting) (rest after : Rest) (pays : List ℤ) → all_payments_of word s s.payments rest ≡ Ok (pays, after) → IsRayFor s pays
+paid-known word s rest after pays h = let p = pays-known word s s.payments rest after pays refl h in record { one_each = p.long; sizes = p.small; off = p.off }
+
 pub ray-known : (s : GeneralSetting) (rest after : Rest) (ray : List ℤ) → ray_of s rest ≡ Ok (ray, after) → IsRayFor s ray
-ray-known s rest after ray h = let p = pays-known (codes "ray") s s.payments rest after ray refl h in record { one_each = p.long; sizes = p.small; off = p.off }
+ray-known s rest after ray h = paid-known (codes "ray") s rest after ray h
 
 abbrev IsPlaced : Pivot → Type 0
 IsPlaced p = IsTablePlace p.row p.column
@@ -236,3 +239,10 @@ second-known Two rest after second h =
     let some : Option Wide = Some wide.one in
     let pair : (some, wide.mid) ≡ (second, after) = cc in
     subst (λ (o : Option Wide). IfSome o HasFraction × IfSome o HasWidePlaces) (ap (λ (p : Option Wide × Rest). p.0) pair) (wide-known again.mid wide.mid wide.one wide.first_is)
+
+-- what is known of a value that was read is known of the value of a call that says so
+pub known-of : {X Y : Type 0} (r : Result X Y) (P : X → Type 0) (Q : Y → Type 0) (R : X → Type 0) → MatchResult r P Q → ((x : X) → P x → R x) → IfOk r R
+known-of {X} {Y} (Ok x) P Q R h f = f x h
+known-of {X} {Y} (Err y) P Q R h f = tt
+
+pub ruleset known = (value-known, face-known, bound-known, paid-known, path-known, entry-known, wide-known, second-known, mechanism-accepted)

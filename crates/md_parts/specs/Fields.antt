@@ -1,5 +1,5 @@
 -- What stands in the fields of a record after its word.
-use Rattle.std.specs.Prelude.{ℕ, ◌+◌, ◌^◌, ℤ, pos, Bool, true, not, ◌&&◌, nat_eq, unsigned_abs, List, [], ◌∷◌, Option, None, Some, Result, Ok, Err, int_le, int_lt, if◌then◌else◌}
+use Rattle.std.specs.Prelude.{ℕ, ◌+◌, ◌^◌, ℤ, pos, Bool, true, not, ◌&&◌, nat_eq, nat_le, unsigned_abs, List, [], ◌∷◌, Option, None, Some, Result, Ok, Err, int_le, int_lt, if◌then◌else◌}
 use Rattle.std.specs.List.{list_any}
 use Rattle.std.specs.Str.{bytes_eq}
 use Rattle.md_num.specs.WholeText.{whole_of}
@@ -35,6 +35,13 @@ wide_number = number_field 126 (λ _. true)
 
 abbrev pub wide_denominator : Field
 wide_denominator = number_field 126 (int_le (pos 1))
+
+-- an amount: a number from 0 on and at most another
+abbrev pub is_amount : ℕ → ℤ → Bool
+is_amount most number = int_le (pos 0) number && nat_le (unsigned_abs number) most
+
+abbrev pub amount_field : ℕ → Field
+amount_field most = number_field 126 (is_amount most)
 
 -- a number is one of the places from one on and below another
 abbrev pub is_place : ℕ → ℕ → ℤ → Bool

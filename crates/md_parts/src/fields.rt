@@ -1,8 +1,8 @@
 //! The fields of one record.
-ghost use Rattle.std.specs.Prelude.{◌≡◌, ◌≢◌, ◌<◌, ◌≤◌, ◌+◌, ◌∷◌, [], ℕ, pos, List, drop, length, ℤ, ◌+ℤ◌, ◌^◌, ◌++◌, replicate, unsigned_abs, MatchResult, MatchOption, option_map, map, IfSome, IfOk, Ok, Err, true, IsTrue};
+ghost use Rattle.std.specs.Prelude.{◌≡◌, ◌≢◌, ◌<◌, ◌≤◌, ◌+◌, ◌∷◌, [], ℕ, pos, List, drop, length, ℤ, ◌+ℤ◌, ◌^◌, ◌++◌, replicate, unsigned_abs, MatchResult, MatchOption, option_map, map, min, IfSome, IfOk, Ok, Err, true, IsTrue};
 ghost use Rattle.md_math.specs.Sums.{total};
 ghost use Rattle.md_num.specs.Limits.{limit_of};
-ghost use Rattle.md_parts.specs.Fields.{word_field, place_field, is_free_place, free_place_field, table_place};
+ghost use Rattle.md_parts.specs.Fields.{word_field, place_field, is_amount, amount_field, is_free_place, free_place_field, table_place};
 ghost use Rattle.md_parts.specs.Records.{fields_after_word};
 ghost use Rattle.md_parts.specs.Versions.{version_field, version_number};
 ghost use Rattle.md_parts.specs.Ranges.{ranged_field, in_range};
@@ -80,6 +80,9 @@ impl Fields {
     }
 
     /// The next field must be a word or name.
+    ///
+    /// # Errors
+    /// The field is something else.
     #[tactic(auto, using(crate::proofs::FieldSteps::field_steps))]
     pub fn word(&mut self, text: &str) -> Result<(), AnswerRefusal>
         requires { 0 < length self.old.texts }
@@ -95,6 +98,9 @@ impl Fields {
     }
 
     /// The next field must be a version of the format.
+    ///
+    /// # Errors
+    /// The field is no version.
     #[tactic(auto, using(crate::proofs::FieldSteps::field_steps))]
     pub fn version(&mut self) -> Result<Version, AnswerRefusal>
         requires { 0 < length self.old.texts }
@@ -133,6 +139,9 @@ impl Fields {
     }
 
     /// The next field must be a number of at most so many bits in a range.
+    ///
+    /// # Errors
+    /// The field is no such number.
     #[tactic(auto, using(crate::proofs::FieldSteps::field_steps))]
     pub fn number(&mut self, bits: u8, range: Range) -> Result<i128, AnswerRefusal>
         requires some { 0 < length self.old.texts }
@@ -153,6 +162,9 @@ impl Fields {
     }
 
     /// The next field must be a place from one on and below another.
+    ///
+    /// # Errors
+    /// The field is no such number.
     pub fn place(&mut self, from: u64, below: u64) -> Result<u64, AnswerRefusal>
         requires { 0 < length self.old.texts }
         ensures read { MatchResult result
@@ -186,6 +198,9 @@ impl Fields {
     }
 
     /// The next two fields must be the row and the column of a place of a table.
+    ///
+    /// # Errors
+    /// The first of the two that is no such number.
     pub fn table_place(&mut self) -> Result<(u32, u32), AnswerRefusal>
         requires { 2 ≤ length self.old.texts }
         ensures { MatchResult result
@@ -198,6 +213,9 @@ impl Fields {
     }
 
     /// The next two fields must be numbers of at most so many bits, each in its range.
+    ///
+    /// # Errors
+    /// The first of the two that is no such number.
     pub fn pair(
         &mut self,
         bits: u8,
@@ -216,6 +234,9 @@ impl Fields {
     }
 
     /// The next fields must be so many numbers in a range, which are added to a list. Answers what they add to.
+    ///
+    /// # Errors
+    /// The first field that is no such number, or want of memory.
     pub fn numbers(
         &mut self,
         count: usize,
@@ -236,6 +257,71 @@ impl Fields {
         }
         Ok(sum)
     }
+
+    /// The next field must be an amount: a number from 0 on and at most another.
+    ///
+    /// # Errors
+    /// The field is no such number.
+    #[tactic(auto, using(crate::proofs::FieldSteps::field_steps))]
+    pub fn amount(&mut self, most: u128) -> Result<i128, AnswerRefusal>
+        requires { 0 < length self.old.texts }
+        ensures read { MatchResult result
+            (λ number. Reads (amount_field most ∷ []) self.old self.new (number ∷ []))
+            (λ refusal. FailsIn (amount_field most ∷ []) self.old refusal) }
+        ensures range { IfOk result (λ number. is_amount most number ≡ true) }
+        ensures size { IfOk result (λ number. unsigned_abs number ≤ limit_of 126) }
+    {
+        match read_whole(self.text(), 126) {
+            Ok(number) if is_amount(number, most) => {
+                self.step();
+                Ok(number)
+            }
+            _ => Err(self.refusal()),
+        }
+    }
+
+    /// The next fields must be amounts, each with a number that it is at most; they are added to a list. Answers what
+    /// they add to, but one more than a limit where that is more than the limit.
+    ///
+    /// # Errors
+    /// The first field that is no such amount, or want of memory.
+    pub fn amounts(
+        &mut self,
+        mosts: &[u128],
+        limit: u128,
+        to: &mut Nums,
+    ) -> Result<u128, AnswerRefusal>
+        requires some { length mosts.now ≤ length self.old.texts }
+        requires limit { limit < 2 ^ 126 }
+        ensures { MatchResult result
+            (λ sum. (numbers : List ℤ) × Reads (map amount_field mosts.now) self.old self.new numbers × (to.new ≡ to.old ++ numbers) × (sum ≡ min (unsigned_abs (total numbers)) (limit + 1)))
+            (λ refusal. refusal ≢ AnswerRefusal.Memory → FailsIn (map amount_field mosts.now) self.old refusal) }
+    {
+        let mut sum = 0;
+        for most in mosts {
+            let number = self.amount(*most)?;
+            to.push(number)?;
+            sum = capped(sum, number.unsigned_abs(), limit);
+        }
+        Ok(sum)
+    }
+}
+
+// Whether a number is from 0 on and at most another.
+fn is_amount(number: i128, most: u128) -> bool
+    ensures { result ≡ is_amount most number }
+{
+    0 <= number && number.unsigned_abs() <= most
+}
+
+// A sum with one amount more, but one more than a limit where that is more than the limit.
+fn capped(sum: u128, more: u128, limit: u128) -> u128
+    requires sum { sum ≤ limit + 1 }
+    requires more { more ≤ limit_of 126 }
+    requires limit { limit < 2 ^ 126 }
+    ensures { result ≡ min (sum + more) (limit + 1) }
+{
+    (sum + more).min(limit + 1)
 }
 
 // Whether a number is a place from one on and below another, and none of those that are taken.

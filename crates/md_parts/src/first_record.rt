@@ -50,6 +50,9 @@ fn stand(
 
 /// The first record: the version of the format, the kind of what the file is about, and one of some words, which says
 /// which answer it is. In the second version only the word `toowide` stands.
+///
+/// # Errors
+/// The first record that may not stand there or has a wrong field, or want of memory.
 pub fn read_first(reader: &mut Reader, kind: &str, words: &[&str]) -> Result<Head, AnswerRefusal>
     ensures read { MatchResult result
         (λ head. first_of kind.now (map (λ w. w.now) words.now) reader.old ≡ Ok (head, reader.new))
@@ -64,6 +67,9 @@ pub fn read_first(reader: &mut Reader, kind: &str, words: &[&str]) -> Result<Hea
 }
 
 /// Adds the first record.
+///
+/// # Errors
+/// Want of memory.
 #[tactic(auto, using(crate::proofs::WrittenParts::laws))]
 pub fn push_first(
     alloc: Global,

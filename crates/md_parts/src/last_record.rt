@@ -12,6 +12,9 @@ use md_records::Row;
 use std::alloc::Global;
 
 /// The end, after which nothing follows.
+///
+/// # Errors
+/// The first record that may not stand there or has a wrong field, or want of memory.
 pub fn read_last(reader: &mut Reader) -> Result<(), AnswerRefusal>
     ensures { MatchResult result
         (λ _. read_end reader.old ≡ Ok (tt, reader.new))
@@ -22,6 +25,9 @@ pub fn read_last(reader: &mut Reader) -> Result<(), AnswerRefusal>
 }
 
 /// Adds the end.
+///
+/// # Errors
+/// Want of memory.
 #[tactic(auto, using(crate::proofs::WrittenParts::laws))]
 pub fn push_end(alloc: Global, to: &mut Vec<Row>) -> Result<(), NoMemory>
     ensures rows { OnOk result (to.new.items ≡ to.old.items ++ end_row ∷ []) }

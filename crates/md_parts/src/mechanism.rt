@@ -124,15 +124,20 @@ fn zeros(alloc: Global, count: usize) -> Result<Nums, AnswerRefusal>
 }
 
 /// What is paid at all profiles, in records that begin with a word and stand exactly where payments are on.
+///
+/// # Errors
+/// The first record that may not stand there or has a wrong field, or want of memory.
+#[tactic(auto, using(crate::proofs::PartsRead::known))]
 pub fn read_pays(
     alloc: Global,
     reader: &mut Reader,
     setting: &Setting,
     word: &str,
 ) -> Result<Nums, AnswerRefusal>
-    ensures { MatchResult result
+    ensures read { MatchResult result
         (λ pays. all_payments_of word.now setting.now (setting.now).payments reader.old ≡ Ok (pays, reader.new))
         (λ refusal. refusal ≢ AnswerRefusal.Memory → all_payments_of word.now setting.now (setting.now).payments reader.old ≡ Err refusal) }
+    ensures sizes { IfOk result (IsRayFor setting.now) }
 {
     if setting.payments() {
         return read_all_payments(alloc, reader, setting, word);
@@ -142,14 +147,19 @@ pub fn read_pays(
 }
 
 /// The records of a mechanism.
+///
+/// # Errors
+/// The first record that may not stand there or has a wrong field, or want of memory.
+#[tactic(auto, using(crate::proofs::PartsRead::known))]
 pub fn read_mechanism(
     alloc: Global,
     reader: &mut Reader,
     setting: &Setting,
 ) -> Result<Mechanism, AnswerRefusal>
-    ensures { MatchResult result
+    ensures read { MatchResult result
         (λ mechanism. mechanism_of setting.now reader.old ≡ Ok (mechanism, reader.new))
         (λ refusal. refusal ≢ AnswerRefusal.Memory → mechanism_of setting.now reader.old ≡ Err refusal) }
+    ensures accepted { IfOk result (IsAccepted setting.now) }
 {
     let den = read_denominator(reader)?;
     let chances = read_chances(alloc, reader, setting, den)?;
@@ -158,6 +168,9 @@ pub fn read_mechanism(
 }
 
 /// Adds the numbers of the agents at each profile, where payments are on.
+///
+/// # Errors
+/// Want of memory.
 #[tactic(auto, using(crate::proofs::WrittenParts::laws))]
 pub fn push_pays(
     alloc: Global,
@@ -177,6 +190,9 @@ pub fn push_pays(
 }
 
 /// Adds the records of a mechanism.
+///
+/// # Errors
+/// Want of memory.
 #[tactic(auto, using(crate::proofs::WrittenParts::laws))]
 pub fn push_mechanism(
     alloc: Global,

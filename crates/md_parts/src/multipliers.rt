@@ -118,10 +118,15 @@ fn read_rows(
 }
 
 /// The face multipliers alone.
+///
+/// # Errors
+/// The first record that may not stand there or has a wrong field, or want of memory.
+#[tactic(auto, using(crate::proofs::PartsRead::known))]
 pub fn read_face(alloc: Global, reader: &mut Reader, rows: u32) -> Result<Nums, AnswerRefusal>
-    ensures { MatchResult result
+    ensures read { MatchResult result
         (λ face. face_of rows reader.old ≡ Ok (face, reader.new))
         (λ refusal. refusal ≢ AnswerRefusal.Memory → face_of rows reader.old ≡ Err refusal) }
+    ensures sizes { IfOk result (AreMultipliers rows) }
 {
     let Multipliers { face, main: _ } = read_rows(alloc, reader, rows, 1)?;
     Ok(face)
@@ -138,10 +143,15 @@ fn read_bound_denominator(reader: &mut Reader) -> Result<i128, AnswerRefusal>
 }
 
 /// Both kinds of multipliers.
+///
+/// # Errors
+/// The first record that may not stand there or has a wrong field, or want of memory.
+#[tactic(auto, using(crate::proofs::PartsRead::known))]
 pub fn read_bound(alloc: Global, reader: &mut Reader, rows: u32) -> Result<Bound, AnswerRefusal>
-    ensures { MatchResult result
+    ensures read { MatchResult result
         (λ bound. bound_of rows reader.old ≡ Ok (bound, reader.new))
         (λ refusal. refusal ≢ AnswerRefusal.Memory → bound_of rows reader.old ≡ Err refusal) }
+    ensures sizes { IfOk result (IsBoundOver rows) }
 {
     let den = read_bound_denominator(reader)?;
     let Multipliers { face, main } = read_rows(alloc, reader, rows, 2)?;
@@ -173,6 +183,9 @@ pub(crate) fn push_row(
 }
 
 /// Adds the records of face multipliers alone.
+///
+/// # Errors
+/// Want of memory.
 #[tactic(auto, using(crate::proofs::WrittenParts::laws))]
 pub fn push_face(alloc: Global, to: &mut Vec<Row>, rows: u32, face: &Nums) -> Result<(), NoMemory>
     requires { AreMultipliers rows face.now }
@@ -186,6 +199,9 @@ pub fn push_face(alloc: Global, to: &mut Vec<Row>, rows: u32, face: &Nums) -> Re
 }
 
 /// Adds the records of both kinds of multipliers.
+///
+/// # Errors
+/// Want of memory.
 #[tactic(auto, using(crate::proofs::WrittenParts::laws))]
 pub fn push_bound(
     alloc: Global,

@@ -22,6 +22,9 @@ pub(crate) fn with_numbers(row: Row, numbers: &[i128]) -> Result<Row, NoMemory>
 }
 
 /// Adds a record of numbers after a word.
+///
+/// # Errors
+/// Want of memory.
 #[tactic(auto, using(crate::proofs::WrittenParts::laws))]
 pub fn push_numbers(
     alloc: Global,

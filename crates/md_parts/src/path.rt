@@ -1,5 +1,5 @@
 //! The records of paths of pivots, each with an entry that is too wide at its end, read and written.
-ghost use Rattle.std.specs.Prelude.{◌≡◌, ◌≢◌, ◌++◌, ◌∷◌, ℕ, pos, List, [], false, map, Ok, Err, codes, IfSome, OnOk, MatchResult, All};
+ghost use Rattle.std.specs.Prelude.{◌≡◌, ◌≢◌, ◌++◌, ◌∷◌, ℕ, pos, List, [], false, map, Ok, Err, codes, IfSome, IfOk, OnOk, MatchResult, All};
 ghost use Rattle.md_parts.specs.Reading.{read_record};
 ghost use Rattle.md_parts.specs.Repeated.{comes_next};
 ghost use Rattle.md_parts.specs.Path.{pivot_fields, path_of, entry_of, wide_of, second_of, version_with};
@@ -29,10 +29,15 @@ fn read_pivot(reader: &mut Reader) -> Result<Pivot, AnswerRefusal>
 }
 
 /// The records of pivots, as many as there are.
+///
+/// # Errors
+/// The first record that may not stand there or has a wrong field, or want of memory.
+#[tactic(auto, using(crate::proofs::PartsRead::known))]
 pub fn read_path(alloc: Global, reader: &mut Reader) -> Result<Path, AnswerRefusal>
-    ensures { MatchResult result
+    ensures read { MatchResult result
         (λ path. path_of reader.old ≡ Ok (path, reader.new))
         (λ refusal. refusal ≢ AnswerRefusal.Memory → path_of reader.old ≡ Err refusal) }
+    ensures places { IfOk result (All (λ pivot. IsTablePlace pivot.row pivot.column)) }
 {
     let mut path = Path::new(alloc);
     while reader.comes_next("pivot") {
@@ -43,10 +48,15 @@ pub fn read_path(alloc: Global, reader: &mut Reader) -> Result<Path, AnswerRefus
 }
 
 /// The record of an entry with its place and its denominator.
+///
+/// # Errors
+/// The first record that may not stand there or has a wrong field, or want of memory.
+#[tactic(auto, using(crate::proofs::PartsRead::known))]
 pub fn read_entry(reader: &mut Reader) -> Result<Entry, AnswerRefusal>
-    ensures { MatchResult result
+    ensures read { MatchResult result
         (λ entry. entry_of reader.old ≡ Ok (entry, reader.new))
         (λ refusal. refusal ≢ AnswerRefusal.Memory → entry_of reader.old ≡ Err refusal) }
+    ensures known { IfOk result (λ entry. IsFraction entry.num entry.den × IsTablePlace entry.row entry.column) }
 {
     let mut fields = reader.next("wide", 4)?;
     let (row, column) = fields.table_place()?;
@@ -60,10 +70,15 @@ pub fn read_entry(reader: &mut Reader) -> Result<Entry, AnswerRefusal>
 }
 
 /// The records of a path, and of the entry at its end.
+///
+/// # Errors
+/// The first record that may not stand there or has a wrong field, or want of memory.
+#[tactic(auto, using(crate::proofs::PartsRead::known))]
 pub fn read_wide(alloc: Global, reader: &mut Reader) -> Result<Wide, AnswerRefusal>
-    ensures { MatchResult result
+    ensures read { MatchResult result
         (λ wide. wide_of reader.old ≡ Ok (wide, reader.new))
         (λ refusal. refusal ≢ AnswerRefusal.Memory → wide_of reader.old ≡ Err refusal) }
+    ensures known { IfOk result (λ wide. HasFraction wide × HasWidePlaces wide) }
 {
     let path = read_path(alloc, reader)?;
     let entry = read_entry(reader)?;
@@ -71,14 +86,19 @@ pub fn read_wide(alloc: Global, reader: &mut Reader) -> Result<Wide, AnswerRefus
 }
 
 /// The part about the second path, which stands in the second version.
+///
+/// # Errors
+/// The first record that may not stand there or has a wrong field, or want of memory.
+#[tactic(auto, using(crate::proofs::PartsRead::known))]
 pub fn read_second(
     alloc: Global,
     reader: &mut Reader,
     version: Version,
 ) -> Result<Option<Wide>, AnswerRefusal>
-    ensures { MatchResult result
+    ensures read { MatchResult result
         (λ second. second_of version reader.old ≡ Ok (second, reader.new))
         (λ refusal. refusal ≢ AnswerRefusal.Memory → second_of version reader.old ≡ Err refusal) }
+    ensures known { IfOk result (λ second. IfSome second HasFraction × IfSome second HasWidePlaces) }
 {
     match version {
         Version::One => Ok(None),
@@ -91,6 +111,9 @@ pub fn read_second(
 }
 
 /// Adds the records of pivots.
+///
+/// # Errors
+/// Want of memory.
 #[tactic(auto, using(crate::proofs::WrittenParts::laws))]
 pub fn push_path(alloc: Global, to: &mut Vec<Row>, path: &Path) -> Result<(), NoMemory>
     ensures rows { OnOk result (to.new.items ≡ to.old.items ++ map pivot_row path.now) }
@@ -105,6 +128,9 @@ pub fn push_path(alloc: Global, to: &mut Vec<Row>, path: &Path) -> Result<(), No
 }
 
 /// Adds the record of an entry.
+///
+/// # Errors
+/// Want of memory.
 #[tactic(auto, using(crate::proofs::WrittenParts::laws))]
 pub fn push_entry(alloc: Global, to: &mut Vec<Row>, entry: &Entry) -> Result<(), NoMemory>
     ensures rows { OnOk result (to.new.items ≡ to.old.items ++ entry_row entry.now ∷ []) }
@@ -126,6 +152,9 @@ pub fn push_entry(alloc: Global, to: &mut Vec<Row>, entry: &Entry) -> Result<(),
 }
 
 /// Adds the records of a path, and of the entry at its end.
+///
+/// # Errors
+/// Want of memory.
 #[tactic(auto, using(crate::proofs::WrittenParts::laws))]
 pub fn push_wide(alloc: Global, to: &mut Vec<Row>, wide: &Wide) -> Result<(), NoMemory>
     ensures rows { OnOk result (to.new.items ≡ to.old.items ++ wide_rows wide.now) }
@@ -137,6 +166,9 @@ pub fn push_wide(alloc: Global, to: &mut Vec<Row>, wide: &Wide) -> Result<(), No
 }
 
 /// Adds the part about the second path, where there is one.
+///
+/// # Errors
+/// Want of memory.
 #[tactic(auto, using(crate::proofs::WrittenParts::laws))]
 pub fn push_second(alloc: Global, to: &mut Vec<Row>, second: &Option<Wide>) -> Result<(), NoMemory>
     ensures rows { OnOk result (to.new.items ≡ to.old.items ++ second_rows second.now) }

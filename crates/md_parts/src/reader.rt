@@ -33,6 +33,9 @@ impl<'a> Model for Reader<'a> {
     ghost invariant = { λ r. r.read + length (with_next r.next r.others) < 2 ^ 64 };
 }
 
+///
+/// # Errors
+/// Want of memory.
 impl<'a> Reader<'a> {
     /// All records of a file.
     pub fn new(alloc: Global, bytes: &'a [u8]) -> Result<Reader<'a>, AnswerRefusal>
@@ -75,6 +78,9 @@ impl<'a> Reader<'a> {
     }
 
     /// The next record, which must begin with a word and have so many fields after it.
+    ///
+    /// # Errors
+    /// No record is left, the next one is another or has another number of fields, or want of memory.
     pub fn next(&mut self, word: &str, count: usize) -> Result<Fields, AnswerRefusal>
         ensures { MatchResult result
             (λ fields. record_with word.now count self.old ≡ Ok (fields, self.new))
@@ -89,6 +95,9 @@ impl<'a> Reader<'a> {
     }
 
     /// No record may be left.
+    ///
+    /// # Errors
+    /// A record is left.
     pub fn end(&self) -> Result<(), AnswerRefusal>
         ensures { MatchResult result
             (λ _. nothing_left self.now ≡ Ok (tt, self.now))
@@ -107,7 +116,26 @@ impl<'a> Reader<'a> {
         AnswerRefusal::Cell(self.read, field)
     }
 
+    /// The amounts of the record that was read last may add to so much at most.
+    ///
+    /// # Errors
+    /// They add to more.
+    pub fn adds_at_most(&self, sum: u128, most: u128) -> Result<(), AnswerRefusal>
+        ensures { MatchResult result
+            (λ _. sum ≤ most)
+            (λ refusal. (most < sum) × (refusal ≡ AnswerRefusal.Sum self.now.read)) }
+    {
+        if sum <= most {
+            Ok(())
+        } else {
+            Err(AnswerRefusal::Sum(self.read))
+        }
+    }
+
     /// The numbers of the record that was read last must add to what they should.
+    ///
+    /// # Errors
+    /// They add to something else.
     pub fn adds(&self, sum: i128, wanted: i128) -> Result<(), AnswerRefusal>
         ensures { MatchResult result
             (λ _. int_eq sum wanted ≡ true)

@@ -1,5 +1,7 @@
+pub mod Files
 pub mod Headlines
 pub mod Limits
 pub mod Outcomes
+pub mod Works
 pub mod Promises
 pub mod VerdictRows

@@ -6,15 +6,22 @@ use Rattle.std.specs.Option.{ForSome}
 use Rattle.std.proofs.lemmas.Bool.Decides.{nat_tests, eqb_tells, leb_tells}
 use Rattle.md_ports.specs.Faults.{Rose}
 use Rattle.md_words.specs.Commands.{command_in}
-use Rattle.md_words.specs.Words.{Order, audit, rows, check, solve, replay, command_of}
+use Rattle.md_words.specs.Words.{Order, command_of}
+use Rattle.md_words.specs.declared.command.Command.{Command}
+use Rattle.md_words.specs.declared.command.Command.TheVariants.{Audit, Rows, Check, Solve, Replay, Realise}
 use Rattle.md_setting.specs.Setting.{GeneralSetting}
+use Rattle.md_setting.specs.ByKind.{WhereGeneral}
+use Rattle.md_setting.specs.declared.file.SettingFile.{SettingFile}
+use Rattle.md_setting.specs.declared.file.SettingFile.TheVariants.{General, Auction}
 use Rattle.md_top.specs.declared.refusal.Refusal.{Refusal}
 use Rattle.md_top.specs.declared.refusal.Refusal.TheVariants as refusal
 use Rattle.md_top.specs.Headline.{IsHeadline}
-use Rattle.md_top.specs.Promises.{IsComplete, IsFaultless, IsHeadlineOf, IsPrinted, IsReplied}
+use Rattle.md_top.specs.Promises.{IsComplete, IsFaultless, IsHeadlineBy, IsHeadlineOf, IsPrinted, IsReplied}
 use Rattle.md_top.specs.Refused.{refused, status_of}
-use Rattle.md_top.specs.Reply.{IsOfOne, IsReply, IsSaid, IsSaidBy, IsSaidOfOrder, setting_in}
-use Rattle.md_top.specs.Solving.{IsSolving}
+use Rattle.md_top.specs.Reading.{is_general, setting_in}
+use Rattle.md_top.specs.Reply.{IsReply, IsSaid, IsSaidBy, IsSaidOfOrder}
+use Rattle.md_top.specs.Works.{IsSaidOf}
+use Rattle.md_top.specs.Solving.{IsSolve, IsSolving}
 use Rattle.md_top.specs.Saying.{IsDelivered, IsSent, Saying, SinkChange, is_answer, write_fault}
 
 below_test : (status : ℕ) → status < 64 → nat_lt status 64 ≡ true
@@ -75,34 +82,38 @@ module _ (width : ℕ) (saying : Saying) (status : ℕ) (out err : SinkChange) (
       (λ high. absurd (⊎_elim (λ same. omega (arith, same, low, high.1)) (λ part. omega (arith, part.0, low)) (status-of saying status out err delivered)))
       (answer_or_not saying)
 
-  shown : (r : Result GeneralSetting Refusal) → IsOfOne (λ s. IsSolving s width) r saying
-      → MatchResult r (λ s. status < 64 → ForSome out.before (λ old. ForSome out.after (λ new. IsPrinted s width status old new))) (λ e. 64 ≤ status)
-  shown (Ok s) h = printed s h
+  shown : (r : Result SettingFile Refusal) → IsSaidOf (IsSolve width) r saying
+      → MatchResult r (WhereGeneral (λ s. status < 64 → ForSome out.before (λ old. ForSome out.after (λ new. IsPrinted s width status old new)))) (λ e. 64 ≤ status)
+  shown (Ok (General s)) h = printed s h
+  shown (Ok (Auction a)) h = tt
   shown (Err e) h = refused-above e saying status out err h delivered
 
   -- where a refusal was told, nothing was printed
-  not_shown : (r : Result GeneralSetting Refusal) → 64 ≤ status
-      → MatchResult r (λ s. status < 64 → ForSome out.before (λ old. ForSome out.after (λ new. IsPrinted s width status old new))) (λ e. 64 ≤ status)
-  not_shown (Ok s) high = λ low. absurd (omega (arith, high, low))
+  not_shown : (r : Result SettingFile Refusal) → 64 ≤ status
+      → MatchResult r (WhereGeneral (λ s. status < 64 → ForSome out.before (λ old. ForSome out.after (λ new. IsPrinted s width status old new)))) (λ e. 64 ≤ status)
+  not_shown (Ok (General s)) high = λ low. absurd (omega (arith, high, low))
+  not_shown (Ok (Auction a)) high = tt
   not_shown (Err e) high = high
 
-headline-of_order : (order : Order) (content : List ℕ → Option (List ℕ)) (before after : List ℕ → ℕ) (saying : Saying) (status : ℕ) (out err : SinkChange)
-    → IsSaidOfOrder order content before after saying → IsDelivered saying status out err → IsHeadlineOf (Some order) content status out
-headline-of_order (audit setting answer) content before after saying status out err said delivered = tt
-headline-of_order (rows setting) content before after saying status out err said delivered = tt
-headline-of_order (check setting answer) content before after saying status out err said delivered = tt
-headline-of_order (solve setting width) content before after saying status out err (inl reply) delivered =
-    λ bytes told. shown width saying status out err delivered (setting_in bytes) (reply.0.said_of bytes told)
-headline-of_order (solve setting width) content before after saying status out err (inr (inl fault)) delivered =
-    λ bytes told. not_shown width saying status out err delivered (setting_in bytes) (refused-above refusal.ReadFault saying status out err fault.0 delivered)
-headline-of_order (solve setting width) content before after saying status out err (inr (inr memory)) delivered =
-    λ bytes told. not_shown width saying status out err delivered (setting_in bytes) (refused-above refusal.Memory saying status out err memory.0 delivered)
-headline-of_order (replay setting pivots width) content before after saying status out err said delivered = tt
+headline-of_command : (command : Command) (setting second : List ℕ) (width : ℕ) (content : List ℕ → Option (List ℕ)) (before after : List ℕ → ℕ) (saying : Saying) (status : ℕ) (out err : SinkChange)
+    → IsSaidOfOrder record { command = command; setting = setting; second = second; width = width } content before after saying → IsDelivered saying status out err
+    → IsHeadlineBy command setting width content status out
+headline-of_command Audit setting second width content before after saying status out err said delivered = tt
+headline-of_command Rows setting second width content before after saying status out err said delivered = tt
+headline-of_command Check setting second width content before after saying status out err said delivered = tt
+headline-of_command Solve setting second width content before after saying status out err (inl reply) delivered =
+    λ bytes told. shown width saying status out err delivered (setting_in is_general bytes) (reply.0.said_of bytes told)
+headline-of_command Solve setting second width content before after saying status out err (inr (inl fault)) delivered =
+    λ bytes told. not_shown width saying status out err delivered (setting_in is_general bytes) (refused-above refusal.ReadFault saying status out err fault.0 delivered)
+headline-of_command Solve setting second width content before after saying status out err (inr (inr memory)) delivered =
+    λ bytes told. not_shown width saying status out err delivered (setting_in is_general bytes) (refused-above refusal.Memory saying status out err memory.0 delivered)
+headline-of_command Replay setting second width content before after saying status out err said delivered = tt
+headline-of_command Realise setting second width content before after saying status out err said delivered = tt
 
 headline-by : {A : Type 0} (named : Option A) (order : Option Order) (content : List ℕ → Option (List ℕ)) (before after : List ℕ → ℕ) (saying : Saying) (status : ℕ) (out err : SinkChange)
     → IsSaidBy named order content before after saying → IsDelivered saying status out err → IsHeadlineOf order content status out
 headline-by named None content before after saying status out err said delivered = tt
-headline-by named (Some order) content before after saying status out err said delivered = headline-of_order order content before after saying status out err said delivered
+headline-by named (Some order) content before after saying status out err said delivered = headline-of_command order.command order.setting order.second order.width content before after saying status out err said delivered
 
 pub headline-from : (words : List (List ℕ)) (content : List ℕ → Option (List ℕ)) (before after : List ℕ → ℕ) (status : ℕ) (out err : SinkChange)
     → (saying : Saying) × (IsSaid words content before after saying × IsDelivered saying status out err) → IsHeadlineOf (command_of words) content status out
@@ -112,9 +123,9 @@ headline-from words content before after status out err h =
 -- ---- completeness
 
 -- without a fault, the status is that of what was said
-own_status : (order : Order) (before after : List ℕ → ℕ) (saying : Saying) (status : ℕ) (out err : SinkChange)
-    → IsDelivered saying status out err → IsFaultless order before after status out err → status ≡ saying.status
-own_status order before after saying status out err delivered fine =
+own_status : (order : Order) (content : List ℕ → Option (List ℕ)) (before after : List ℕ → ℕ) (saying : Saying) (status : ℕ) (out err : SinkChange)
+    → IsDelivered saying status out err → IsFaultless order content before after status out err → status ≡ saying.status
+own_status order content before after saying status out err delivered fine =
     ⊎_elim (λ same. same) (λ part. absurd (⊎_elim fine.printed fine.told part.1)) (status-of saying status out err delivered)
 
 replied : (order : Order) (content : List ℕ → Option (List ℕ)) (status : ℕ) (out err : SinkChange) (own : ℕ) (text : List ℕ)
@@ -128,13 +139,13 @@ replied order content status out err own text same reply delivered =
     }
 
 complete-of_order : (order : Order) (content : List ℕ → Option (List ℕ)) (before after : List ℕ → ℕ) (saying : Saying) (status : ℕ) (out err : SinkChange)
-    → IsSaidOfOrder order content before after saying → IsDelivered saying status out err → IsFaultless order before after status out err
+    → IsSaidOfOrder order content before after saying → IsDelivered saying status out err → IsFaultless order content before after status out err
     → IsReplied order content status out err
 complete-of_order order content before after saying status out err (inl reply) delivered fine =
-    replied order content status out err saying.status saying.text (own_status order before after saying status out err delivered fine) reply.0 delivered
+    replied order content status out err saying.status saying.text (own_status order content before after saying status out err delivered fine) reply.0 delivered
 complete-of_order order content before after saying status out err (inr (inl fault)) delivered fine = absurd (fine.read fault.1)
 complete-of_order order content before after saying status out err (inr (inr memory)) delivered fine =
-    absurd (fine.memory (own_status order before after saying status out err delivered fine ∙ ap (λ (x : Saying). x.status) memory.0))
+    absurd (fine.memory (own_status order content before after saying status out err delivered fine ∙ ap (λ (x : Saying). x.status) memory.0))
 
 complete-by : {A : Type 0} (named : Option A) (order : Option Order) (content : List ℕ → Option (List ℕ)) (before after : List ℕ → ℕ) (saying : Saying) (status : ℕ) (out err : SinkChange)
     → IsSaidBy named order content before after saying → IsDelivered saying status out err → IsComplete order content before after status out err

@@ -2,9 +2,14 @@ pub mod Saying
 pub mod Texts
 pub mod Refused
 pub mod Reading
+pub mod Works
 pub mod Verdicts
 pub mod Headline
+pub mod Auditing
+pub mod Listing
+pub mod Checking
 pub mod Solving
 pub mod Replaying
+pub mod Realising
 pub mod Reply
 pub mod Promises

@@ -2,10 +2,14 @@
 use Rattle.std.specs.Prelude.{◌≡◌, ◌≢◌, ◌++◌, ◌<◌, ◌≤◌, ℕ, List, Option, None, Some, MatchResult}
 use Rattle.std.specs.Option.{ForSome}
 use Rattle.md_ports.specs.Faults.{Rose}
-use Rattle.md_words.specs.Words.{Order, solve}
+use Rattle.md_words.specs.declared.command.Command.{Command}
+use Rattle.md_words.specs.declared.command.Command.TheVariants.{Audit, Rows, Check, Solve, Replay, Realise}
+use Rattle.md_words.specs.Words.{Order}
 use Rattle.md_setting.specs.Setting.{GeneralSetting}
+use Rattle.md_setting.specs.ByKind.{WhereGeneral}
 use Rattle.md_top.specs.Headline.{IsHeadline}
-use Rattle.md_top.specs.Reply.{HasFaulted, IsReply, setting_in}
+use Rattle.md_top.specs.Reading.{setting_in, is_general}
+use Rattle.md_top.specs.Reply.{HasFaulted, IsReply}
 use Rattle.md_top.specs.Saying.{IsDelivered, SinkChange}
 
 -- ---- the headline
@@ -18,18 +22,26 @@ pub record IsPrinted (s : GeneralSetting) (width status : ℕ) (old new : List �
 
 -- Where a setting is to be solved: whatever its file holds, an answer is printed only of a setting, and shows what the
 -- headline says.
-abbrev pub IsHeadlineOf : Option Order → (List ℕ → Option (List ℕ)) → ℕ → SinkChange → Type 0
-IsHeadlineOf (Some (solve setting width)) content status out =
-    ForSome (content setting) (λ bytes. MatchResult (setting_in bytes)
-    (λ s. status < 64 → ForSome out.before (λ old. ForSome out.after (λ new. IsPrinted s width status old new)))
+abbrev pub IsHeadlineBy : Command → List ℕ → ℕ → (List ℕ → Option (List ℕ)) → ℕ → SinkChange → Type 0
+IsHeadlineBy Solve setting width content status out =
+    ForSome (content setting) (λ bytes. MatchResult (setting_in is_general bytes)
+    (WhereGeneral (λ s. status < 64 → ForSome out.before (λ old. ForSome out.after (λ new. IsPrinted s width status old new))))
     (λ e. 64 ≤ status))
-IsHeadlineOf _ content status out = Unit {0}
+IsHeadlineBy Audit setting width content status out = Unit {0}
+IsHeadlineBy Rows setting width content status out = Unit {0}
+IsHeadlineBy Check setting width content status out = Unit {0}
+IsHeadlineBy Replay setting width content status out = Unit {0}
+IsHeadlineBy Realise setting width content status out = Unit {0}
+
+abbrev pub IsHeadlineOf : Option Order → (List ℕ → Option (List ℕ)) → ℕ → SinkChange → Type 0
+IsHeadlineOf None content status out = Unit {0}
+IsHeadlineOf (Some order) content status out = IsHeadlineBy order.command order.setting order.width content status out
 
 -- ---- completeness
 
 -- no fault was counted and memory did not run out
-pub record IsFaultless (order : Order) (before after : List ℕ → ℕ) (status : ℕ) (out err : SinkChange) : Type 0 where
-  pub read : ¬ HasFaulted order before after
+pub record IsFaultless (order : Order) (content : List ℕ → Option (List ℕ)) (before after : List ℕ → ℕ) (status : ℕ) (out err : SinkChange) : Type 0 where
+  pub read : ¬ HasFaulted order content before after
   pub printed : ¬ Rose out.faults_before out.faults_after
   pub told : ¬ Rose err.faults_before err.faults_after
   pub memory : status ≢ 72
@@ -44,4 +56,4 @@ pub record IsReplied (order : Order) (content : List ℕ → Option (List ℕ)) 
 abbrev pub IsComplete : Option Order → (List ℕ → Option (List ℕ)) → (List ℕ → ℕ) → (List ℕ → ℕ) → ℕ → SinkChange → SinkChange → Type 0
 IsComplete None content before after status out err = Unit {0}
 IsComplete (Some order) content before after status out err =
-    IsFaultless order before after status out err → IsReplied order content status out err
+    IsFaultless order content before after status out err → IsReplied order content status out err

@@ -1,5 +1,7 @@
 -- The status and the line of each refusal.
-use Rattle.std.specs.Prelude.{◌≡◌, ◌≢◌, ◌⊎◌, ℕ, List, codes}
+use Rattle.std.specs.Prelude.{◌≡◌, ◌⊎◌, ℕ, List, codes}
+use Rattle.md_parts.specs.declared.refusal.AnswerRefusal.{AnswerRefusal}
+use Rattle.md_parts.specs.declared.refusal.AnswerRefusal.TheVariants as answer
 use Rattle.md_top.specs.declared.refusal.Refusal.{Refusal}
 use Rattle.md_top.specs.declared.refusal.Refusal.TheVariants.{Usage, SettingTooLong, Setting, OtherKind, AnswerTooLong, Answer, NoTable, Pivot, ReadFault, Memory}
 use Rattle.md_top.specs.Saying.{Saying}
@@ -32,6 +34,27 @@ text_of Memory = want_of_memory
 abbrev pub refused : Refusal → Saying
 refused refusal = record { status = status_of refusal; text = text_of refusal }
 
--- what is told of a refusal: it, or that there is no memory to tell it, but a fault of the shelf is always told
+-- a refusal of an answer file, of which want of memory is one of its own
+abbrev pub answer_refused : AnswerRefusal → Refusal
+answer_refused answer.Memory = Memory
+answer_refused (answer.Line n) = Answer (answer.Line n)
+answer_refused (answer.Cell n k) = Answer (answer.Cell n k)
+answer_refused (answer.Sum n) = Answer (answer.Sum n)
+answer_refused (answer.End n) = Answer (answer.End n)
+
+-- a word or a number goes into the line of a refusal, which is made in memory
+abbrev pub HasMadeLine : Refusal → Type 0
+HasMadeLine (Setting _) = Unit {0}
+HasMadeLine (Answer _) = Unit {0}
+HasMadeLine (Pivot _) = Unit {0}
+HasMadeLine Usage = ⊥
+HasMadeLine SettingTooLong = ⊥
+HasMadeLine OtherKind = ⊥
+HasMadeLine AnswerTooLong = ⊥
+HasMadeLine NoTable = ⊥
+HasMadeLine ReadFault = ⊥
+HasMadeLine Memory = ⊥
+
+-- what is told of a refusal: it, or that there is no memory to make its line
 abbrev pub IsTold : Refusal → Refusal → Type 0
-IsTold refusal told = (told ≡ refusal) ⊎ ((told ≡ Memory) × (refusal ≢ ReadFault))
+IsTold refusal told = (told ≡ refusal) ⊎ ((told ≡ Memory) × HasMadeLine refusal)

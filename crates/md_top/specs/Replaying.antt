@@ -1,13 +1,20 @@
 -- What `replay` says of a setting and of listed pivots.
-use Rattle.std.specs.Prelude.{◌≡◌, ◌⊎◌, ℕ, List, Option, None, Some}
+use Rattle.std.specs.Prelude.{◌≡◌, ◌⊎◌, ℕ, List, Option, None, Some, Result, Ok, Err}
 use Rattle.md_setting.specs.Setting.{GeneralSetting}
+use Rattle.md_setting.specs.ByKind.{WhereGeneral}
+use Rattle.md_setting.specs.declared.file.SettingFile.{SettingFile}
+use Rattle.md_setting.specs.declared.file.SettingFile.TheVariants.{General, Auction}
 use Rattle.md_lp.specs.Program.{Program}
 use Rattle.md_lp.specs.declared.entry.Entry.{Entry}
 use Rattle.md_lp.specs.declared.pivot.Pivot.{Pivot}
 use Rattle.md_rows.specs.ProgramOf.{IsProgramOf}
 use Rattle.md_replay.specs.Records.{replay_text}
-use Rattle.md_replay.specs.Replay.{IsLawless, IsReplay}
+use Rattle.md_replay.specs.Replay.{IsLawless, IsReplay as IsReplayOf}
 use Rattle.md_replay.specs.declared.outcome.Replay.{Replay}
+use Rattle.md_answer.specs.Pivots.{pivots_of}
+use Rattle.md_answer.specs.declared.pivots_file.Pivots.{Pivots}
+use Rattle.md_parts.specs.declared.refusal.AnswerRefusal.{AnswerRefusal}
+use Rattle.md_top.specs.declared.refusal.Refusal.{Refusal}
 use Rattle.md_top.specs.declared.refusal.Refusal.TheVariants as refusal
 use Rattle.md_top.specs.Refused.{refused}
 use Rattle.md_top.specs.Saying.{Saying}
@@ -22,7 +29,7 @@ pub record IsReplaying (s : GeneralSetting) (width : ℕ) (listed : List Pivot) 
   pub program : Program
   pub is_program : IsProgramOf s program
   pub replay : Replay
-  pub replayed : IsReplay program width listed replay
+  pub replayed : IsReplayOf program width listed replay
   pub status : saying.status ≡ status_of_replay replay.wide
   pub text : saying.text ≡ replay_text replay
 
@@ -37,3 +44,17 @@ pub record IsPivotRefused (s : GeneralSetting) (width : ℕ) (listed : List Pivo
 -- the statuses of both
 abbrev pub IsReplayStatus : ℕ → Type 0
 IsReplayStatus status = (status ≡ 0) ⊎ ((status ≡ 12) ⊎ (status ≡ 67))
+
+-- ---- the files
+
+abbrev pub pivots_or_refusal : Result Pivots AnswerRefusal → Result Pivots Refusal
+pivots_or_refusal (Ok pivots) = Ok pivots
+pivots_or_refusal (Err e) = Err (refusal.Answer e)
+
+-- the pivots that the second file lists for a general setting
+abbrev pub pivots_in : SettingFile → List ℕ → Result Pivots Refusal
+pivots_in (General s) bytes = pivots_or_refusal (pivots_of bytes)
+pivots_in (Auction a) bytes = Err refusal.OtherKind
+
+abbrev pub IsReplay : ℕ → SettingFile → Pivots → Saying → Type 0
+IsReplay width file pivots saying = WhereGeneral (λ s. IsReplaying s width pivots.path saying ⊎ IsPivotRefused s width pivots.path saying) file

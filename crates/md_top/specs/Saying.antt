@@ -41,6 +41,10 @@ pub record SinkChange : Type 0 where
   pub faults_before : ℕ
   pub faults_after : ℕ
 
+-- the same of a value, by what its text and its count of faults are
+abbrev pub change_of : {S : Type 0} → (S → Option (List ℕ)) → (S → ℕ) → S → S → SinkChange
+change_of written faults old new = record { before = written old; after = written new; faults_before = faults old; faults_after = faults new }
+
 abbrev pub IsSentTo : Saying → ℕ → SinkChange → Type 0
 IsSentTo saying status change = IsSent saying status change.before change.after change.faults_before change.faults_after
 

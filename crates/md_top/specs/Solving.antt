@@ -1,6 +1,8 @@
 -- What `solve` says of a setting: the answer that the paths of its program give.
 use Rattle.std.specs.Prelude.{◌≡◌, ℕ}
 use Rattle.md_setting.specs.Setting.{GeneralSetting}
+use Rattle.md_setting.specs.ByKind.{WhereGeneral}
+use Rattle.md_setting.specs.declared.file.SettingFile.{SettingFile}
 use Rattle.md_answer.specs.Rows.{text_of_answer}
 use Rattle.md_answer.specs.declared.answer.Answer.{Answer}
 use Rattle.md_answer.specs.declared.answer.Answer.TheVariants.{Table, Optimal, Infeasible, Unbounded, TooWide}
@@ -23,3 +25,6 @@ pub record IsSolving (s : GeneralSetting) (width : ℕ) (saying : Saying) : Type
   pub status : saying.status ≡ status_of_answer answer
   pub text : saying.text ≡ text_of_answer s answer
   pub headline : IsHeadline s width saying.status saying.text
+
+abbrev pub IsSolve : ℕ → SettingFile → Saying → Type 0
+IsSolve width file saying = WhereGeneral (λ s. IsSolving s width saying) file

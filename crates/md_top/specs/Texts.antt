@@ -6,8 +6,8 @@ use Rattle.md_setting.specs.declared.refusal.BuildRefusal.TheVariants as build
 use Rattle.md_toml.specs.Keys.{text_of}
 use Rattle.md_toml.specs.declared.refusal.SettingRefusal.{SettingRefusal}
 use Rattle.md_toml.specs.declared.refusal.SettingRefusal.TheVariants as setting
-use Rattle.md_answer.specs.declared.answer.AnswerRefusal.{AnswerRefusal}
-use Rattle.md_answer.specs.declared.answer.AnswerRefusal.TheVariants as answer
+use Rattle.md_parts.specs.declared.refusal.AnswerRefusal.{AnswerRefusal}
+use Rattle.md_parts.specs.declared.refusal.AnswerRefusal.TheVariants as answer
 
 -- a line of the program: its name, the text, and a newline
 abbrev pub line : List ℕ → List ℕ

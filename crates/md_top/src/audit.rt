@@ -1,22 +1,63 @@
 //! The command `audit`: whether a mechanism meets all conditions of a setting.
-ghost use Rattle.std.specs.Prelude.{◌≡◌, ◌≢◌, ◌⊎◌, ◌≤◌, ℕ, List, IfOk, IfErr, MatchResult, Ok, Err, map};
-ghost use Rattle.md_mech.specs.Accepted.{IsAccepted};
-ghost use Rattle.md_top.specs.declared.refusal.Refusal.TheVariants as refusal;
-ghost use Rattle.md_top.specs.Reading.{Follows};
-ghost use Rattle.md_top.specs.Refused.{status_of};
-ghost use Rattle.md_top.specs.Reply.{IsAuditStatus, IsVerdict, broken_text, mechanism_of, mechanism_or_refusal};
-ghost use Rattle.md_top.specs.Saying.{said};
+ghost use Rattle.std.specs.Prelude.{◌≡◌, IfOk, MatchResult, Ok, Err};
+ghost use Rattle.md_setting.specs.ByKind.{WhereGeneral};
 ghost use Rattle.md_setting.specs.Setting.{GeneralSetting};
-ghost use Rattle.md_answer.specs.Answers.{answer_of};
+ghost use Rattle.md_mech.specs.Accepted.{IsAccepted};
 ghost use Rattle.md_answer.specs.AnswerTo.{IsAnswerTo};
+ghost use Rattle.md_top.specs.declared.refusal.Refusal.TheVariants as refusal;
+ghost use Rattle.md_top.specs.Auditing.{IsAudit, IsAuditStatus, IsVerdict, broken_text, mechanism_in, mechanism_of};
+ghost use Rattle.md_top.specs.Reading.{is_general};
+ghost use Rattle.md_top.specs.Saying.{said};
 
 use crate::answered::Answered;
 use crate::refusal::Refusal;
-use md_answer::{Answer, AnswerRefusal, read_answer};
+use crate::setting_file::{general, is_general};
+use crate::two_files::TwoFiles;
+use md_answer::{Answer, read_answer};
 use md_mech::{Broken, Mechanism, audit, row_name};
 use md_num::{NoMemory, write_whole};
-use md_setting::Setting;
+use md_setting::{Setting, SettingFile};
 use std::alloc::Global;
+
+/// `audit SETTING ANSWER`
+#[derive(Drop)]
+pub(crate) struct Audit;
+
+impl TwoFiles for Audit {
+    type Second = Mechanism;
+
+    ghost is_served = { is_general };
+
+    ghost reading = { mechanism_in };
+
+    ghost fits = { λ file m. WhereGeneral (λ s. IsAccepted s m) file };
+
+    ghost says = { λ _. IsAudit };
+
+    ghost own = { IsAuditStatus };
+
+    fn serves(&self, file: &SettingFile) -> bool {
+        is_general(file)
+    }
+
+    fn second(
+        &self,
+        alloc: Global,
+        file: &SettingFile,
+        bytes: &[u8],
+    ) -> Result<Mechanism, Refusal> {
+        mechanism_in(read_answer(alloc, bytes, file)?)
+    }
+
+    fn answer(
+        &self,
+        alloc: Global,
+        file: &SettingFile,
+        mechanism: &Mechanism,
+    ) -> Result<Answered, Refusal> {
+        Ok(verdict(alloc, general(file), mechanism)?)
+    }
+}
 
 // The mechanism of an answer about the setting, where it has one.
 fn mechanism_in(answer: Answer) -> Result<Mechanism, Refusal>
@@ -40,29 +81,8 @@ fn mechanism_in(answer: Answer) -> Result<Mechanism, Refusal>
     }
 }
 
-/// The mechanism that an answer file says.
-pub(crate) fn mechanism_from(
-    alloc: Global,
-    bytes: &[u8],
-    setting: &Setting,
-) -> Result<Mechanism, Refusal>
-    ensures follows { Follows (λ mechanism. mechanism) result (mechanism_or_refusal (answer_of setting.now bytes.now)) }
-    ensures accepted { IfOk result (IsAccepted setting.now) }
-    ensures errors { IfErr result (λ e. (e ≡ refusal.Memory) ⊎ (status_of e ≡ 66)) }
-{
-    match read_answer(alloc, bytes, setting) {
-        Ok(answer) => mechanism_in(answer),
-        Err(AnswerRefusal::Memory) => Err(Refusal::Memory),
-        Err(e) => Err(Refusal::Answer(e)),
-    }
-}
-
-/// The verdict on a mechanism.
-pub(crate) fn verdict(
-    alloc: Global,
-    setting: &Setting,
-    mechanism: &Mechanism,
-) -> Result<Answered, NoMemory>
+// The verdict on a mechanism.
+fn verdict(alloc: Global, setting: &Setting, mechanism: &Mechanism) -> Result<Answered, NoMemory>
     requires { IsAccepted setting.now mechanism.now }
     ensures verdict { IfOk result (λ answered. IsVerdict setting.now mechanism.now (said answered)) }
     ensures status { IfOk result (λ answered. IsAuditStatus answered.status) }

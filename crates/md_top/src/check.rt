@@ -1,53 +1,72 @@
 //! The command `check`: whether what an answer claims of a setting is so.
-ghost use Rattle.std.specs.Prelude.{◌≡◌, ◌⊎◌, ◌<◌, ◌∷◌, [], IfOk, IfErr, length, codes};
+ghost use Rattle.std.specs.Prelude.{◌≡◌, ◌<◌, ◌∷◌, [], IfOk, length, codes};
 ghost use Rattle.md_num.specs.WholeText.{text_of};
+ghost use Rattle.md_setting.specs.ByKind.{IsGeneral, WhereGeneral};
 ghost use Rattle.md_mech.specs.declared.broken.Broken.{Broken};
 ghost use Rattle.md_mech.specs.Rows.{rows_of};
 ghost use Rattle.md_records.specs.Written.{record_text};
-ghost use Rattle.md_answer.specs.Answers.{answer_of};
 ghost use Rattle.md_answer.specs.AnswerTo.{IsAnswerTo};
 ghost use Rattle.md_check.specs.declared.verdict.Reject.TheVariants as rejects;
-ghost use Rattle.md_top.specs.declared.refusal.Refusal.TheVariants as refusal;
-ghost use Rattle.md_top.specs.Reading.{Follows};
-ghost use Rattle.md_top.specs.Refused.{status_of};
-ghost use Rattle.md_top.specs.Reply.{IsChecked, IsCheckStatus, answer_or_refusal};
+ghost use Rattle.md_top.specs.Checking.{answer_in, IsCheck, IsCheckStatus};
+ghost use Rattle.md_top.specs.Reading.{is_general};
 ghost use Rattle.md_top.specs.Saying.{said};
 ghost use Rattle.md_top.specs.Verdicts.{IsRejected, rejected};
 
 use crate::answered::Answered;
 use crate::refusal::Refusal;
-use md_answer::{Answer, AnswerRefusal, read_answer};
+use crate::setting_file::{general, is_general};
+use crate::two_files::TwoFiles;
+use md_answer::{Answer, read_answer};
 use md_check::{Reject, Verdict, check};
 use md_mech::{Broken, row_name};
 use md_num::{Frac, NoMemory};
 use md_records::{Row, write_records};
-use md_setting::Setting;
+use md_setting::{Setting, SettingFile};
 use std::alloc::Global;
 
-/// The answer that a file says.
-pub(crate) fn answer_from(alloc: Global, bytes: &[u8], setting: &Setting) -> Result<Answer, Refusal>
-    ensures follows { Follows (λ answer. answer) result (answer_or_refusal (answer_of setting.now bytes.now)) }
-    ensures accepted { IfOk result (IsAnswerTo setting.now) }
-    ensures errors { IfErr result (λ e. (e ≡ refusal.Memory) ⊎ (status_of e ≡ 66)) }
-{
-    match read_answer(alloc, bytes, setting) {
-        Ok(answer) => Ok(answer),
-        Err(AnswerRefusal::Memory) => Err(Refusal::Memory),
-        Err(e) => Err(Refusal::Answer(e)),
+/// `check SETTING ANSWER`
+#[derive(Drop)]
+pub(crate) struct Check;
+
+impl TwoFiles for Check {
+    type Second = Answer;
+
+    ghost is_served = { is_general };
+
+    ghost reading = { answer_in };
+
+    ghost fits = { λ file answer. WhereGeneral (λ s. IsAnswerTo s answer) file };
+
+    ghost says = { λ _. IsCheck };
+
+    ghost own = { IsCheckStatus };
+
+    fn serves(&self, file: &SettingFile) -> bool {
+        is_general(file)
+    }
+
+    fn second(&self, alloc: Global, file: &SettingFile, bytes: &[u8]) -> Result<Answer, Refusal> {
+        Ok(read_answer(alloc, bytes, file)?)
+    }
+
+    fn answer(
+        &self,
+        alloc: Global,
+        file: &SettingFile,
+        answer: &Answer,
+    ) -> Result<Answered, Refusal> {
+        Ok(checked(alloc, file, answer)?)
     }
 }
 
-/// The verdict on an answer.
-pub(crate) fn checked(
-    alloc: Global,
-    setting: &Setting,
-    answer: &Answer,
-) -> Result<Answered, NoMemory>
-    requires { IsAnswerTo setting.now answer.now }
-    ensures checked { IfOk result (λ answered. IsChecked setting.now answer.now (said answered)) }
+// The verdict on an answer.
+fn checked(alloc: Global, file: &SettingFile, answer: &Answer) -> Result<Answered, NoMemory>
+    requires general { IsGeneral file.now }
+    requires answer { WhereGeneral (λ s. IsAnswerTo s answer.now) file.now }
+    ensures checked { IfOk result (λ answered. IsCheck file.now answer.now (said answered)) }
     ensures status { IfOk result (λ answered. IsCheckStatus answered.status) }
 {
-    match check(alloc, setting, answer)? {
+    match check(alloc, file, answer)? {
         Verdict::Valid => Ok(Answered {
             status: 0,
             text: b"valid\n".to_vec(alloc)?,
@@ -57,7 +76,7 @@ pub(crate) fn checked(
             text: b"undecided\n".to_vec(alloc)?,
         }),
         Verdict::Rejected(reject) => {
-            let record = rejected_record(alloc, setting, reject)?;
+            let record = rejected_record(alloc, general(file), reject)?;
             Ok(Answered {
                 status: 20,
                 text: record_text(alloc, record)?,

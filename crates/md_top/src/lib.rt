@@ -5,9 +5,14 @@ mod answered;
 mod audit;
 mod call;
 mod check;
+mod one_file;
 mod read;
+mod realise;
+#[cfg(test)]
+mod realising_tests;
 mod refusal;
 mod replay;
+mod rows;
 mod run;
 mod send;
 mod setting_file;
@@ -18,5 +23,6 @@ mod solving_tests;
 mod test_settings;
 #[cfg(test)]
 mod tests;
+mod two_files;
 
 pub use call::mechdes;

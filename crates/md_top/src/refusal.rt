@@ -1,8 +1,11 @@
 //! Why a command is not carried out, and what is said of it.
-ghost use Rattle.std.specs.Prelude.{◌≡◌, ◌≤◌, ◌<◌, ◌≢◌, IfOk, string_bytes};
-ghost use Rattle.md_top.specs.Texts.{build_text, setting_text, answer_text};
+ghost use Rattle.std.specs.Prelude.{◌≡◌, IfOk, string_bytes};
+ghost use Rattle.md_top.specs.declared.refusal.Refusal.TheVariants.{Memory};
+ghost use Rattle.md_top.specs.Refused.{answer_refused};
+ghost use Rattle.md_top.specs.Texts.{build_text, setting_text, answer_text, want_of_memory};
 
 use md_answer::AnswerRefusal;
+use md_num::NoMemory;
 use md_setting::BuildRefusal;
 use md_toml::SettingRefusal;
 use std::alloc::{AllocError, Global};
@@ -30,6 +33,32 @@ pub enum Refusal {
     ReadFault,
     /// There is no memory left.
     Memory,
+}
+
+impl From<NoMemory> for Refusal {
+    ghost from_gives = { λ _ e. e ≡ Memory };
+
+    fn from(_: NoMemory) -> Self {
+        Refusal::Memory
+    }
+}
+
+impl From<AnswerRefusal> for Refusal {
+    ghost from_gives = { λ refusal e. e ≡ answer_refused refusal };
+
+    fn from(refusal: AnswerRefusal) -> Self {
+        match refusal {
+            AnswerRefusal::Memory => Refusal::Memory,
+            other => Refusal::Answer(other),
+        }
+    }
+}
+
+/// What is said where there is no memory left.
+pub(crate) fn want_of_memory() -> &'static str
+    ensures { result.now ≡ want_of_memory }
+{
+    "mechdes: want of memory\n"
 }
 
 // What is said of a setting that is not well formed.
@@ -73,7 +102,7 @@ fn setting_refusal_text(alloc: Global, refusal: SettingRefusal) -> Result<String
                 build_refusal_text(refusal)
             )
         }
-        SettingRefusal::Memory => format!(in alloc; "mechdes: want of memory\n"),
+        SettingRefusal::Memory => String::from_str(alloc, want_of_memory()),
     }
 }
 
@@ -94,13 +123,13 @@ fn answer_refusal_text(alloc: Global, refusal: AnswerRefusal) -> Result<String, 
         AnswerRefusal::End(line) => format!(in alloc;
             "mechdes: answer refused: line {line}: ended\n"
         ),
-        AnswerRefusal::Memory => format!(in alloc; "mechdes: want of memory\n"),
+        AnswerRefusal::Memory => String::from_str(alloc, want_of_memory()),
     }
 }
 
 impl Refusal {
-    ghost use Rattle.std.specs.Prelude.{◌≡◌, ◌≢◌, ◌≤◌, IfOk, string_bytes};
-    ghost use Rattle.md_top.specs.Refused.{status_of, text_of};
+    ghost use Rattle.std.specs.Prelude.{◌≡◌, None, IfOk, IfSome, string_bytes};
+    ghost use Rattle.md_top.specs.Refused.{HasMadeLine, status_of, text_of};
 
     /// The status that the call ends with.
     pub(crate) fn status(self) -> u8
@@ -116,27 +145,33 @@ impl Refusal {
         }
     }
 
-    /// The line that says it.
-    pub(crate) fn text(self, alloc: Global) -> Result<String, AllocError>
+    /// The line that says it, where no word or number goes into it.
+    pub(crate) fn line(self) -> Option<&'static str>
+        ensures text { IfSome result (λ line. line.now ≡ text_of self) }
+        ensures made { result ≡ None → HasMadeLine self }
+    {
+        match self {
+            Refusal::Usage => Some("mechdes: usage\n"),
+            Refusal::SettingTooLong => Some("mechdes: setting refused: too long\n"),
+            Refusal::OtherKind => Some("mechdes: setting refused: other kind\n"),
+            Refusal::AnswerTooLong => Some("mechdes: answer refused: too long\n"),
+            Refusal::NoTable => Some("mechdes: answer refused: no table\n"),
+            Refusal::ReadFault => Some("mechdes: read fault\n"),
+            Refusal::Memory => Some(want_of_memory()),
+            Refusal::Setting(_) | Refusal::Answer(_) | Refusal::Pivot(_) => None,
+        }
+    }
+
+    /// The line that says it, made of words and numbers.
+    pub(crate) fn made_line(self, alloc: Global) -> Result<String, AllocError>
+        requires { HasMadeLine self }
         ensures { IfOk result (λ text. string_bytes text ≡ text_of self) }
     {
         match self {
-            Refusal::Usage => String::from_str(alloc, "mechdes: usage\n"),
-            Refusal::SettingTooLong => String::from_str(
-                alloc,
-                "mechdes: setting refused: too long\n",
-            ),
             Refusal::Setting(refusal) => setting_refusal_text(alloc, refusal),
-            Refusal::OtherKind => String::from_str(alloc, "mechdes: setting refused: other kind\n"),
-            Refusal::AnswerTooLong => String::from_str(
-                alloc,
-                "mechdes: answer refused: too long\n",
-            ),
             Refusal::Answer(refusal) => answer_refusal_text(alloc, refusal),
-            Refusal::NoTable => String::from_str(alloc, "mechdes: answer refused: no table\n"),
             Refusal::Pivot(number) => format!(in alloc; "mechdes: pivot {number} refused\n"),
-            Refusal::ReadFault => String::from_str(alloc, "mechdes: read fault\n"),
-            Refusal::Memory => String::from_str(alloc, "mechdes: want of memory\n"),
+            _ => unreachable!(),
         }
     }
 }

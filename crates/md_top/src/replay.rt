@@ -1,38 +1,63 @@
 //! The command `replay`: listed pivots, carried out on the linear program of a setting.
 ghost use Rattle.std.specs.Prelude.{◌≡◌, ◌⊎◌, IfOk, IfErr};
-ghost use Rattle.md_answer.specs.Pivots.{pivots_of};
 ghost use Rattle.md_replay.specs.Records.{replay_text};
 ghost use Rattle.md_top.specs.declared.refusal.Refusal.TheVariants as refusal;
-ghost use Rattle.md_top.specs.Reading.{Follows};
+ghost use Rattle.md_top.specs.Reading.{is_general};
 ghost use Rattle.md_top.specs.Refused.{refused, status_of};
-ghost use Rattle.md_top.specs.Replaying.{IsPivotRefused, IsReplaying, status_of_replay};
-ghost use Rattle.md_top.specs.Reply.{pivots_or_refusal};
+ghost use Rattle.md_top.specs.Replaying.{IsPivotRefused, IsReplay, IsReplayStatus, IsReplaying, pivots_in, status_of_replay};
 ghost use Rattle.md_top.specs.Saying.{said};
 
 use crate::answered::Answered;
 use crate::refusal::Refusal;
-use md_answer::{AnswerRefusal, Pivots, read_pivots};
+use crate::setting_file::{general, is_general};
+use crate::two_files::TwoFiles;
+use md_answer::{Pivots, read_pivots};
 use md_lp::{Entry, Path};
 use md_num::{NoMemory, Width};
-use md_replay::{Replay, ReplayError, replay, replay_text};
+use md_replay::{ReplayError, replay, replay_text};
 use md_rows::rows_of;
-use md_setting::Setting;
+use md_setting::{Setting, SettingFile};
 use std::alloc::Global;
 
-/// The pivots that a file lists.
-pub(crate) fn pivots_from(alloc: Global, bytes: &[u8], setting: &Setting) -> Result<Pivots, Refusal>
-    ensures follows { Follows (λ pivots. pivots) result (pivots_or_refusal (pivots_of bytes.now)) }
-    ensures errors { IfErr result (λ e. (e ≡ refusal.Memory) ⊎ (status_of e ≡ 66)) }
-{
-    match read_pivots(alloc, bytes, setting) {
-        Ok(pivots) => Ok(pivots),
-        Err(AnswerRefusal::Memory) => Err(Refusal::Memory),
-        Err(e) => Err(Refusal::Answer(e)),
+/// `replay SETTING PIVOTS [--width W]`
+#[derive(Drop)]
+pub(crate) struct Replay {
+    pub(crate) width: Width,
+}
+
+impl TwoFiles for Replay {
+    type Second = Pivots;
+
+    ghost is_served = { is_general };
+
+    ghost reading = { pivots_in };
+
+    ghost fits = { λ _ _. Unit {0} };
+
+    ghost says = { λ command. IsReplay command.width };
+
+    ghost own = { IsReplayStatus };
+
+    fn serves(&self, file: &SettingFile) -> bool {
+        is_general(file)
+    }
+
+    fn second(&self, alloc: Global, file: &SettingFile, bytes: &[u8]) -> Result<Pivots, Refusal> {
+        Ok(read_pivots(alloc, bytes, file)?)
+    }
+
+    fn answer(
+        &self,
+        alloc: Global,
+        file: &SettingFile,
+        pivots: &Pivots,
+    ) -> Result<Answered, Refusal> {
+        replayed(alloc, general(file), self.width, &pivots.path)
     }
 }
 
-/// What comes of the pivots, or the first one that cannot be carried out.
-pub(crate) fn replayed(
+// What comes of the pivots, or the first one that cannot be carried out.
+fn replayed(
     alloc: Global,
     setting: &Setting,
     width: Width,
@@ -42,21 +67,16 @@ pub(crate) fn replayed(
     ensures status { IfOk result (λ answered. (answered.status ≡ 0) ⊎ (answered.status ≡ 12)) }
     ensures refused { IfErr result (λ e. (e ≡ refusal.Memory) ⊎ (IsPivotRefused setting.now width pivots.now (refused e) × (status_of e ≡ 67))) }
 {
-    let Ok(lp) = rows_of(alloc, setting) else {
-        return Err(Refusal::Memory);
-    };
+    let lp = rows_of(alloc, setting)?;
     match replay(alloc, &lp, width, pivots) {
-        Ok(replay) => match told(alloc, &replay) {
-            Ok(answered) => Ok(answered),
-            Err(_) => Err(Refusal::Memory),
-        },
+        Ok(replay) => Ok(told(alloc, &replay)?),
         Err(ReplayError::Pivot(number)) => Err(Refusal::Pivot(number)),
         Err(ReplayError::Memory) => Err(Refusal::Memory),
     }
 }
 
 // The records that tell what came of the pivots.
-fn told(alloc: Global, replay: &Replay) -> Result<Answered, NoMemory>
+fn told(alloc: Global, replay: &md_replay::Replay) -> Result<Answered, NoMemory>
     ensures text { IfOk result (λ answered. answered.text.items ≡ replay_text replay.now) }
     ensures value { IfOk result (λ answered. answered.status ≡ status_of_replay replay.now.wide) }
     ensures status { IfOk result (λ answered. (answered.status ≡ 0) ⊎ (answered.status ≡ 12)) }

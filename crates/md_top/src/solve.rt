@@ -1,25 +1,53 @@
 //! The command `solve`: the best mechanism of a setting, or why there is none.
 ghost use Rattle.std.specs.Prelude.{◌≡◌, IfOk};
+ghost use Rattle.md_setting.specs.ByKind.{IsGeneral};
 ghost use Rattle.md_top.specs.Headline.{IsSolveStatus};
+ghost use Rattle.md_top.specs.Reading.{is_general};
 ghost use Rattle.md_top.specs.Saying.{said};
-ghost use Rattle.md_top.specs.Solving.{IsSolving, status_of_answer};
+ghost use Rattle.md_top.specs.Solving.{IsSolve, status_of_answer};
 
 use crate::answered::Answered;
+use crate::one_file::OneFile;
+use crate::refusal::Refusal;
+use crate::setting_file::is_general;
 use md_answer::{Answer, write_answer};
 use md_num::{NoMemory, Width};
-use md_setting::Setting;
+use md_setting::SettingFile;
 use md_solve::solve;
 use std::alloc::Global;
 
-/// The answer to a setting within a width.
-pub(crate) fn solved(alloc: Global, setting: &Setting, width: Width) -> Result<Answered, NoMemory>
-    ensures solving { IfOk result (λ answered. IsSolving setting.now width (said answered)) }
+/// `solve SETTING [--width W]`
+#[derive(Drop)]
+pub(crate) struct Solve {
+    pub(crate) width: Width,
+}
+
+impl OneFile for Solve {
+    ghost is_served = { is_general };
+
+    ghost says = { λ command. IsSolve command.width };
+
+    ghost own = { IsSolveStatus };
+
+    fn serves(&self, file: &SettingFile) -> bool {
+        is_general(file)
+    }
+
+    fn answer(&self, alloc: Global, file: &SettingFile) -> Result<Answered, Refusal> {
+        Ok(solved(alloc, file, self.width)?)
+    }
+}
+
+// The answer to a setting within a width.
+fn solved(alloc: Global, file: &SettingFile, width: Width) -> Result<Answered, NoMemory>
+    requires { IsGeneral file.now }
+    ensures solving { IfOk result (λ answered. IsSolve width file.now (said answered)) }
     ensures status { IfOk result (λ answered. IsSolveStatus answered.status) }
 {
-    let answer = solve(alloc, setting, width)?;
+    let answer = solve(alloc, file, width)?;
     Ok(Answered {
         status: status(&answer),
-        text: write_answer(alloc, setting, &answer)?,
+        text: write_answer(alloc, file, &answer)?,
     })
 }
 

@@ -63,3 +63,11 @@ pub(crate) const INTERDEPENDENT_BESIDE_UTILITY: &str =
 /// The setting of the seller and the buyer up to the buyer's high value, with which it ends.
 pub(crate) const POSTED_PRICE_FRONT: &str =
     "format = \"mechanism-setting\"\nversion = 1\nkind = \"general\"\ntruth = \"dominant\"\nrational = \"ex-post\"\npayments = true\noutcomes = [\"keep\", \"sell\"]\n[objective]\nrevenue = 1\n[[agent]]\nname = \"buyer\"\ntypes = [\"low\", \"high\"]\nweights = [1, 1]\nutility = [[0, 1], [0, ";
+
+// Two bidders with the values 1 and 2.
+pub(crate) const TWO_BIDDERS: &str =
+    "format = \"mechanism-setting\"\nversion = 1\nkind = \"auction\"\nbidders = 2\nvalues = [1, 2]\nweights = [1, 1]\nrevenue = 1\nwelfare = 0\nkeep = 0\n";
+
+// Three bidders with the values 1, 2 and 3.
+pub(crate) const THREE_BIDDERS: &str =
+    "format = \"mechanism-setting\"\nversion = 1\nkind = \"auction\"\nbidders = 3\nvalues = [1, 2, 3]\nweights = [1, 1, 1]\nrevenue = 1\nwelfare = 0\nkeep = 0\n";

@@ -5,11 +5,12 @@
 --   check SETTING ANSWER
 --   solve SETTING [--width W]
 --   replay SETTING PIVOTS [--width W]
+--   realise SETTING ODDS
 use Rattle.std.specs.Prelude.{List, [], ◌∷◌, Option, Some, None, codes, if◌then◌else◌}
 use Rattle.std.specs.Str.{bytes_eq}
 use Rattle.clap.specs.Words.{Text}
 use Rattle.md_words.specs.declared.command.Command.{Command}
-use Rattle.md_words.specs.declared.command.Command.TheVariants.{Audit, Rows, Check, Solve, Replay}
+use Rattle.md_words.specs.declared.command.Command.TheVariants.{Audit, Rows, Check, Solve, Replay, Realise}
 use Rattle.md_words.specs.declared.form.Form.{Form}
 use Rattle.md_words.specs.declared.form.Form.TheVariants.{One, OneWidth, Two, TwoWidth}
 
@@ -22,7 +23,8 @@ command_named word =
     else (if bytes_eq word (codes "check") then Some Check
     else (if bytes_eq word (codes "solve") then Some Solve
     else (if bytes_eq word (codes "replay") then Some Replay
-    else None))))
+    else (if bytes_eq word (codes "realise") then Some Realise
+    else None)))))
 
 -- the command that the first word names; none where there is no word, or it is no name
 abbrev pub command_in : List Text → Option Command
@@ -36,3 +38,4 @@ form_of Solve = OneWidth
 form_of Audit = Two
 form_of Check = Two
 form_of Replay = TwoWidth
+form_of Realise = Two

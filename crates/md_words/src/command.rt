@@ -17,6 +17,8 @@ pub enum Command {
     Solve,
     /// `replay SETTING PIVOTS [--width W]` carries out pivots on the linear program of a setting within a width.
     Replay,
+    /// `realise SETTING ODDS` realises interim odds of an auction.
+    Realise,
 }
 
 /// The command that the first word of a call names, if there is one and it does. It takes no memory.
@@ -36,6 +38,7 @@ fn named(word: &str) -> Option<Command>
         "check" => Some(Command::Check),
         "solve" => Some(Command::Solve),
         "replay" => Some(Command::Replay),
+        "realise" => Some(Command::Realise),
         _ => None,
     }
 }
@@ -47,7 +50,7 @@ pub(crate) fn form(command: Command) -> Form
     match command {
         Command::Rows => Form::One,
         Command::Solve => Form::OneWidth,
-        Command::Audit | Command::Check => Form::Two,
+        Command::Audit | Command::Check | Command::Realise => Form::Two,
         Command::Replay => Form::TwoWidth,
     }
 }

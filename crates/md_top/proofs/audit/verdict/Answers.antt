@@ -1,5 +1,5 @@
 use Rattle.std.proofs.Common.{◌∙◌, ap, refl, inr}
-use Rattle.md_top.specs.Reply.{broken_text}
+use Rattle.md_top.specs.Auditing.{broken_text}
 use Rattle.md_top.proofs.Outcomes.{broken-said}
 use Rattle.md_top.proofs.audit.verdict.Goals as goal
 

@@ -1,9 +1,9 @@
-use Rattle.std.proofs.Common.{sym, refl, inl, inr}
+use Rattle.std.proofs.Common.{rules, refl, inr}
 use Rattle.md_top.specs.declared.refusal.Refusal.TheVariants as refusal
+use Rattle.md_top.specs.Refused.{HasMadeLine}
 use Rattle.md_top.proofs.call.say_refusal.Goals as goal
 
-pub returns-in-ReadFault : goal.returns-in-ReadFault
-returns-in-ReadFault g c = (refusal.ReadFault, (inl (sym c.in-ReadFault.is), c.send.ensures))
-
 pub returns-in-Err : goal.returns-in-Err
-returns-in-Err g c = (refusal.Memory, (inr (refl, c.in_default.not-ReadFault), c.send-in-Err.ensures))
+returns-in-Err g c =
+    let made : HasMadeLine c.args.refusal = search rules in
+    (refusal.Memory, (inr (refl, made), rw (c.as_bytes-in-Err.ensures.value, c.want_of_memory.ensures) at c.send-in-Err.ensures))

@@ -1,0 +1,209 @@
+-- Flows from the lists of counts to the kinds of values are mass tables, and sets that are over their caps break Border's condition.
+use Rattle.std.proofs.Common.{◌≡◌, ℕ, zero, suc, ◌+◌, ◌*◌, ◌^◌, ◌<◌, ℤ, pos, ◌-ℤ◌, ◌*ℤ◌, ◌≤ℤ◌, ◌<ℤ◌, Bool, true, false, ◌&&◌, ◌||◌, if◌then◌else◌, List, length, min, nat_lt, refl, sym, ap, ap₂, ◌∙◌, subst, arith, inl, inr}
+use Rattle.std.specs.Prelude.{slice_index}
+use Rattle.std.proofs.lemmas.Bool.{cases_Bool}
+use Rattle.std.proofs.lemmas.Bool.Decides.{nat_tests}
+use Rattle.std.proofs.lemmas.Int.{ints}
+use Rattle.md_math.specs.Lists.{number_at}
+use Rattle.md_math.specs.Sets.{member}
+use Rattle.md_math.specs.Sums.{sum_to}
+use Rattle.md_math.proofs.BoundedTests.{and-left, and-right}
+use Rattle.md_math.proofs.Builders.{length-list_to, get_or-list_to}
+use Rattle.md_math.proofs.Ring.{*ℤ-zero, *ℤ-one, *ℤ_assoc}
+use Rattle.md_math.proofs.SumLaws.{sum_to-same, sum_to-zero, sum_to-positive, sum_to-*ℤ}
+use Rattle.md_setting.specs.Auction.{SymmetricAuction, value_count}
+use Rattle.md_setting.specs.General.{general_of}
+use Rattle.md_mech.specs.declared.mechanism.Mechanism.{Mechanism}
+use Rattle.md_mech.specs.Accepted.{number_limit}
+use Rattle.md_mech.specs.Mechanism.{IsMechanism}
+use Rattle.md_counts.specs.Weights.{weight_of_counts}
+use Rattle.md_counts.proofs.ListsOfValues.{total_by-count_lists}
+use Rattle.md_counts.proofs.RankLaws.{ranked}
+use Rattle.md_border.specs.declared.interim.Interim.{Interim}
+use Rattle.md_border.specs.Odds.{IsInterim, HasOdds, demand_of, excess_of}
+use Rattle.md_border.specs.Sets.{sum_in}
+use Rattle.md_border.specs.Sides.{right_of}
+use Rattle.md_border.proofs.Necessity.{border}
+use Rattle.md_border.proofs.SetLaws.{pos-sum_in}
+use Rattle.md_border.proofs.SideLaws.{right_of-counts}
+use Rattle.md_flow.specs.Network.{Network, node_count, demand_count, cap_of, want_of, touches}
+use Rattle.md_flow.specs.Flows.{given_by, Meets, amount_in}
+use Rattle.md_flow.specs.Over.{any_below, touches_some, over, NoneOver, IsWorst}
+use Rattle.md_flow.proofs.AnyBelow.{any_below-place, any_below-false}
+use Rattle.md_expost.specs.declared.masses.Masses.{Masses}
+use Rattle.md_expost.specs.Masses.{AreMasses, rank_count, counts_in, cap_at, mass_in, mass_at}
+use Rattle.md_expost.specs.Implementing.{Implements}
+use Rattle.md_expost.specs.CountNets.{IsNetOf}
+use Rattle.md_expost.specs.WorstSets.{IsWorstSet, MeetsBorder}
+
+-- ---- the net's sizes and numbers
+
+nodes-of : (a : SymmetricAuction) (interim : Interim) (net : Network) → IsNetOf a interim net → node_count net ≡ rank_count a
+nodes-of a interim net h = ap length h.caps ∙ length-list_to (rank_count a) (cap_at a interim.den)
+
+demands-of : (a : SymmetricAuction) (interim : Interim) (net : Network) → IsNetOf a interim net → demand_count net ≡ value_count a
+demands-of a interim net h = ap length h.wants ∙ length-list_to (value_count a) (demand_of a interim)
+
+cap-of : (a : SymmetricAuction) (interim : Interim) (net : Network) (rank : ℕ) → IsNetOf a interim net → rank < rank_count a → cap_of net rank ≡ cap_at a interim.den rank
+cap-of a interim net rank h b = ap (λ caps. number_at caps rank) h.caps ∙ get_or-list_to (rank_count a) (cap_at a interim.den) rank (pos 0) b
+
+want-of : (a : SymmetricAuction) (interim : Interim) (net : Network) (v : ℕ) → IsNetOf a interim net → v < value_count a → want_of net v ≡ demand_of a interim v
+want-of a interim net v h b = ap (λ wants. number_at wants v) h.wants ∙ get_or-list_to (value_count a) (demand_of a interim) v (pos 0) b
+
+-- ---- flows
+
+amount-of : (a : SymmetricAuction) (interim : Interim) (net : Network) (rows : List ℤ) (rank v : ℕ) → IsNetOf a interim net → amount_in net rows rank v ≡ mass_in a rows rank v
+amount-of a interim net rows rank v h = ap (λ m. number_at rows (rank * m + v)) (demands-of a interim net h)
+
+-- a flow that gives each demand exactly is a mass table
+pub masses-of_flow : (a : SymmetricAuction) (interim : Interim) (net : Network) (y : Masses) → IsInterim a interim → IsNetOf a interim net → y.den ≡ interim.den
+    → length y.rows ≡ node_count net * demand_count net → Meets net (amount_in net y.rows) → AreMasses a y
+masses-of_flow a interim net y fits h same long meets = record {
+  den_positive = subst (λ d. pos 1 ≤ℤ d) (sym same) fits.den_positive;
+  den_size = subst (λ d. d ≤ℤ pos number_limit) (sym same) fits.den_size;
+  whole = long ∙ ap₂ (λ m k. m * k) nodes kinds;
+  nonneg = λ rank v b l. subst (λ z. pos 0 ≤ℤ z) (amount-of a interim net y.rows rank v h) (meets.part.nonneg rank v (node rank b) (demand v l));
+  absent = λ rank v b l none. sym (amount-of a interim net y.rows rank v h)
+      ∙ meets.part.untouched rank v (node rank b) (demand v l) (h.touches rank v b l ∙ ap (nat_lt 0) none);
+  over = λ rank b.
+      subst (λ z. z ≤ℤ cap_at a y.den rank)
+      (ap (λ k. sum_to k (amount_in net y.rows rank)) kinds ∙ sum_to-same (value_count a) _ (mass_at a y rank) (λ v l. amount-of a interim net y.rows rank v h))
+      (subst (λ z. given_by (demand_count net) (amount_in net y.rows) rank ≤ℤ z) (cap-of a interim net rank h b ∙ ap (λ d. cap_at a d rank) (sym same)) (meets.part.caps rank (node rank b)));
+}
+  where
+    nodes : node_count net ≡ rank_count a
+    nodes = nodes-of a interim net h
+
+    kinds : demand_count net ≡ value_count a
+    kinds = demands-of a interim net h
+
+    node : (rank : ℕ) → rank < rank_count a → rank < node_count net
+    node rank b = omega (arith, nodes, b)
+
+    demand : (v : ℕ) → v < value_count a → v < demand_count net
+    demand v l = omega (arith, kinds, l)
+
+pub implements-of_flow : (a : SymmetricAuction) (interim : Interim) (net : Network) (y : Masses) → IsNetOf a interim net → y.den ≡ interim.den → Meets net (amount_in net y.rows) → Implements a interim y
+implements-of_flow a interim net y h same meets = record {
+  same_den = same;
+  exact = λ v l.
+      sym (ap (λ n. sum_to n (λ rank. amount_in net y.rows rank v)) (nodes-of a interim net h) ∙ sum_to-same (rank_count a) _ (λ rank. mass_at a y rank v) (λ rank b. amount-of a interim net y.rows rank v h))
+      ∙ meets.exact v (omega (arith, demands-of a interim net h, l))
+      ∙ want-of a interim net v h l;
+}
+
+-- ---- sets
+
+-- some bidder has a value in the set exactly where a node touches it
+touched : (a : SymmetricAuction) (rank set : ℕ) (z : ℤ) → rank < rank_count a
+    → (if any_below (value_count a) (λ v. nat_lt 0 (slice_index (counts_in a rank) v) && member set v) then z else pos 0) ≡ z *ℤ pos (min 1 (sum_in set (counts_in a rank)))
+touched a rank set z b =
+    let counts = counts_in a rank in
+    let test = λ (v : ℕ). nat_lt 0 (slice_index counts v) && member set v in
+    let part = λ (v : ℕ). if member set v then pos (slice_index counts v) else pos 0 in
+    let all : pos (sum_in set counts) ≡ sum_to (value_count a) part = pos-sum_in set counts ∙ ap (λ k. sum_to k part) (ranked (value_count a) a.bidders rank b).counts.one_each in
+    elim (cases_Bool (any_below (value_count a) test)) [
+      | inl some ↦
+          let (v, l, e) = any_below-place (value_count a) test some in
+          let more : pos 0 <ℤ sum_to (value_count a) part =
+          sum_to-positive (value_count a) v part l (λ u m. part-nonneg (member set u) (slice_index counts u)) (positive (member set v) (slice_index counts v) (and-right (nat_lt 0 (slice_index counts v)) (member set v) e) (and-left (nat_lt 0 (slice_index counts v)) (member set v) e)) in
+          rw some (one z (sum_in set counts) (subst (λ x. pos 0 <ℤ x) (sym all) more))
+      | inr none ↦
+          let zeros : sum_to (value_count a) part ≡ pos 0 =
+          sum_to-zero (value_count a) part (λ v l. vanishes (member set v) (slice_index counts v) (any_below-false (value_count a) test none v l)) in
+          rw none (nothing z (sum_in set counts) (all ∙ zeros))
+    ]
+  where
+    part-nonneg : (s : Bool) (n : ℕ) → pos 0 ≤ℤ (if s then pos n else pos 0)
+    part-nonneg true n = omega (arith, ints)
+    part-nonneg false n = omega (arith, ints)
+
+    counted : (n : ℕ) → nat_lt 0 n ≡ true → 0 < n
+    counted n e = grind (arith, nat_tests)
+
+    uncounted : (n : ℕ) → nat_lt 0 n ≡ false → n ≡ 0
+    uncounted n e = grind (arith, nat_tests)
+
+    positive : (s : Bool) (n : ℕ) → s ≡ true → nat_lt 0 n ≡ true → pos 0 <ℤ (if s then pos n else pos 0)
+    positive true n e f = (let l : 0 < n = counted n f in omega (arith, ints))
+    positive false n e f = cc
+
+    vanishes : (s : Bool) (n : ℕ) → (nat_lt 0 n && s) ≡ false → (if s then pos n else pos 0) ≡ pos 0
+    vanishes true n e = ap pos (uncounted n (left (nat_lt 0 n) e))
+      where
+        left : (b : Bool) → (b && true) ≡ false → b ≡ false
+        left true h = cc
+        left false h = refl
+    vanishes false n e = refl
+
+    one : (z : ℤ) (n : ℕ) → pos 0 <ℤ pos n → z ≡ z *ℤ pos (min 1 n)
+    one z n l = (let e : min 1 n ≡ 1 = unit n (above n l) in sym (ap (λ m. z *ℤ pos m) e ∙ *ℤ-one z))
+      where
+        above : (n : ℕ) → pos 0 <ℤ pos n → 0 < n
+        above n l = omega (arith, ints)
+
+        unit : (n : ℕ) → 0 < n → min 1 n ≡ 1
+        unit n l = omega arith
+
+    nothing : (z : ℤ) (n : ℕ) → pos n ≡ pos 0 → pos 0 ≡ z *ℤ pos (min 1 n)
+    nothing z n e = (let m : min 1 n ≡ 0 = least n (none n e) in sym (ap (λ k. z *ℤ pos k) m ∙ *ℤ-zero z))
+      where
+        none : (n : ℕ) → pos n ≡ pos 0 → n ≡ 0
+        none n e = omega (arith, ints)
+
+        least : (n : ℕ) → n ≡ 0 → min 1 n ≡ 0
+        least n e = omega arith
+
+-- the caps of the nodes that touch a set are the right side of the set
+caps-touched : (a : SymmetricAuction) (interim : Interim) (net : Network) (set : ℕ) → IsNetOf a interim net
+    → sum_to (node_count net) (λ u. if touches_some net (member set) u then cap_of net u else pos 0) ≡ interim.den *ℤ right_of a set
+caps-touched a interim net set h =
+    ap (λ n. sum_to n (λ u. if touches_some net (member set) u then cap_of net u else pos 0)) (nodes-of a interim net h)
+    ∙ sum_to-same (rank_count a) _ (λ r. interim.den *ℤ (pos (weight_of_counts a.weights a.bidders (counts_in a r)) *ℤ pos (min 1 (sum_in set (counts_in a r))))) (λ r b. at r b)
+    ∙ sum_to-*ℤ (rank_count a) interim.den (λ r. pos (weight_of_counts a.weights a.bidders (counts_in a r)) *ℤ pos (min 1 (sum_in set (counts_in a r))))
+    ∙ ap (λ z. interim.den *ℤ z)
+    (sym (total_by-count_lists a.bidders (value_count a) (λ counts. pos (weight_of_counts a.weights a.bidders counts) *ℤ pos (min 1 (sum_in set counts))))
+    ∙ sym (right_of-counts a set))
+  where
+    same : (n : ℕ) (f g : ℕ → Bool) → ((v : ℕ) → v < n → f v ≡ g v) → any_below n f ≡ any_below n g
+    same zero f g e = refl
+    same (suc n) f g e = ap₂ (λ s t. s || t) (same n f g (λ v l. e v (omega arith))) (e n (omega arith))
+
+    at : (r : ℕ) → r < rank_count a → (if touches_some net (member set) r then cap_of net r else pos 0)
+        ≡ interim.den *ℤ (pos (weight_of_counts a.weights a.bidders (counts_in a r)) *ℤ pos (min 1 (sum_in set (counts_in a r))))
+    at r b =
+        ap₂ (λ (s : Bool) (z : ℤ). if s then z else pos 0)
+        (ap (λ k. any_below k (λ v. touches net r v && member set v)) (demands-of a interim net h)
+        ∙ same (value_count a) _ _ (λ v l. ap (λ t. t && member set v) (h.touches r v b l)))
+        (cap-of a interim net r h b)
+        ∙ touched a r set (cap_at a interim.den r) b
+        ∙ *ℤ_assoc interim.den (pos (weight_of_counts a.weights a.bidders (counts_in a r))) (pos (min 1 (sum_in set (counts_in a r))))
+
+-- what a set is over by in the net is its excess
+pub over-excess : (a : SymmetricAuction) (interim : Interim) (net : Network) (set : ℕ) → IsNetOf a interim net → over net (member set) ≡ excess_of a interim set
+over-excess a interim net set h =
+    ap₂ (λ x y. x -ℤ y)
+    (ap (λ k. sum_to k (λ v. if member set v then want_of net v else pos 0)) (demands-of a interim net h)
+    ∙ sum_to-same (value_count a) _ _ (λ v l. ap (λ z. if member set v then z else pos 0) (want-of a interim net v h l)))
+    (caps-touched a interim net set h)
+
+pub border-met : (a : SymmetricAuction) (interim : Interim) (net : Network) → IsNetOf a interim net → NoneOver net → MeetsBorder a interim
+border-met a interim net h none = record { none_over = λ set b. subst (λ z. z ≤ℤ pos 0) (over-excess a interim net set h) (none.none (member set)) }
+
+pub worst-of_net : (a : SymmetricAuction) (interim : Interim) (net : Network) (set : ℕ) → IsNetOf a interim net → set < 2 ^ demand_count net → IsWorst net (member set) → IsWorstSet a interim set
+worst-of_net a interim net set h b worst = record {
+  inside = subst (λ k. set < 2 ^ k) (demands-of a interim net h) b;
+  positive = subst (λ z. pos 0 <ℤ z) (over-excess a interim net set h) worst.positive;
+  greatest = λ other c.
+      subst (λ z. z ≤ℤ excess_of a interim set) (over-excess a interim net other h)
+      (subst (λ z. over net (member other) ≤ℤ z) (over-excess a interim net set h) (worst.greatest (member other)));
+  largest = λ other c e v l m.
+      worst.largest (member other) (over-excess a interim net other h ∙ e ∙ sym (over-excess a interim net set h)) v (omega (arith, demands-of a interim net h, l)) m;
+}
+
+-- where a set breaks Border's condition, no mechanism has the odds
+pub no_mechanism : (a : SymmetricAuction) (interim : Interim) (set : ℕ) (m : Mechanism) → IsInterim a interim → IsWorstSet a interim set → IsMechanism (general_of a) m → HasOdds a m interim.den interim.odds → ⊥
+no_mechanism a interim set m fits worst mechanism odds = never (excess_of a interim set) worst.positive (border a interim set m fits.den_positive mechanism odds)
+  where
+    never : (z : ℤ) → pos 0 <ℤ z → z ≤ℤ pos 0 → ⊥
+    never z p q = omega (arith, ints)

@@ -1,0 +1,7 @@
+pub mod Shares
+pub mod Winners
+pub mod MechanismLaws
+pub mod MassLaws
+pub mod FlowLaws
+pub mod KeptLaws
+pub mod NetLaws

@@ -1,0 +1,7 @@
+pub mod Masses
+pub mod Refusals
+pub mod Mechanisms
+pub mod Implementing
+pub mod WorstSets
+pub mod Ends
+pub mod CountNets

@@ -1,0 +1,16 @@
+-- The general setting that a file says.
+use Rattle.std.proofs.Common.{◌≡◌, true, refl}
+use Rattle.md_setting.specs.Setting.{GeneralSetting}
+use Rattle.md_setting.specs.ByKind.{IsGeneral}
+use Rattle.md_setting.specs.declared.file.SettingFile.{SettingFile}
+use Rattle.md_setting.specs.declared.file.SettingFile.TheVariants.{General, Auction}
+use Rattle.md_top.specs.Reading.{is_general}
+
+pub general_of : (file : SettingFile) → IsGeneral file → (s : GeneralSetting) × (file ≡ General s)
+general_of (General s) h = (s, refl)
+general_of (Auction a) h = absurd h
+
+-- the test says it
+pub from_test : (file : SettingFile) → is_general file ≡ true → IsGeneral file
+from_test (General s) h = tt
+from_test (Auction a) h = absurd (let e = h in cc)

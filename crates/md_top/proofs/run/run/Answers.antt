@@ -1,0 +1,7 @@
+use Rattle.md_top.proofs.run.run.Goals as goal
+
+pub returns-in-Rows : goal.returns-in-Rows
+returns-in-Rows g c = rw c.in-Rows.is (c.of_one.ensures c.args.order.now.second.now)
+
+pub returns-in-Solve : goal.returns-in-Solve
+returns-in-Solve g c = rw c.in-Solve.is (c.of_one-in-Solve.ensures c.args.order.now.second.now)
