@@ -1,7 +1,7 @@
-//! The linear program of a setting as a list of records.
+//! Linear programs as lists of records.
 #![tactic(auto)]
 
 mod listing;
 mod pairs;
 
-pub use listing::list_program;
+pub use listing::{list_program, list_rows};

@@ -100,7 +100,7 @@ fn realises_odds(rt: HostRuntime) -> Result<(), Fail> {
 #[test]
 fn looks_at_the_setting_first(rt: HostRuntime) -> Result<(), Fail> {
     let alloc = rt.alloc();
-    for command in ["audit", "check", "replay", "realise"] {
+    for command in &["audit", "check", "replay", "realise"] {
         let words = words(alloc, &[command, "setting", "absent"])?;
         let mut shelf = MemShelf::new(alloc);
         shelf.put("setting", HONEST.as_bytes())?;
@@ -108,10 +108,8 @@ fn looks_at_the_setting_first(rt: HostRuntime) -> Result<(), Fail> {
         let mut err = MemSink::new(alloc, 100)?;
         let got = mechdes(alloc, &words, &mut shelf, &mut out, &mut err);
         assert_eq!(rt; got, 65, "at {command}");
-        assert!(rt;
-            err.bytes() == b"mechdes: setting refused: unknown word truth\n",
-            "at {command}"
-        );
+        let said = "mechdes: setting refused: unknown word truth\n";
+        assert!(rt; err.bytes() == said.as_bytes(), "at {command}");
     }
     Ok(())
 }
