@@ -1,0 +1,84 @@
+-- How a program grows by the conditions of an auction, and what its points say of them.
+use Rattle.std.proofs.Common.{◌≡◌, ℕ, zero, suc, ◌+◌, ◌<◌, ◌≤◌, List, [], ◌∷◌, ◌++◌, length, map, take, All, Some, sym, ap, ◌∙◌, subst, arith}
+use Rattle.std.specs.Prelude.{slice_get, option_map}
+use Rattle.std.proofs.lemmas.List.{length-map, map-append, get_or-map, take_all, length-take-le}
+use Rattle.std.proofs.lemmas.List.Elements.{All-map}
+use Rattle.std.proofs.lemmas.Option.{none-some, slice_get-map}
+use Rattle.md_setting.specs.Auction.{SymmetricAuction, value_count}
+use Rattle.md_lp.specs.Program.{Program, row_count}
+use Rattle.md_forms.specs.Forms.{Holds}
+use Rattle.md_forms.specs.Built.{HasRoom, Extends}
+use Rattle.md_forms.proofs.BuiltLaws as forms
+use Rattle.md_forms.proofs.PointLaws.{meets-hold, hold-meets}
+use Rattle.md_reduced.specs.declared.condition.ReducedCondition.{ReducedCondition}
+use Rattle.md_reduced.specs.Conditions.{conditions_of}
+use Rattle.md_reduced.specs.Cuts.{AreCuts}
+use Rattle.md_reduced.specs.Sides.{cost_of}
+use Rattle.md_reduced.specs.ProgramOf.{column_count, form_of, forms_of, IsReducedProgram, HasEachRow, MeetsByConditions, CostsPoints}
+use Rattle.md_reduced.proofs.ConditionLaws.{conditions-few}
+
+-- ---- growing
+
+-- the first n + 1 of some conditions are the first n, and the one behind them
+take-more : {X : Type 0} → (xs : List X) (n : ℕ) (x : X) → slice_get xs n ≡ Some x → take (suc n) xs ≡ take n xs ++ x ∷ []
+take-more [] n x e = absurd (none-some x e)
+take-more (a ∷ xs) zero x e = (let same : a ≡ x = cc in ap (λ y. y ∷ []) same)
+take-more (a ∷ xs) (suc n) x e = ap (λ ys. a ∷ ys) (take-more xs n x e)
+
+pub extends-next : (a : SymmetricAuction) (units : ℕ) (cs : List ReducedCondition) (n : ℕ) (c : ReducedCondition) (old mid new : Program) → slice_get cs n ≡ Some c
+    → Extends (forms_of a units (take n cs)) old mid → Extends (form_of a units c ∷ []) mid new → Extends (forms_of a units (take (n + 1) cs)) old new
+extends-next a units cs n c old mid new e p q =
+    let next : suc n ≡ n + 1 = omega arith in
+    let more : take (n + 1) cs ≡ take n cs ++ c ∷ [] = ap (λ k. take k cs) (sym next) ∙ take-more cs n c e in
+    subst (λ fs. Extends fs old new) (sym (ap (forms_of a units) more ∙ map-append (form_of a units) (take n cs) (c ∷ [])))
+    (forms.extends-both (forms_of a units (take n cs)) (form_of a units c ∷ []) old mid new p q)
+
+pub extends-all : (a : SymmetricAuction) (units : ℕ) (cs : List ReducedCondition) (n : ℕ) (old new : Program) → n ≡ length cs → Extends (forms_of a units (take n cs)) old new → Extends (forms_of a units cs) old new
+extends-all a units cs n old new e p = subst (λ ds. Extends (forms_of a units ds) old new) (take_all n cs (omega (arith, e))) p
+
+-- room for the next condition
+pub room-next : (a : SymmetricAuction) (units : ℕ) (cs : List ReducedCondition) (n : ℕ) (old mid : Program) → n < length cs → HasRoom (forms_of a units cs) old → Extends (forms_of a units (take n cs)) old mid → row_count mid < 8192
+room-next a units cs n old mid below h p =
+    omega (
+      arith,
+      h.room,
+      below,
+      forms.grown (forms_of a units (take n cs)) old mid p,
+      length-map (take n cs) (form_of a units),
+      length-take-le n cs (omega (arith, below)),
+      length-map cs (form_of a units),
+    )
+
+pub columns-kept : (a : SymmetricAuction) (units : ℕ) (cs : List ReducedCondition) (old mid : Program) → Extends (forms_of a units cs) old mid → old.columns ≡ column_count a → mid.columns ≡ column_count a
+columns-kept a units cs old mid p e = forms.same_columns (forms_of a units cs) old mid p ∙ e
+
+-- a program with no row has room for all conditions
+pub whole-room : (a : SymmetricAuction) (units : ℕ) (cuts : List ℕ) (p : Program) → value_count a ≤ 12 → AreCuts (value_count a) cuts → p.rows ≡ [] → HasRoom (forms_of a units (conditions_of (value_count a) cuts)) p
+whole-room a units cuts p few are none = record {
+  room = omega (arith, ap length none, length-map (conditions_of (value_count a) cuts) (form_of a units), conditions-few (value_count a) cuts few are);
+}
+
+-- ---- all conditions
+
+pub each-row : (a : SymmetricAuction) (units : ℕ) (cuts : List ℕ) (p : Program) → IsReducedProgram a units cuts p → HasEachRow a units cuts p
+each-row a units cuts p is number condition e =
+    let cs = conditions_of (value_count a) cuts in
+    forms.each-row (column_count a) (forms_of a units cs) (cost_of a) p is number (form_of a units condition) (slice_get-map (form_of a units) cs number ∙ ap (option_map (form_of a units)) e)
+
+pub rows-count : (a : SymmetricAuction) (units : ℕ) (cuts : List ℕ) (p : Program) → IsReducedProgram a units cuts p → row_count p ≡ length (conditions_of (value_count a) cuts)
+rows-count a units cuts p is =
+    let cs = conditions_of (value_count a) cuts in
+    forms.rows-count (column_count a) (forms_of a units cs) (cost_of a) p is ∙ length-map cs (form_of a units)
+
+pub all-of : {X Y : Type 0} (P : Y → Type 0) (f : X → Y) (xs : List X) → All P (map f xs) → All (λ x. P (f x)) xs
+all-of P f xs h = λ k d b. subst P (get_or-map f xs k d (f d) b) (h k (f d) (omega (arith, b, length-map xs f)))
+
+pub meets-conditions : (a : SymmetricAuction) (units : ℕ) (cuts : List ℕ) (p : Program) → IsReducedProgram a units cuts p → MeetsByConditions a units cuts p
+meets-conditions a units cuts p is den x point =
+    let cs = conditions_of (value_count a) cuts in (
+      λ meets. all-of (Holds den x) (form_of a units) cs (meets-hold (column_count a) (forms_of a units cs) (cost_of a) p den x is meets),
+      λ kept. hold-meets (column_count a) (forms_of a units cs) (cost_of a) p den x is point (All-map (Holds den x) (form_of a units) cs kept),
+    )
+
+pub costs-points : (a : SymmetricAuction) (units : ℕ) (cuts : List ℕ) (p : Program) → IsReducedProgram a units cuts p → CostsPoints a p
+costs-points a units cuts p is x = is.has_cost.cost_is x

@@ -1,0 +1,7 @@
+pub mod Cuts
+pub mod Conditions
+pub mod Sides
+pub mod ProgramOf
+pub mod Names
+pub mod Costs
+pub mod Points
