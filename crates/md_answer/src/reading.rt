@@ -143,7 +143,7 @@ fn read_about(alloc: Global, bytes: &[u8], setting: &Setting) -> Result<Answer, 
 ///
 /// # Errors
 /// The first record that may not stand there, has a wrong field or does not add to what it must, that no end stands
-/// among the records, or want of memory.
+/// among the records, or that memory ran out.
 pub fn read_answer(alloc: Global, bytes: &[u8], file: &SettingFile) -> Result<Answer, AnswerRefusal>
     requires general { IsGeneral file.now }
     ensures reads { WhereGeneral (λ s. MatchResult result

@@ -82,7 +82,7 @@ fn push_inner(
 }
 
 // All records of an answer.
-fn rows_of(alloc: Global, setting: &Setting, answer: &Answer) -> Result<Vec<Row>, NoMemory>
+fn records_of(alloc: Global, setting: &Setting, answer: &Answer) -> Result<Vec<Row>, NoMemory>
     requires { IsAnswerTo setting.now answer.now }
     ensures rows { IfOk result (λ rows. rows.items ≡ answer_rows setting.now answer.now) }
     ensures places { IfOk result (λ _. HasPlaces answer.now) }
@@ -103,7 +103,7 @@ fn text_about(alloc: Global, setting: &Setting, answer: &Answer) -> Result<Vec<u
     ensures law { (a : Answer) → IsAnswerTo setting.now a → HasPlaces a → answer_of setting.now (text_of_answer setting.now a) ≡ Ok a }
 {
     let _few = setting.rows();
-    let rows = rows_of(alloc, setting, answer)?;
+    let rows = records_of(alloc, setting, answer)?;
     write_records(alloc, &rows)
 }
 

@@ -1,3 +1,4 @@
+//! The bound of a certificate: multipliers of a program's rows.
 use md_num::Nums;
 
 /// Multipliers of a program's rows, one of each list for each row.

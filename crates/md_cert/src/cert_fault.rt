@@ -1,3 +1,4 @@
+//! What is wrong with a certificate.
 use md_num::Frac;
 
 /// The first condition of a certificate that fails, with its numbers. Rows and columns are numbered from 0.

@@ -1,3 +1,4 @@
+//! Certificates of a linear program.
 use crate::bound::Bound;
 use md_num::Nums;
 

@@ -1,3 +1,4 @@
+//! The check of a certificate, condition by condition in their order.
 ghost use Rattle.std.specs.Prelude.{◌≡◌, length, ◌-◌, ◌^◌, ◌≤◌, ◌*ℤ◌, ◌↔◌, pos, IsNone, IfSome, IfNone, IsTrue, MatchOption};
 ghost use Rattle.md_math.specs.Lists.{number_at};
 ghost use Rattle.md_lp.specs.Point.{cost_sum, right_sum};

@@ -1,3 +1,4 @@
+//! The sums of a program's columns under multipliers, and the first column where they are wrong.
 ghost use Rattle.std.specs.Prelude.{◌≡◌, ◌+◌, ◌-◌, ◌^◌, ◌<◌, ◌≤◌, ℕ, pos, ◌-ℤ◌, ◌*ℤ◌, length, IfNone, MatchOption};
 ghost use Rattle.md_math.specs.FirstFailure.{HoldsBelow};
 ghost use Rattle.md_math.specs.Lists.{number_at};

@@ -1,3 +1,4 @@
+//! The signs of multipliers, and the first row where they are wrong.
 ghost use Rattle.std.specs.Prelude.{◌≡◌, MatchOption};
 ghost use Rattle.md_math.specs.Lists.{number_at};
 ghost use Rattle.md_cert.specs.Fault.{BreaksPair, BreaksFace, HasPairs, HasFaces};

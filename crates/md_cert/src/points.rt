@@ -1,3 +1,4 @@
+//! The rows of a program at a point, and the first that it breaks.
 ghost use Rattle.std.specs.Prelude.{◌<◌, MatchOption};
 ghost use Rattle.md_math.specs.Lists.{number_at};
 ghost use Rattle.md_lp.specs.Program.{row_count};

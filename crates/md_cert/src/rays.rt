@@ -1,3 +1,4 @@
+//! The rows of a program along a ray, and the first that it breaks.
 ghost use Rattle.std.specs.Prelude.{◌≡◌, MatchOption};
 ghost use Rattle.md_math.specs.Lists.{number_at};
 ghost use Rattle.md_cert.specs.Fault.{BreaksRay, HasRays};

@@ -1,3 +1,4 @@
+//! Comparisons by the kind of a row, and of pairs.
 ghost use Rattle.std.specs.Prelude.{◌≤ℤ◌, ◌<ℤ◌, ◌↔◌, pos, IsTrue};
 ghost use Rattle.md_lp.specs.Program.{Keeps};
 ghost use Rattle.md_math.specs.LexOrder.{IsPairNonNegative};

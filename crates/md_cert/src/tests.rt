@@ -1,3 +1,4 @@
+//! Certificates of small programs, and faults of each kind.
 ghost use Rattle.std.specs.Prelude.{◌≡◌, ◌-◌, ◌^◌, ◌≤◌, ◌≤ℤ◌, ◌↔◌, pos, length, IfOk, IsTrue, All};
 ghost use Rattle.md_math.specs.Sizes.{IsWithin};
 ghost use Rattle.md_cert.specs.Fitting.{FitsColumns, FitsRows, IsDenominator, FitsBound, Fits};

@@ -16,7 +16,7 @@ use Rattle.md_setting.specs.Meaning.{outcome_count, sizes_of}
 use Rattle.md_setting.specs.Rows.{row_count as rows_in}
 use Rattle.md_mech.specs.declared.mechanism.Mechanism.{Mechanism}
 use Rattle.md_mech.specs.Accepted.{IsAccepted}
-use Rattle.md_mech.specs.Rows.{rows_of}
+use Rattle.md_mech.specs.Rows.{conditions_of}
 use Rattle.md_lp.specs.Program.{Program}
 use Rattle.md_cert.specs.declared.bound.Bound.{Bound}
 use Rattle.md_cert.specs.Fitting.{FitsColumns, FitsRows, IsDenominator, Fits}
@@ -34,7 +34,7 @@ use Rattle.md_claims.specs.Certificates.{optimal_certificate, unbounded_certific
 
 pub fits-rows : (s : GeneralSetting) (p : Program) (numbers : List ℤ) → IsProgramOf s p → AreMultipliers (rows_in s) numbers → FitsRows p numbers
 fits-rows s p numbers is h = record {
-  one_each = h.one_each ∙ sym (conditions-length s) ∙ sym (rows-length s (rows_of s) p.rows is.rows);
+  one_each = h.one_each ∙ sym (conditions-length s) ∙ sym (rows-length s (conditions_of s) p.rows is.rows);
   sizes = h.sizes;
 }
 

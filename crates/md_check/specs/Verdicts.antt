@@ -18,7 +18,7 @@ use Rattle.md_mech.specs.declared.mechanism.Mechanism.{Mechanism}
 use Rattle.md_mech.specs.Admissible.{IsAdmissible}
 use Rattle.md_mech.specs.Optimal.{IsOptimal, IsInfeasible, Grows}
 use Rattle.md_mech.specs.Value.{HasValue}
-use Rattle.md_mech.specs.Rows.{IsFirstBroken, rows_of}
+use Rattle.md_mech.specs.Rows.{IsFirstBroken, conditions_of}
 use Rattle.md_lp.specs.Program.{Program}
 use Rattle.md_cert.specs.declared.bound.Bound.{Bound}
 use Rattle.md_cert.specs.declared.certificate.Certificate.TheVariants as certificate
@@ -40,12 +40,12 @@ pub record IsRightly (s : GeneralSetting) (m : Mechanism) (printed : Frac) : Typ
   pub value : HasValue s m printed
 
 abbrev pub IsOptimalVerdict : GeneralSetting → Frac → Mechanism → Bound → Verdict → Type 0
-IsOptimalVerdict s value m bound (Rejected (Audit broken)) = IsFirstBroken s m (rows_of s) 0 broken
+IsOptimalVerdict s value m bound (Rejected (Audit broken)) = IsFirstBroken s m (conditions_of s) 0 broken
 IsOptimalVerdict s value m bound (Rejected (Value right)) = IsAdmissible s m × IsOtherValue s m value right
 IsOptimalVerdict s value m bound verdict = IsRightly s m value × IsJudged s (optimal_certificate s m bound) verdict
 
 abbrev pub IsUnboundedVerdict : GeneralSetting → Mechanism → List ℤ → Verdict → Type 0
-IsUnboundedVerdict s m ray (Rejected (Audit broken)) = IsFirstBroken s m (rows_of s) 0 broken
+IsUnboundedVerdict s m ray (Rejected (Audit broken)) = IsFirstBroken s m (conditions_of s) 0 broken
 IsUnboundedVerdict s m ray verdict = IsAdmissible s m × IsJudged s (unbounded_certificate s m ray) verdict
 
 -- a table, and an answer that is too wide, claim nothing that could be checked

@@ -1,3 +1,4 @@
+//! Lists of counts of small auctions, their ranks and weights, and refusals.
 ghost use Rattle.std.specs.Prelude.{◌≤◌};
 
 use super::*;

@@ -1,3 +1,4 @@
+//! Flows through a net: what each node gives to each demand.
 ghost use Rattle.std.specs.Prelude.{◌≡◌, ℕ, ◌+◌, ◌-◌, ◌*◌, ◌/◌, ◌^◌, ◌<◌, ◌≤◌, pos, ◌+ℤ◌, ◌≤ℤ◌, neg_ℤ, unsigned_abs, length, replicate, IfOk, OnOk};
 ghost use Rattle.md_math.specs.Lists.{number_at};
 ghost use Rattle.md_flow.specs.Network.{IsNet, node_count, demand_count, cap_of, want_of};

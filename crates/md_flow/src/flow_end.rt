@@ -1,3 +1,4 @@
+//! What comes of a net.
 use md_num::Nums;
 
 /// What comes of a net. Amounts are listed by source node, and then by demand.

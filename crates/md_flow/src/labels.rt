@@ -1,3 +1,4 @@
+//! Labels of nodes and demands, which tell how far each is from a node with something left to give.
 ghost use Rattle.std.specs.Prelude.{◌≡◌, ◌≢◌, ℕ, ◌+◌, ◌<◌, ◌≤◌, ◌⊎◌, true, false, length, replicate, IfOk};
 ghost use Rattle.md_flow.specs.Network.{node_count, demand_count};
 ghost use Rattle.md_flow.specs.Tables.{flow_of};

@@ -1,3 +1,4 @@
+//! The search for a path along labels.
 ghost use Rattle.std.specs.Prelude.{◌≡◌, ◌≢◌, ℕ, ◌+◌, ◌*◌, ◌<◌, ◌≤◌, ℤ, pos, ◌<ℤ◌, ◌≤ℤ◌, ◌↔◌, IsTrue, true, false, ◌∷◌, [], ◌++◌, length, Ok, None, IfOk, IfSome, OnOk};
 ghost use Rattle.md_flow.specs.Network.{IsNet, node_count, demand_count, touches};
 ghost use Rattle.md_flow.specs.Tables.{flow_of};

@@ -1,3 +1,4 @@
+//! The greatest flow, path by path, and the set that is over its caps by most.
 ghost use Rattle.std.specs.Prelude.{◌≡◌, ℕ, ◌+◌, ◌-◌, ◌*◌, ◌^◌, ◌<◌, ◌≤◌, ◌⊎◌, ℤ, pos, ◌+ℤ◌, ◌-ℤ◌, ◌*ℤ◌, ◌<ℤ◌, ◌≤ℤ◌, true, false, length, Ok, None, Some, IfOk, IfSome, OnOk, List, ◌==◌};
 ghost use Rattle.md_flow.specs.Network.{IsNet, node_count, demand_count, want_sum};
 ghost use Rattle.md_math.specs.Sets.{member};

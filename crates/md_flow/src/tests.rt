@@ -1,3 +1,4 @@
+//! Small nets, with flows, worst sets and counts of steps.
 ghost use Rattle.std.specs.Prelude.{◌≡◌, ℕ, ◌+◌, ◌^◌, ◌<◌, ◌≤◌, pos, ◌≤ℤ◌, length, slice_index, IfOk};
 ghost use Rattle.md_math.specs.Lists.{number_at};
 ghost use Rattle.md_flow.specs.Network.{node_count, demand_count};

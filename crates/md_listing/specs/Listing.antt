@@ -5,7 +5,7 @@ use Rattle.md_math.specs.Lists.{up_to}
 use Rattle.md_num.specs.WholeText.{text_of}
 use Rattle.md_records.specs.Written.{text_of_records}
 use Rattle.md_setting.specs.Setting.{GeneralSetting}
-use Rattle.md_mech.specs.Rows.{rows_of}
+use Rattle.md_mech.specs.Rows.{conditions_of}
 use Rattle.md_mech.specs.RowName.{name_of}
 use Rattle.md_lp.specs.Program.{Program, row_count, kind_at, right_at, coefficient_at, cost_at}
 use Rattle.md_lp.specs.declared.row_kind.RowKind.{RowKind}
@@ -63,7 +63,7 @@ texts_of texts = map (λ text. text.items) texts
 
 -- the names of a setting's conditions, in their order
 abbrev pub names_of : GeneralSetting → List (List ℕ)
-names_of s = map (name_of s) (rows_of s)
+names_of s = map (name_of s) (conditions_of s)
 
 -- the text lists the program of the setting
 pub record IsListing (s : GeneralSetting) (text : List ℕ) : Type 0 where

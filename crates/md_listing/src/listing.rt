@@ -1,7 +1,7 @@
 //! The records of a program.
 ghost use Rattle.std.specs.Prelude.{◌≡◌, ◌++◌, ◌∷◌, [], ◌<◌, ◌≤◌, ℕ, IfOk, length, take, slice_get};
 ghost use Rattle.std.specs.Option.{ForSome};
-ghost use Rattle.md_mech.specs.Rows.{rows_of};
+ghost use Rattle.md_mech.specs.Rows.{conditions_of};
 ghost use Rattle.md_lp.specs.Program.{row_count};
 ghost use Rattle.md_listing.specs.Listing.{IsListing, cost_record, end_record, names_of, program_record, program_records, program_text, row_head, row_record, row_records, texts_of, word_of};
 
@@ -35,7 +35,7 @@ pub fn list_rows(alloc: Global, lp: &Lp, names: &[Vec<u8>]) -> Result<Vec<u8>, N
 
 // The names of a setting's conditions.
 fn names(alloc: Global, setting: &Setting, rows: u32) -> Result<Vec<Vec<u8>>, NoMemory>
-    requires { rows ≡ length (rows_of setting.now) }
+    requires { rows ≡ length (conditions_of setting.now) }
     ensures { IfOk result (λ names. texts_of names.items ≡ names_of setting.now) }
 {
     let mut names = Vec::new(alloc);

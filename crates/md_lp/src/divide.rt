@@ -1,3 +1,4 @@
+//! Division of a row and of a cost by its greatest common divisor.
 ghost use Rattle.std.specs.Prelude.{◌^◌, ◌<◌, All, ℤ, pos, ◌<ℤ◌, ℕ, ◌∷◌, length, map, IfOk};
 ghost use Rattle.md_math.specs.Divisors.{Divides, IsGcdOf};
 ghost use Rattle.md_math.specs.Lists.{number_at};

@@ -1,3 +1,4 @@
+//! Entries of a dictionary, as they are told.
 /// An entry of a dictionary with its place: `num` over the dictionary's denominator `den`.
 #[derive(Clone, Copy, Debug, PartialEq, Eq)]
 pub struct Entry {

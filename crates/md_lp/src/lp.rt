@@ -1,3 +1,4 @@
+//! Linear programs.
 ghost use Rattle.std.specs.Prelude.{◌≡◌, ◌+◌, ◌-◌, ◌^◌, ◌<◌, ◌≤◌, ◌↔◌, ◌⊎◌, length, All, pos, slice_index_or, IfOk, IfErr, OnOk, OnErr, IsErrOf};
 ghost use Rattle.md_math.specs.Sizes.{IsWithin, AllWithin};
 ghost use Rattle.md_math.specs.Lists.{number_at};

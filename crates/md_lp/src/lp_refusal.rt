@@ -1,3 +1,4 @@
+//! Why a cost or a row is refused.
 ghost use Rattle.std.specs.Prelude.{◌≡◌};
 ghost use Rattle.md_lp.specs.declared.lp_refusal.LpRefusal.TheVariants.{Memory};
 

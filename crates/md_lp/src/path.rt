@@ -1,3 +1,4 @@
+//! Lists of pivots.
 ghost use Rattle.std.specs.Prelude.{◌≡◌, ◌<◌, ◌↔◌, [], ◌∷◌, ◌++◌, length, slice_get, Some, IsTrue, OnOk, OnErr};
 
 use crate::pivot::Pivot;

@@ -1,3 +1,4 @@
+//! Pivots.
 /// A change of basis: the column enters at the row.
 #[derive(Clone, Copy, Debug, PartialEq, Eq)]
 pub struct Pivot {

@@ -1,3 +1,4 @@
+//! Where the terms of a row stand.
 ghost use Rattle.std.specs.Prelude.{◌≡◌, ◌^◌, ◌<◌, ◌↔◌, length, IsTrue, IfOk, IfErr, All};
 ghost use Rattle.md_math.specs.Sizes.{IsWithin};
 ghost use Rattle.md_lp.specs.Program.{value_of};

@@ -1,3 +1,4 @@
+//! The kinds of rows.
 /// What a row demands of its sum over the columns.
 #[derive(Clone, Copy, Debug, PartialEq, Eq)]
 pub enum RowKind {

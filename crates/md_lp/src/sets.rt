@@ -1,3 +1,4 @@
+//! Lists of sets of numbers below 32.
 ghost use Rattle.std.specs.Prelude.{◌≡◌, ◌<◌, ◌↔◌, [], ◌∷◌, ◌++◌, length, slice_index, IsTrue, OnOk, OnErr};
 
 use md_num::NoMemory;

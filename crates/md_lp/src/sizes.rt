@@ -1,3 +1,4 @@
+//! Which numbers a program may have.
 ghost use Rattle.std.specs.Prelude.{◌≡◌, ◌^◌, ◌↔◌, ◌∷◌, map, IsTrue, All};
 ghost use Rattle.md_math.specs.Sizes.{IsWithin, AllWithin};
 

@@ -1,3 +1,4 @@
+//! A row as a program keeps it.
 use crate::row_kind::RowKind;
 use crate::stored_term::StoredTerm;
 

@@ -1,3 +1,4 @@
+//! A term as a row keeps it, in one number.
 ghost use Rattle.std.specs.Prelude.{◌≡◌, ◌^◌, ◌<◌};
 ghost use Rattle.md_math.specs.Sizes.{IsWithin};
 ghost use Rattle.md_lp.specs.Stored.{kept_column, kept_value, shown_term};

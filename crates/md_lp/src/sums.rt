@@ -1,3 +1,4 @@
+//! Sums over the terms of a row, and over lists of numbers.
 ghost use Rattle.std.specs.Prelude.{◌≡◌, ℕ, pos, ◌+◌, ◌-◌, ◌*◌, ◌^◌, ◌<◌, ◌≤◌, ◌+ℤ◌, ◌*ℤ◌, length, unsigned_abs, All};
 ghost use Rattle.md_math.specs.Lists.{number_at};
 ghost use Rattle.md_math.specs.Sizes.{IsWithin, AllWithin};

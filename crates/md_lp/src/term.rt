@@ -1,3 +1,4 @@
+//! Terms of a row, as they are written.
 /// A coefficient of a row that is written down, at its column.
 #[derive(Clone, Copy, Debug, PartialEq, Eq)]
 pub struct Term {

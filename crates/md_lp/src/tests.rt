@@ -1,3 +1,4 @@
+//! Small programs: their rows, their division, and refusals.
 ghost use Rattle.std.specs.Prelude.{◌≡◌, length, IfOk};
 
 use super::*;

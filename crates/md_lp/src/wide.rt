@@ -1,3 +1,4 @@
+//! Where a path is left.
 use crate::entry::Entry;
 use crate::path::Path;
 

@@ -1,12 +1,20 @@
 -- Lists of different lengths, one after another, and sums of lists of natural numbers.
-use Rattle.std.proofs.Common.{◌≡◌, ℕ, zero, suc, ◌+◌, ◌-◌, ◌*◌, ◌<◌, ◌≤◌, List, ◌∷◌, ◌++◌, length, get_or, take, drop, sym, ap, ◌∙◌, arith, inl, inr, append_assoc, length-append}
+use Rattle.std.proofs.Common.{◌≡◌, ℕ, zero, suc, ◌+◌, ◌-◌, ◌*◌, ◌<◌, ◌≤◌, List, [], ◌∷◌, ◌++◌, length, get_or, take, drop, Some, sym, ap, ◌∙◌, arith, inl, inr, append_assoc, length-append}
+use Rattle.std.specs.Prelude.{slice_get}
 use Rattle.std.specs.List.{sum}
 use Rattle.std.proofs.lemmas.Bool.{cases_lt}
 use Rattle.std.proofs.lemmas.List.{get_or_append_left, get_or-append-add}
 use Rattle.std.proofs.lemmas.List.Sums.{sum_by-cons}
+use Rattle.std.proofs.lemmas.Option.{none-some}
 use Rattle.std.proofs.Math.Seq.{drop-append_seam, take-append_seam}
 use Rattle.md_math.specs.Lists.{up_to}
 use Rattle.md_math.proofs.Builders.{up_to-split, length-up_to}
+
+-- the first n + 1 of a list are the first n, and the one behind them
+pub take-more : {X : Type 0} → (xs : List X) (n : ℕ) (x : X) → slice_get xs n ≡ Some x → take (suc n) xs ≡ take n xs ++ x ∷ []
+take-more [] n x e = absurd (none-some x e)
+take-more (a ∷ xs) zero x e = (let same : a ≡ x = cc in ap (λ y. y ∷ []) same)
+take-more (a ∷ xs) (suc n) x e = ap (λ ys. a ∷ ys) (take-more xs n x e)
 
 -- the place r of the list x
 pub get_or-up_to_at : {X : Type 0} → (n x r : ℕ) (f : ℕ → List X) (d : X) → x < n → r < length (f x) → get_or (up_to n f) (length (up_to x f) + r) d ≡ get_or (f x) r d

@@ -1,5 +1,5 @@
 -- The laws of sums and products of signed numbers.
-use Rattle.std.proofs.Common.{◌≡◌, ℕ, ◌+◌, ◌*◌, ℤ, pos, ◌+ℤ◌, ◌*ℤ◌, neg_ℤ, refl, sym, ap, ◌∙◌, arith}
+use Rattle.std.proofs.Common.{◌≡◌, ℕ, ◌+◌, ◌*◌, ℤ, pos, ◌+ℤ◌, ◌-ℤ◌, ◌*ℤ◌, neg_ℤ, refl, sym, ap, ◌∙◌, arith}
 use lib.IntN.{*ℤ_comm}
 use lib.IntN as IntN
 use borrow.Author.Differences.{up, down, same_out, same_in, Apart-out, lt_out, le_out, below_in, at_most_in, sum_is_lem, neg_is, product_is}
@@ -64,3 +64,10 @@ pub ruleset linear = (same_out, Apart-out, lt_out, le_out, same_in, below_in, at
 
 -- the laws of a ring for `simp`, which multiplies out and orders each product: `simp ring (omega (arith, linear))`
 pub ruleset ring = (*ℤ-+ℤ, +ℤ-*ℤ, *ℤ-neg_ℤ, neg_ℤ-*ℤ, *ℤ_assoc, *ℤ_comm, *ℤ_left_comm, zero-*ℤ, *ℤ-zero, one-*ℤ, *ℤ-one)
+
+-- a product with the two parts of a difference, the second one by its sign
+pub both-parts : (w v p m : ℤ) → (pos 1 *ℤ (w *ℤ v)) *ℤ p +ℤ (neg_ℤ (pos 1) *ℤ (w *ℤ v)) *ℤ m ≡ w *ℤ (v *ℤ (p -ℤ m))
+both-parts w v p m =
+    let second : neg_ℤ (pos 1) *ℤ (w *ℤ v) ≡ neg_ℤ (w *ℤ v) = neg_ℤ-*ℤ (pos 1) (w *ℤ v) ∙ ap neg_ℤ (one-*ℤ (w *ℤ v)) in
+    let whole : w *ℤ (v *ℤ (p -ℤ m)) ≡ (w *ℤ v) *ℤ (p -ℤ m) = sym (*ℤ_assoc w v (p -ℤ m)) in
+    rw (one-*ℤ (w *ℤ v), second, whole) (omega (arith, linear, neg_ℤ-*ℤ (w *ℤ v) m, *ℤ-+ℤ (w *ℤ v) p (neg_ℤ m), *ℤ-neg_ℤ (w *ℤ v) m))

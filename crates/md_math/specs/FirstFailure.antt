@@ -10,9 +10,3 @@ pub record IsFirstFailure (n : ℕ) (C : ℕ → Type 0) (k : ℕ) : Type 0 wher
   pub below : k < n
   pub fails : ¬ C k
   pub before : HoldsBelow k C
-
--- k is the first place below n where P holds
-pub record IsFirstWhere (n : ℕ) (P : ℕ → Type 0) (k : ℕ) : Type 0 where
-  pub below : k < n
-  pub holds : P k
-  pub before : (j : ℕ) → j < k → ¬ P j

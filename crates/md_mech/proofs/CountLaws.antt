@@ -15,7 +15,7 @@ use Rattle.md_setting.specs.declared.kinds.Rational.TheVariants.{None as Free, E
 use Rattle.md_setting.specs.Setting.{GeneralSetting}
 use Rattle.md_setting.specs.Meaning.{agent_count, sizes_of}
 use Rattle.md_setting.specs.Rows.{truth_rows as truth_count, rational_rows as rational_count, deficit_rows as deficit_count, row_count}
-use Rattle.md_mech.specs.Rows.{Condition, dominant_row, bayes_row, dominant_rows_at, dominant_rows, bayes_rows_at, bayes_rows, ex_post_row, interim_row, deficit_row, profile_row, unless_true, by_report, by_profile, by_agent, truth_rows, rational_rows, deficit_rows, demand_rows, rows_of}
+use Rattle.md_mech.specs.Rows.{Condition, dominant_row, bayes_row, dominant_rows_at, dominant_rows, bayes_rows_at, bayes_rows, ex_post_row, interim_row, deficit_row, profile_row, unless_true, by_report, by_profile, by_agent, truth_rows, rational_rows, deficit_rows, demand_rows, conditions_of}
 
 -- ---- false reports
 
@@ -96,7 +96,7 @@ pub deficit-length : (on : Bool) (s : GeneralSetting) → length (deficit_rows o
 deficit-length true s = singles (profile_count (sizes_of s)) (λ r. deficit_row (profile_at (sizes_of s) r))
 deficit-length false s = refl
 
-pub conditions-length : (s : GeneralSetting) → length (rows_of s) ≡ row_count s
+pub conditions-length : (s : GeneralSetting) → length (conditions_of s) ≡ row_count s
 conditions-length s =
     length-append (demand_rows s) (by_profile s (λ t. profile_row t ∷ []))
     ∙ omega (

@@ -25,7 +25,7 @@ use Rattle.md_mech.specs.Utility.{expected_utility, weighted_given}
 use Rattle.md_mech.specs.Truth.{IsTruthfulBy, IsDominantTruth, IsBayesTruth}
 use Rattle.md_mech.specs.Rationality.{IsRationalBy, HasNoDeficit}
 use Rattle.md_mech.specs.Admissible.{IsAdmissible}
-use Rattle.md_mech.specs.Rows.{dominant_row, bayes_row, ex_post_row, interim_row, deficit_row, profile_row, IsKept, IsFirstBroken, by_report, by_profile, by_type, truth_rows, rational_rows, deficit_rows, rows_of, left_of}
+use Rattle.md_mech.specs.Rows.{dominant_row, bayes_row, ex_post_row, interim_row, deficit_row, profile_row, IsKept, IsFirstBroken, by_report, by_profile, by_type, truth_rows, rational_rows, deficit_rows, conditions_of, left_of}
 
 -- what holds of the rows of each profile holds at each profile
 pub by_profile-at : {X : Type 0} (s : GeneralSetting) (P : X → Type 0) (f : List ℕ → List X) (t : List ℕ)
@@ -156,7 +156,7 @@ profiles-kept s m mechanism =
     (λ t profile. all-one (IsKept s m) (profile_row t) (le_from_same m.den (left_of s m (profile_row t)) (sym (mechanism.whole t profile))))
 
 -- each row of an admissible mechanism is kept
-pub admissible-kept : (s : GeneralSetting) (m : Mechanism) → IsAdmissible s m → All (IsKept s m) (rows_of s)
+pub admissible-kept : (s : GeneralSetting) (m : Mechanism) → IsAdmissible s m → All (IsKept s m) (conditions_of s)
 admissible-kept s m admissible =
     All-append (IsKept s m) (truth_rows s.truth s ++ rational_rows s.rational s ++ deficit_rows s.no_deficit s) (by_profile s (λ t. profile_row t ∷ []))
     (All-append (IsKept s m) (truth_rows s.truth s ++ rational_rows s.rational s) (deficit_rows s.no_deficit s)
@@ -166,7 +166,7 @@ admissible-kept s m admissible =
     (profiles-kept s m admissible.mechanism)
 
 -- a mechanism that keeps each row is admissible
-pub kept-admissible : (s : GeneralSetting) (m : Mechanism) → IsMechanism s m → All (IsKept s m) (rows_of s) → IsAdmissible s m
+pub kept-admissible : (s : GeneralSetting) (m : Mechanism) → IsMechanism s m → All (IsKept s m) (conditions_of s) → IsAdmissible s m
 kept-admissible s m mechanism all =
     let demands = All-left (IsKept s m) (truth_rows s.truth s ++ rational_rows s.rational s ++ deficit_rows s.no_deficit s) (by_profile s (λ t. profile_row t ∷ [])) all in
     let first = All-left (IsKept s m) (truth_rows s.truth s ++ rational_rows s.rational s) (deficit_rows s.no_deficit s) demands in
@@ -182,7 +182,7 @@ lt-not_le a b less atmost = omega (arith, ints)
 
 -- a mechanism that breaks a row is not admissible
 pub broken-not_admissible : (s : GeneralSetting) (m : Mechanism) (start : ℕ) (broken : Broken)
-    → IsFirstBroken s m (rows_of s) start broken → ¬ IsAdmissible s m
+    → IsFirstBroken s m (conditions_of s) start broken → ¬ IsAdmissible s m
 broken-not_admissible s m start broken first admissible =
     let all : All (IsKept s m) (first.before ++ first.row ∷ first.after) = subst (All (IsKept s m)) first.parts (admissible-kept s m admissible) in
     let kept : IsKept s m first.row = All-right (IsKept s m) first.before (first.row ∷ first.after) all 0 first.row (omega arith) in

@@ -113,8 +113,8 @@ abbrev pub demand_rows : GeneralSetting → List Condition
 demand_rows s = truth_rows s.truth s ++ rational_rows s.rational s ++ deficit_rows s.no_deficit s
 
 -- all conditions, in their order
-abbrev pub rows_of : GeneralSetting → List Condition
-rows_of s = demand_rows s ++ by_profile s (λ t. profile_row t ∷ [])
+abbrev pub conditions_of : GeneralSetting → List Condition
+conditions_of s = demand_rows s ++ by_profile s (λ t. profile_row t ∷ [])
 
 -- Of some rows, the first of which has the number start, the one that is named is the first that is not kept, and
 -- both its sides are given.

@@ -4,7 +4,7 @@ ghost use Rattle.md_space.specs.Profiles.{profile_count, profile_at};
 ghost use Rattle.md_setting.specs.Meaning.{agent_count, sizes_of};
 ghost use Rattle.md_mech.specs.Accepted.{IsAccepted};
 ghost use Rattle.md_mech.specs.Admissible.{IsAdmissible};
-ghost use Rattle.md_mech.specs.Rows.{IsFirstBroken, rows_of, dominant_row, ex_post_row};
+ghost use Rattle.md_mech.specs.Rows.{IsFirstBroken, conditions_of, dominant_row, ex_post_row};
 ghost use Rattle.md_mech.specs.Conditions.{IsInside, named};
 ghost use Rattle.md_mech.specs.Tried.{IsCompared, IsTried};
 
@@ -18,7 +18,7 @@ use md_setting::Setting;
 pub fn audit(setting: &Setting, mechanism: &Mechanism) -> Option<Broken>
     requires { IsAccepted setting.now mechanism.now }
     ensures admissible { IsNone result ↔ IsAdmissible setting.now mechanism.now }
-    ensures broken { IfSome result (IsFirstBroken setting.now mechanism.now (rows_of setting.now) 0) }
+    ensures broken { IfSome result (IsFirstBroken setting.now mechanism.now (conditions_of setting.now) 0) }
 {
     for row in 0..setting.rows() {
         let condition = condition_at(setting, row);

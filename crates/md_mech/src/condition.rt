@@ -4,7 +4,7 @@ ghost use Rattle.md_space.specs.Profiles.{profile_count, profile_at};
 ghost use Rattle.md_setting.specs.declared.kinds.Truth.TheVariants.{Dominant, Bayes};
 ghost use Rattle.md_setting.specs.declared.kinds.Rational.TheVariants.{ExPost, Interim};
 ghost use Rattle.md_setting.specs.Meaning.{agent_count, sizes_of};
-ghost use Rattle.md_mech.specs.Rows.{rows_of, dominant_rows, bayes_rows, truth_rows, rational_rows, deficit_rows};
+ghost use Rattle.md_mech.specs.Rows.{conditions_of, dominant_rows, bayes_rows, truth_rows, rational_rows, deficit_rows};
 ghost use Rattle.md_mech.specs.Conditions.{IsLocated, IsAt, IsFalseReport};
 
 use md_setting::{Rational, Setting, Truth};
@@ -59,8 +59,8 @@ pub enum Condition {
 /// The condition of a row of the setting's linear program. It takes no memory.
 #[tactic(auto, using(crate::proofs::ConditionLaws::places))]
 pub fn condition_at(setting: &Setting, row: u32) -> Condition
-    requires { row < length (rows_of setting.now) }
-    ensures { IsAt setting.now (rows_of setting.now) row result }
+    requires { row < length (conditions_of setting.now) }
+    ensures { IsAt setting.now (conditions_of setting.now) row result }
 {
     let rest = match truth_condition(setting, row) {
         Ok(condition) => return condition,

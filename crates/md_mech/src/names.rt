@@ -3,7 +3,7 @@ ghost use Rattle.std.specs.Prelude.{◌≡◌, ◌<◌, ◌∷◌, ◌++◌, [],
 ghost use Rattle.std.specs.Option.{ForSome};
 ghost use Rattle.md_space.specs.Profiles.{profile_count, profile_at, IsProfile};
 ghost use Rattle.md_setting.specs.Meaning.{agent_count, sizes_of};
-ghost use Rattle.md_mech.specs.Rows.{rows_of};
+ghost use Rattle.md_mech.specs.Rows.{conditions_of};
 ghost use Rattle.md_mech.specs.Conditions.{named, IsInside};
 ghost use Rattle.md_mech.specs.RowName.{agent_name, type_name, profile_name, name_of};
 
@@ -15,8 +15,8 @@ use std::alloc::Global;
 /// The name of a row of the setting's linear program: the kind of the condition, then the agent, types, report
 /// and profile that it speaks of, joined by slashes.
 pub fn row_name(alloc: Global, setting: &Setting, row: u32) -> Result<Vec<u8>, NoMemory>
-    requires { row < length (rows_of setting.now) }
-    ensures { IfOk result (λ name. ForSome (slice_get (rows_of setting.now) row) (λ r. name.items ≡ name_of setting.now r)) }
+    requires { row < length (conditions_of setting.now) }
+    ensures { IfOk result (λ name. ForSome (slice_get (conditions_of setting.now) row) (λ r. name.items ≡ name_of setting.now r)) }
 {
     name(alloc, setting, condition_at(setting, row))
 }

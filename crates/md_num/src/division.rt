@@ -1,3 +1,4 @@
+//! Greatest common divisors.
 ghost use Rattle.std.specs.Prelude.{◌≡◌, ◌^◌, ◌<◌, ◌≤◌, pos, ◌*ℤ◌, ◌<ℤ◌, unsigned_abs};
 ghost use Rattle.std.specs.Int.{IsGcd};
 ghost use Rattle.md_math.specs.Divisors.{Divides, IsGcdOfTwo};

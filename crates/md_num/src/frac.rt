@@ -1,3 +1,4 @@
+//! Fractions, and their order.
 ghost use Rattle.std.specs.Prelude.{◌≡◌, ℤ, ◌^◌, ◌*◌, ◌<◌, ◌≤◌, ◌↔◌, IsTrue, pos, ◌*ℤ◌, ◌≤ℤ◌, ◌<ℤ◌, unsigned_abs};
 ghost use Rattle.md_math.specs.Divisors.{IsLeastTerms};
 

@@ -1,3 +1,4 @@
+//! The error of calls that take memory.
 use std::alloc::{AllocError, AllocFailed};
 use thiserror::Error;
 

@@ -1,3 +1,4 @@
+//! Lists of whole numbers.
 ghost use Rattle.std.specs.Prelude.{◌≡◌, ℕ, ℤ, pos, ◌<◌, ◌↔◌, [], ◌∷◌, ◌++◌, length, slice_index_or, IsTrue, IfOk, OnOk, OnErr};
 
 use crate::no_memory::NoMemory;

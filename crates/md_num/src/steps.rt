@@ -1,3 +1,4 @@
+//! Steps of arithmetic whose results are known to fit.
 ghost use Rattle.std.specs.Prelude.{◌≡◌, ◌+◌, ◌*◌, ◌^◌, ◌<◌, ◌≤◌, ◌+ℤ◌, ◌-ℤ◌, ◌*ℤ◌, unsigned_abs};
 
 /// The product of two numbers.

@@ -1,3 +1,4 @@
+//! Whole numbers, read from a text and written as one.
 ghost use Rattle.std.specs.Prelude.{◌≡◌, ◌^◌, ◌<◌, ◌≤◌, ℤ, ◌++◌, IfOk, OnOk, OnErr, Ok, SomeIff, true, unsigned_abs, ◌==◌, slice_index, if◌then◌else◌, neg_ℤ, pos};
 ghost use Rattle.std.specs.List.{list_all};
 ghost use Rattle.std.specs.Char.{is_ascii_digit};

@@ -1,3 +1,4 @@
+//! Widths in bits.
 ghost use Rattle.std.specs.Prelude.{◌≡◌, ◌-◌, ◌^◌, ◌≤◌, ◌↔◌, pos, SomeIff, IsTrue};
 ghost use Rattle.md_math.specs.Sizes.{IsWithin};
 ghost use Rattle.md_num.specs.Limits.{limit_of};

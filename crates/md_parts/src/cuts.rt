@@ -38,7 +38,7 @@ fn read_cut(reader: &mut Reader, kinds: u32, before: &[u32]) -> Result<u32, Answ
 /// The records of cuts, as many as there are: sets of so many kinds of values. None is empty, and none comes twice.
 ///
 /// # Errors
-/// The first record that is no such set, or want of memory.
+/// The first record that is no such set, or that memory ran out.
 pub fn read_cuts(alloc: Global, reader: &mut Reader, kinds: u32) -> Result<Sets, AnswerRefusal>
     requires { kinds ≤ 12 }
     ensures read { MatchResult result

@@ -236,7 +236,7 @@ impl Fields {
     /// The next fields must be so many numbers in a range, which are added to a list. Answers what they add to.
     ///
     /// # Errors
-    /// The first field that is no such number, or want of memory.
+    /// The first field that is no such number, or that memory ran out.
     pub fn numbers(
         &mut self,
         count: usize,
@@ -284,7 +284,7 @@ impl Fields {
     /// they add to, but one more than a limit where that is more than the limit.
     ///
     /// # Errors
-    /// The first field that is no such amount, or want of memory.
+    /// The first field that is no such amount, or that memory ran out.
     pub fn amounts(
         &mut self,
         mosts: &[u128],

@@ -52,7 +52,7 @@ fn stand(
 /// which answer it is. In the second version only the word `toowide` stands.
 ///
 /// # Errors
-/// The first record that may not stand there or has a wrong field, or want of memory.
+/// The first record that may not stand there or has a wrong field, or that memory ran out.
 pub fn read_first(reader: &mut Reader, kind: &str, words: &[&str]) -> Result<Head, AnswerRefusal>
     ensures read { MatchResult result
         (λ head. first_of kind.now (map (λ w. w.now) words.now) reader.old ≡ Ok (head, reader.new))

@@ -14,7 +14,7 @@ use std::alloc::Global;
 /// The end, after which nothing follows.
 ///
 /// # Errors
-/// The first record that may not stand there or has a wrong field, or want of memory.
+/// The first record that may not stand there or has a wrong field, or that memory ran out.
 pub fn read_last(reader: &mut Reader) -> Result<(), AnswerRefusal>
     ensures { MatchResult result
         (λ _. read_end reader.old ≡ Ok (tt, reader.new))

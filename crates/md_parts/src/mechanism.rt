@@ -126,7 +126,7 @@ fn zeros(alloc: Global, count: usize) -> Result<Nums, AnswerRefusal>
 /// What is paid at all profiles, in records that begin with a word and stand exactly where payments are on.
 ///
 /// # Errors
-/// The first record that may not stand there or has a wrong field, or want of memory.
+/// The first record that may not stand there or has a wrong field, or that memory ran out.
 #[tactic(auto, using(crate::proofs::PartsRead::known))]
 pub fn read_pays(
     alloc: Global,
@@ -149,7 +149,7 @@ pub fn read_pays(
 /// The records of a mechanism.
 ///
 /// # Errors
-/// The first record that may not stand there or has a wrong field, or want of memory.
+/// The first record that may not stand there or has a wrong field, or that memory ran out.
 #[tactic(auto, using(crate::proofs::PartsRead::known))]
 pub fn read_mechanism(
     alloc: Global,

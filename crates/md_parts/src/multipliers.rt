@@ -120,7 +120,7 @@ fn read_rows(
 /// The face multipliers alone.
 ///
 /// # Errors
-/// The first record that may not stand there or has a wrong field, or want of memory.
+/// The first record that may not stand there or has a wrong field, or that memory ran out.
 #[tactic(auto, using(crate::proofs::PartsRead::known))]
 pub fn read_face(alloc: Global, reader: &mut Reader, rows: u32) -> Result<Nums, AnswerRefusal>
     ensures read { MatchResult result
@@ -145,7 +145,7 @@ fn read_bound_denominator(reader: &mut Reader) -> Result<i128, AnswerRefusal>
 /// Both kinds of multipliers.
 ///
 /// # Errors
-/// The first record that may not stand there or has a wrong field, or want of memory.
+/// The first record that may not stand there or has a wrong field, or that memory ran out.
 #[tactic(auto, using(crate::proofs::PartsRead::known))]
 pub fn read_bound(alloc: Global, reader: &mut Reader, rows: u32) -> Result<Bound, AnswerRefusal>
     ensures read { MatchResult result

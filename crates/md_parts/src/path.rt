@@ -31,7 +31,7 @@ fn read_pivot(reader: &mut Reader) -> Result<Pivot, AnswerRefusal>
 /// The records of pivots, as many as there are.
 ///
 /// # Errors
-/// The first record that may not stand there or has a wrong field, or want of memory.
+/// The first record that may not stand there or has a wrong field, or that memory ran out.
 #[tactic(auto, using(crate::proofs::PartsRead::known))]
 pub fn read_path(alloc: Global, reader: &mut Reader) -> Result<Path, AnswerRefusal>
     ensures read { MatchResult result
@@ -50,7 +50,7 @@ pub fn read_path(alloc: Global, reader: &mut Reader) -> Result<Path, AnswerRefus
 /// The record of an entry with its place and its denominator.
 ///
 /// # Errors
-/// The first record that may not stand there or has a wrong field, or want of memory.
+/// The first record that may not stand there or has a wrong field, or that memory ran out.
 #[tactic(auto, using(crate::proofs::PartsRead::known))]
 pub fn read_entry(reader: &mut Reader) -> Result<Entry, AnswerRefusal>
     ensures read { MatchResult result
@@ -72,7 +72,7 @@ pub fn read_entry(reader: &mut Reader) -> Result<Entry, AnswerRefusal>
 /// The records of a path, and of the entry at its end.
 ///
 /// # Errors
-/// The first record that may not stand there or has a wrong field, or want of memory.
+/// The first record that may not stand there or has a wrong field, or that memory ran out.
 #[tactic(auto, using(crate::proofs::PartsRead::known))]
 pub fn read_wide(alloc: Global, reader: &mut Reader) -> Result<Wide, AnswerRefusal>
     ensures read { MatchResult result
@@ -88,7 +88,7 @@ pub fn read_wide(alloc: Global, reader: &mut Reader) -> Result<Wide, AnswerRefus
 /// The part about the second path, which stands in the second version.
 ///
 /// # Errors
-/// The first record that may not stand there or has a wrong field, or want of memory.
+/// The first record that may not stand there or has a wrong field, or that memory ran out.
 #[tactic(auto, using(crate::proofs::PartsRead::known))]
 pub fn read_second(
     alloc: Global,

@@ -80,7 +80,7 @@ impl<'a> Reader<'a> {
     /// The next record, which must begin with a word and have so many fields after it.
     ///
     /// # Errors
-    /// No record is left, the next one is another or has another number of fields, or want of memory.
+    /// No record is left, the next one is another or has another number of fields, or that memory ran out.
     pub fn next(&mut self, word: &str, count: usize) -> Result<Fields, AnswerRefusal>
         ensures { MatchResult result
             (λ fields. record_with word.now count self.old ≡ Ok (fields, self.new))

@@ -16,7 +16,7 @@ use std::alloc::Global;
 /// The value of a mechanism.
 ///
 /// # Errors
-/// The first record that may not stand there or has a wrong field, or want of memory.
+/// The first record that may not stand there or has a wrong field, or that memory ran out.
 #[tactic(auto, using(crate::proofs::PartsRead::known))]
 pub fn read_value(reader: &mut Reader) -> Result<Frac, AnswerRefusal>
     ensures read { MatchResult result

@@ -1,3 +1,4 @@
+//! A shelf in memory whose reads never fail.
 // A shelf in memory that never fails.
 ghost use Rattle.std.specs.Prelude.{◌≡◌, ◌≢◌, ◌≤◌, ◌+◌, [], ℕ, List, take, vec_len, IsErrOf, IfOk, OnOk, OnErr};
 

@@ -1,3 +1,4 @@
+//! A sink in memory whose writes never fail.
 // A sink in memory that never fails.
 ghost use Rattle.std.specs.Prelude.{◌≡◌, ◌≤◌, [], Some, None, vec_len, vec_capacity, IsOk, IfOk};
 ghost use Rattle.std.specs.Option.{ForSome};

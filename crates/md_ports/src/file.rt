@@ -1,3 +1,4 @@
+//! A file of a shelf in memory.
 // A file in memory, under its name.
 ghost use Rattle.std.specs.Prelude.{◌≡◌, ◌≢◌, ◌+◌, ◌^◌, ◌-◌, ◌<◌, ◌≤◌, ◌++◌, ◌∷◌, [], Some, ℕ, List, position, vec_len, string_bytes, MatchOption, MatchBool, IfOk, IsErrOf, option_map, length, take};
 

@@ -1,3 +1,4 @@
+//! A shelf in memory whose reads fail where that is asked for.
 // A shelf in memory that can be told to fail.
 ghost use Rattle.std.specs.Prelude.{◌≡◌, ◌≢◌, ◌≤◌, ◌+◌, ◌⊎◌, ◌↔◌, ◌++◌, ◌∷◌, [], ℕ, List, Some, None, min, take, length, vec_len, IsTrue, IsErrOf, IfOk, OnOk, OnErr, option_map};
 ghost use Rattle.std.specs.Option.{ForSome};

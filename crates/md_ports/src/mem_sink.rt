@@ -1,3 +1,4 @@
+//! A sink in memory whose writes fail where that is asked for.
 // A sink in memory that can be told to fail.
 ghost use Rattle.std.specs.Prelude.{◌≡◌, ◌≢◌, ◌≤◌, ◌<◌, ◌+◌, ◌⊎◌, ◌↔◌, ◌++◌, [], ℕ, Some, None, min, take, length, vec_len, vec_capacity, IsSome, IsErr, IfOk, OnOk, OnErr};
 

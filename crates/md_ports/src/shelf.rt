@@ -1,3 +1,4 @@
+//! Shelves: where files are read from by name.
 // Where files are read from.
 ghost use Rattle.std.specs.Prelude.{◌≡◌, ◌≤◌, ◌+◌, ℕ, List, Option, take, vec_len, IfOk, OnOk, IsErrOf};
 ghost use Rattle.std.specs.Option.{ForSome};

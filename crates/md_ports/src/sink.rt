@@ -1,3 +1,4 @@
+//! Sinks: where bytes are appended.
 // Where texts are written to.
 ghost use Rattle.std.specs.Prelude.{◌≡◌, ◌≤◌, ◌++◌, ℕ, List, Option, OnOk, OnErr, IsErr};
 ghost use Rattle.std.specs.Option.{ForSome};

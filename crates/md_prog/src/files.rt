@@ -11,7 +11,7 @@ use std::rt::Files;
 const CHUNK: usize = 8192;
 
 /// The files of the system, by their paths. A path that does not exist is a fault, as any error of the system is
-/// but want of memory. It tells nothing of what files hold, and one count of faults serves all names.
+/// but running out of memory. It tells nothing of what files hold, and one count of faults serves all names.
 #[derive(Drop)]
 pub struct FileShelf<R: Files + Drop> {
     files: R,

@@ -1,3 +1,4 @@
+//! A record that was read.
 // A record that was read.
 ghost use Rattle.std.specs.Prelude.{◌≡◌, ◌≤◌, ◌==◌, ◌↔◌, Some, length, slice_get, option_map, IsTrue};
 ghost use Rattle.md_records.specs.Numbers.{number_at};

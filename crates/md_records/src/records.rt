@@ -1,3 +1,4 @@
+//! The records of a text, one after another.
 // The records of a text, one after the other.
 ghost use Rattle.std.specs.Prelude.{◌≡◌, [], ◌∷◌, ◌≤◌, length, MatchOption, IfOk, OnErr};
 ghost use Rattle.md_records.specs.Text.{records_of};

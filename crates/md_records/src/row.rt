@@ -1,3 +1,4 @@
+//! A record to be written.
 // A record to be written.
 ghost use Rattle.std.specs.Prelude.{◌≡◌, [], ◌∷◌, ◌++◌, IfOk};
 ghost use Rattle.md_num.specs.WholeText.{text_of};

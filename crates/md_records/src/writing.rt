@@ -1,3 +1,4 @@
+//! Records, written as a text.
 // Records as one text.
 ghost use Rattle.std.specs.Prelude.{◌≡◌, IfOk};
 ghost use Rattle.md_records.specs.Text.{records_of};

@@ -4,6 +4,7 @@ use Rattle.std.specs.Prelude.{slice_get, option_map}
 use Rattle.std.proofs.lemmas.List.{length-map, map-append, get_or-map, take_all, length-take-le}
 use Rattle.std.proofs.lemmas.List.Elements.{All-map}
 use Rattle.std.proofs.lemmas.Option.{none-some, slice_get-map}
+use Rattle.md_math.proofs.ListLaws.{take-more}
 use Rattle.md_setting.specs.Auction.{SymmetricAuction, value_count}
 use Rattle.md_lp.specs.Program.{Program, row_count}
 use Rattle.md_forms.specs.Forms.{Holds}
@@ -18,12 +19,6 @@ use Rattle.md_reduced.specs.ProgramOf.{column_count, form_of, forms_of, IsReduce
 use Rattle.md_reduced.proofs.ConditionLaws.{conditions-few}
 
 -- ---- growing
-
--- the first n + 1 of some conditions are the first n, and the one behind them
-take-more : {X : Type 0} → (xs : List X) (n : ℕ) (x : X) → slice_get xs n ≡ Some x → take (suc n) xs ≡ take n xs ++ x ∷ []
-take-more [] n x e = absurd (none-some x e)
-take-more (a ∷ xs) zero x e = (let same : a ≡ x = cc in ap (λ y. y ∷ []) same)
-take-more (a ∷ xs) (suc n) x e = ap (λ ys. a ∷ ys) (take-more xs n x e)
 
 pub extends-next : (a : SymmetricAuction) (units : ℕ) (cs : List ReducedCondition) (n : ℕ) (c : ReducedCondition) (old mid new : Program) → slice_get cs n ≡ Some c
     → Extends (forms_of a units (take n cs)) old mid → Extends (form_of a units c ∷ []) mid new → Extends (forms_of a units (take (n + 1) cs)) old new

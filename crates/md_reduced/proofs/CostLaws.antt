@@ -7,7 +7,7 @@ use Rattle.md_math.specs.Lists.{number_at}
 use Rattle.md_math.specs.Sizes.{IsWithin, AllWithin}
 use Rattle.md_math.specs.Sums.{sum_to, dot}
 use Rattle.md_math.proofs.Builders.{length-list_to, get_or-list_to, All-list_to, number_at-behind}
-use Rattle.md_math.proofs.Ring.{linear, *ℤ-+ℤ, *ℤ-neg_ℤ, neg_ℤ-*ℤ, *ℤ_assoc, one-*ℤ}
+use Rattle.md_math.proofs.Ring.{linear, *ℤ-+ℤ, *ℤ-neg_ℤ, neg_ℤ-*ℤ, *ℤ_assoc, one-*ℤ, both-parts}
 use Rattle.md_math.proofs.SizeLaws.{IsWithin-*ℤ, IsWithin-wider}
 use Rattle.md_math.proofs.SumLaws.{sum_to-same, sum_to-+ℤ, sum_to-join}
 use Rattle.md_setting.specs.Auction.{SymmetricAuction, value_count}
@@ -56,12 +56,6 @@ minus-number a v h =
     ∙ get_or-list_to (value_count a) (pay_cost a (neg_ℤ (pos 1))) v (pos 0) h
 
 -- ---- the sum
-
-both-parts : (w v p m : ℤ) → (pos 1 *ℤ (w *ℤ v)) *ℤ p +ℤ (neg_ℤ (pos 1) *ℤ (w *ℤ v)) *ℤ m ≡ w *ℤ (v *ℤ (p -ℤ m))
-both-parts w v p m =
-    let second : neg_ℤ (pos 1) *ℤ (w *ℤ v) ≡ neg_ℤ (w *ℤ v) = neg_ℤ-*ℤ (pos 1) (w *ℤ v) ∙ ap neg_ℤ (one-*ℤ (w *ℤ v)) in
-    let whole : w *ℤ (v *ℤ (p -ℤ m)) ≡ (w *ℤ v) *ℤ (p -ℤ m) = sym (*ℤ_assoc w v (p -ℤ m)) in
-    rw (one-*ℤ (w *ℤ v), second, whole) (omega (arith, linear, neg_ℤ-*ℤ (w *ℤ v) m, *ℤ-+ℤ (w *ℤ v) p (neg_ℤ m), *ℤ-neg_ℤ (w *ℤ v) m))
 
 one-value : (w s q r p m : ℤ) → ((w *ℤ s) *ℤ q +ℤ (pos 1 *ℤ (w *ℤ r)) *ℤ p) +ℤ (neg_ℤ (pos 1) *ℤ (w *ℤ r)) *ℤ m ≡ w *ℤ (s *ℤ q +ℤ r *ℤ (p -ℤ m))
 one-value w s q r p m = omega (arith, linear, both-parts w r p m, *ℤ_assoc w s q, *ℤ-+ℤ w (s *ℤ q) (r *ℤ (p -ℤ m)))

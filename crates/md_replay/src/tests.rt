@@ -1,3 +1,4 @@
+//! Listed pivots on a small program, carried out and told.
 use super::*;
 use md_lp::{Path, Pivot};
 use md_num::{NoMemory, Nums, Width};

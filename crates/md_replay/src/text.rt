@@ -62,7 +62,7 @@ fn with_wide(alloc: Global, rows: Vec<Row>, wide: Option<Entry>) -> Result<Vec<R
 }
 
 // All records.
-fn rows_of(alloc: Global, replay: &Replay) -> Result<Vec<Row>, NoMemory>
+fn records_of(alloc: Global, replay: &Replay) -> Result<Vec<Row>, NoMemory>
     ensures { IfOk result (λ rows. rows.items ≡ replay_records replay.now) }
 {
     let bases = basis_rows(alloc, &replay.dens, &replay.greatest)?;
@@ -78,6 +78,6 @@ fn rows_of(alloc: Global, replay: &Replay) -> Result<Vec<Row>, NoMemory>
 pub fn replay_text(alloc: Global, replay: &Replay) -> Result<Vec<u8>, NoMemory>
     ensures { IfOk result (λ text. text.items ≡ replay_text replay.now) }
 {
-    let rows = rows_of(alloc, replay)?;
+    let rows = records_of(alloc, replay)?;
     write_records(alloc, &rows)
 }

@@ -3,9 +3,10 @@ use Rattle.std.proofs.Common.{◌≡◌, ℕ, zero, suc, ◌+◌, ◌<◌, ◌�
 use Rattle.std.specs.Prelude.{slice_get, option_map}
 use Rattle.std.proofs.lemmas.List.{length-map, map-append, take_all, length-take-le}
 use Rattle.std.proofs.lemmas.Option.{none-some, slice_get-map}
+use Rattle.md_math.proofs.ListLaws.{take-more}
 use Rattle.md_setting.specs.Setting.{GeneralSetting}
 use Rattle.md_setting.specs.Rows.{column_count}
-use Rattle.md_mech.specs.Rows.{Condition, rows_of}
+use Rattle.md_mech.specs.Rows.{Condition, conditions_of}
 use Rattle.md_lp.specs.Program.{Program, Row, row_count}
 use Rattle.md_forms.specs.ProgramOf.{AreRowsOf, HasCostOf}
 use Rattle.md_forms.specs.Built.{Extends as ExtendsBy}
@@ -28,12 +29,6 @@ extends-none s p = forms.extends-none p
 pub extends-both : (s : GeneralSetting) (cs ds : List Condition) (old mid new : Program) → Extends s cs old mid → Extends s ds mid new → Extends s (cs ++ ds) old new
 extends-both s cs ds old mid new p q =
     subst (λ fs. ExtendsBy fs old new) (sym (forms-append s cs ds)) (forms.extends-both (forms_of s cs) (forms_of s ds) old mid new p q)
-
--- the first n + 1 of some conditions are the first n, and the one behind them
-take-more : {X : Type 0} → (xs : List X) (n : ℕ) (x : X) → slice_get xs n ≡ Some x → take (suc n) xs ≡ take n xs ++ x ∷ []
-take-more [] n x e = absurd (none-some x e)
-take-more (a ∷ xs) zero x e = (let same : a ≡ x = cc in ap (λ y. y ∷ []) same)
-take-more (a ∷ xs) (suc n) x e = ap (λ ys. a ∷ ys) (take-more xs n x e)
 
 pub extends-next : (s : GeneralSetting) (cs : List Condition) (n : ℕ) (c : Condition) (old mid new : Program) → slice_get cs n ≡ Some c
     → Extends s (take n cs) old mid → Extends s (c ∷ []) mid new → Extends s (take (n + 1) cs) old new
@@ -68,13 +63,13 @@ room-next s cs n c old mid below h p = record {
 
 -- ---- all conditions
 
-pub program-of : (s : GeneralSetting) (old new : Program) → old.columns ≡ column_count s → HasCostOf (column_count s) (cost_in s) old → old.rows ≡ [] → Extends s (rows_of s) old new → IsProgramOf s new
-program-of s old new columns cost none p = forms.program-of (column_count s) (forms_of s (rows_of s)) (cost_in s) old new columns cost none p
+pub program-of : (s : GeneralSetting) (old new : Program) → old.columns ≡ column_count s → HasCostOf (column_count s) (cost_in s) old → old.rows ≡ [] → Extends s (conditions_of s) old new → IsProgramOf s new
+program-of s old new columns cost none p = forms.program-of (column_count s) (forms_of s (conditions_of s)) (cost_in s) old new columns cost none p
 
 pub each-row : (s : GeneralSetting) (p : Program) → IsProgramOf s p → HasEachRow s p
 each-row s p is number condition e =
-    forms.each-row (column_count s) (forms_of s (rows_of s)) (cost_in s) p is number (form_of s condition)
-    (slice_get-map (form_of s) (rows_of s) number ∙ ap (option_map (form_of s)) e)
+    forms.each-row (column_count s) (forms_of s (conditions_of s)) (cost_in s) p is number (form_of s condition)
+    (slice_get-map (form_of s) (conditions_of s) number ∙ ap (option_map (form_of s)) e)
 
-pub rows-count : (s : GeneralSetting) (p : Program) → IsProgramOf s p → row_count p ≡ length (rows_of s)
-rows-count s p is = rows-length s (rows_of s) p.rows is.rows
+pub rows-count : (s : GeneralSetting) (p : Program) → IsProgramOf s p → row_count p ≡ length (conditions_of s)
+rows-count s p is = rows-length s (conditions_of s) p.rows is.rows

@@ -6,7 +6,7 @@ use Rattle.md_math.specs.Lists.{number_at, list_to, up_to}
 use Rattle.md_math.specs.Sizes.{IsWithin, AllWithin}
 use Rattle.md_math.specs.Sums.{sum_to, dot}
 use Rattle.md_math.proofs.Builders.{length-list_to, get_or-list_to, All-list_to, length-up_to, All-up_to, get_or-up_to}
-use Rattle.md_math.proofs.Ring.{linear, *ℤ-+ℤ, *ℤ-neg_ℤ, neg_ℤ-*ℤ, *ℤ_assoc, one-*ℤ, *ℤ-zero}
+use Rattle.md_math.proofs.Ring.{linear, *ℤ-+ℤ, *ℤ-neg_ℤ, neg_ℤ-*ℤ, *ℤ_assoc, one-*ℤ, both-parts, *ℤ-zero}
 use Rattle.md_math.proofs.SizeLaws.{IsWithin-*ℤ, IsWithin-wider}
 use Rattle.md_math.proofs.SumLaws.{sum_to-same, sum_to-zero, sum_to-+ℤ, sum_to-*ℤ, sum_to-swap, sum_to-join, sum_to-nested}
 use Rattle.md_space.specs.Profiles.{profile_count, profile_at}
@@ -113,12 +113,6 @@ chances-part s x =
 revenue-part : (s : GeneralSetting) (sign : ℤ) (start : ℕ) (x : ℕ → ℤ)
     → costs_at (revenue_costs s sign) start x ≡ sum_to (agent_count s) (λ i. sum_to (profile_count (sizes_of s)) (λ r. revenue_cost s sign r *ℤ x (start + (i * profile_count (sizes_of s) + r))))
 revenue-part s sign start x = costs-nested (agent_count s) (profile_count (sizes_of s)) (λ _. revenue_cost s sign) start x
-
-both-parts : (w v p m : ℤ) → (pos 1 *ℤ (w *ℤ v)) *ℤ p +ℤ (neg_ℤ (pos 1) *ℤ (w *ℤ v)) *ℤ m ≡ w *ℤ (v *ℤ (p -ℤ m))
-both-parts w v p m =
-    let second : neg_ℤ (pos 1) *ℤ (w *ℤ v) ≡ neg_ℤ (w *ℤ v) = neg_ℤ-*ℤ (pos 1) (w *ℤ v) ∙ ap neg_ℤ (one-*ℤ (w *ℤ v)) in
-    let whole : w *ℤ (v *ℤ (p -ℤ m)) ≡ (w *ℤ v) *ℤ (p -ℤ m) = sym (*ℤ_assoc w v (p -ℤ m)) in
-    rw (one-*ℤ (w *ℤ v), second, whole) (omega (arith, linear, neg_ℤ-*ℤ (w *ℤ v) m, *ℤ-+ℤ (w *ℤ v) p (neg_ℤ m), *ℤ-neg_ℤ (w *ℤ v) m))
 
 payments-part : (on : Bool) (s : GeneralSetting) (x : ℕ → ℤ) → s.payments ≡ on
     → costs_at (payment_costs on s) (first_plus s) x

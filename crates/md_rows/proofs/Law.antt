@@ -28,7 +28,7 @@ use Rattle.md_mech.specs.Mechanism.{IsMechanism, chance_of, pay_of}
 use Rattle.md_mech.specs.Utility.{expected_utility, weighted_given}
 use Rattle.md_mech.specs.Admissible.{IsAdmissible}
 use Rattle.md_mech.specs.Optimal.{objective_at, worth_of}
-use Rattle.md_mech.specs.Rows.{Condition, dominant_row, bayes_row, ex_post_row, interim_row, deficit_row, profile_row, IsKept, by_report, by_profile, by_type, truth_rows, rational_rows, deficit_rows, demand_rows, rows_of}
+use Rattle.md_mech.specs.Rows.{Condition, dominant_row, bayes_row, ex_post_row, interim_row, deficit_row, profile_row, IsKept, by_report, by_profile, by_type, truth_rows, rational_rows, deficit_rows, demand_rows, conditions_of}
 use Rattle.md_mech.proofs.RowLaws.{all-by_profile, all-one, one-all, all-by_report, by_profile-at, admissible-kept, kept-admissible}
 use Rattle.md_lp.specs.declared.row_kind.RowKind.TheVariants.{AtMost, Exact}
 use Rattle.md_lp.specs.Program.{Program}
@@ -77,7 +77,7 @@ deficit-placed : (on : Bool) (s : GeneralSetting) → All (IsPlaced s) (deficit_
 deficit-placed true s = all-by_profile s (IsPlaced s) (λ t. deficit_row t ∷ []) (λ t profile. all-one (IsPlaced s) (deficit_row t) profile)
 deficit-placed false s = All-nil (IsPlaced s)
 
-pub conditions-placed : (s : GeneralSetting) → All (IsPlaced s) (rows_of s)
+pub conditions-placed : (s : GeneralSetting) → All (IsPlaced s) (conditions_of s)
 conditions-placed s =
     All-append (IsPlaced s) (truth_rows s.truth s ++ rational_rows s.rational s ++ deficit_rows s.no_deficit s) (by_profile s (λ t. profile_row t ∷ []))
     (All-append (IsPlaced s) (truth_rows s.truth s ++ rational_rows s.rational s) (deficit_rows s.no_deficit s)
@@ -94,11 +94,11 @@ Holds s den x c = HoldsForm den x (form_of s c)
 each-form : (P : Form → Type 0) (s : GeneralSetting) (cs : List Condition) → All P (forms_of s cs) → All (λ c. P (form_of s c)) cs
 each-form P s cs h = λ k d l. subst P (get_or-map (form_of s) cs k d (form_of s d) l) (h k (form_of s d) (omega (arith, l, length-map cs (form_of s))))
 
-meets-hold : (s : GeneralSetting) (p : Program) (den : ℤ) (x : ℕ → ℤ) → IsProgramOf s p → Meets p den x → All (Holds s den x) (rows_of s)
-meets-hold s p den x is meets = each-form (HoldsForm den x) s (rows_of s) (forms.meets-hold (column_count s) (forms_of s (rows_of s)) (cost_in s) p den x is meets)
+meets-hold : (s : GeneralSetting) (p : Program) (den : ℤ) (x : ℕ → ℤ) → IsProgramOf s p → Meets p den x → All (Holds s den x) (conditions_of s)
+meets-hold s p den x is meets = each-form (HoldsForm den x) s (conditions_of s) (forms.meets-hold (column_count s) (forms_of s (conditions_of s)) (cost_in s) p den x is meets)
 
-hold-meets : (s : GeneralSetting) (p : Program) (den : ℤ) (x : ℕ → ℤ) → IsProgramOf s p → IsPoint p den x → All (Holds s den x) (rows_of s) → Meets p den x
-hold-meets s p den x is point h = forms.hold-meets (column_count s) (forms_of s (rows_of s)) (cost_in s) p den x is point (All-map (HoldsForm den x) (form_of s) (rows_of s) h)
+hold-meets : (s : GeneralSetting) (p : Program) (den : ℤ) (x : ℕ → ℤ) → IsProgramOf s p → IsPoint p den x → All (Holds s den x) (conditions_of s) → Meets p den x
+hold-meets s p den x is point h = forms.hold-meets (column_count s) (forms_of s (conditions_of s)) (cost_in s) p den x is point (All-map (HoldsForm den x) (form_of s) (conditions_of s) h)
 
 -- ---- the sides of conditions
 
@@ -224,7 +224,7 @@ admits-mechanisms s p is den x meets =
     let m = mechanism_of s den x in
     let held = meets-hold s p den x is meets in
     kept-admissible s m (held-mechanism s p den x is meets)
-    (λ k d l. held-kept s den x m refl (agrees-mechanism_of s den x) (get_or (rows_of s) k d) (conditions-placed s k d l) (held k d l))
+    (λ k d l. held-kept s den x m refl (agrees-mechanism_of s den x) (get_or (conditions_of s) k d) (conditions-placed s k d l) (held k d l))
 
 pub admits-points : (s : GeneralSetting) (p : Program) → IsProgramOf s p → AdmitsPoints s p
 admits-points s p is m h = (to, back)
@@ -235,7 +235,7 @@ admits-points s p is m h = (to, back)
     to : Meets p m.den x → IsAdmissible s m
     to meets =
         let held = meets-hold s p m.den x is meets in
-        kept-admissible s m h (λ k d l. held-kept s m.den x m refl (agrees-point_of s m h) (get_or (rows_of s) k d) (conditions-placed s k d l) (held k d l))
+        kept-admissible s m h (λ k d l. held-kept s m.den x m refl (agrees-point_of s m h) (get_or (conditions_of s) k d) (conditions-placed s k d l) (held k d l))
 
     back : IsAdmissible s m → Meets p m.den x
     back admissible =
@@ -245,7 +245,7 @@ admits-points s p is m h = (to, back)
           positive = (let one : pos 1 ≤ℤ m.den = h.den in omega (arith, ints));
           nonneg = λ j l. All-get_or (λ z. pos 0 ≤ℤ z) (point_of s m) j (pos 0) (omega (arith, l, is.columns, point-length s m h)) (point-nonneg s m h);
         })
-        (λ k d l. kept-held s m.den x m refl (agrees-point_of s m h) h (get_or (rows_of s) k d) (conditions-placed s k d l) (kept k d l))
+        (λ k d l. kept-held s m.den x m refl (agrees-point_of s m h) h (get_or (conditions_of s) k d) (conditions-placed s k d l) (kept k d l))
 
 -- ---- what points cost
 

@@ -3,7 +3,7 @@
 use Rattle.std.specs.Prelude.{ℕ, ◌≡◌, ℤ, List, map, slice_get, Some}
 use Rattle.md_setting.specs.Setting.{GeneralSetting}
 use Rattle.md_setting.specs.Rows.{column_count}
-use Rattle.md_mech.specs.Rows.{Condition, rows_of}
+use Rattle.md_mech.specs.Rows.{Condition, conditions_of}
 use Rattle.md_lp.specs.Program.{Program, row_at}
 use Rattle.md_forms.specs.Forms.{Form, unit}
 use Rattle.md_forms.specs.ProgramOf.{IsRowOf, IsProgramOf as IsProgramOfForms}
@@ -22,9 +22,9 @@ cost_of s j = cost_in s (unit j)
 
 -- the program of the setting
 abbrev pub IsProgramOf : GeneralSetting → Program → Type 0
-IsProgramOf s p = IsProgramOfForms (column_count s) (forms_of s (rows_of s)) (cost_in s) p
+IsProgramOf s p = IsProgramOfForms (column_count s) (forms_of s (conditions_of s)) (cost_in s) p
 
 -- the row of each number is the condition of this number
 abbrev pub HasEachRow : GeneralSetting → Program → Type 0
 HasEachRow s p =
-    (number : ℕ) (condition : Condition) → slice_get (rows_of s) number ≡ Some condition → IsRowOf (column_count s) (form_of s condition) (row_at p number)
+    (number : ℕ) (condition : Condition) → slice_get (conditions_of s) number ≡ Some condition → IsRowOf (column_count s) (form_of s condition) (row_at p number)

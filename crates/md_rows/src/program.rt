@@ -2,7 +2,7 @@
 ghost use Rattle.std.specs.Prelude.{◌≡◌, [], length, IfOk, OnErr, OnOk};
 ghost use Rattle.md_setting.specs.Rows.{column_count};
 ghost use Rattle.md_setting.specs.Shaped.{IsShaped};
-ghost use Rattle.md_mech.specs.Rows.{rows_of};
+ghost use Rattle.md_mech.specs.Rows.{conditions_of};
 ghost use Rattle.md_lp.specs.Program.{row_count};
 ghost use Rattle.md_forms.specs.ProgramOf.{HasCostOf};
 ghost use Rattle.md_rows.specs.Built.{HasRoom, Extends, ExtendsInPart};
@@ -26,7 +26,7 @@ use std::alloc::Global;
 pub fn rows_of(alloc: Global, setting: &Setting) -> Result<Lp, NoMemory>
     ensures program { IfOk result (IsProgramOf setting.now) }
     ensures each_row { IfOk result (HasEachRow setting.now) }
-    ensures count { IfOk result (λ lp. row_count lp ≡ length (rows_of setting.now)) }
+    ensures count { IfOk result (λ lp. row_count lp ≡ length (conditions_of setting.now)) }
 
     // Mechanisms and points of any denominator, with numbers of any size.
     ensures admits_points { IfOk result (AdmitsPoints setting.now) }
@@ -43,9 +43,9 @@ pub fn rows_of(alloc: Global, setting: &Setting) -> Result<Lp, NoMemory>
 /// program and maybe more behind them. Each row is divided by its greatest common divisor. Where memory ran out the rows
 /// of the first conditions were appended, and no other.
 pub fn push_rows(alloc: Global, setting: &Setting, lp: &mut Lp) -> Result<(), NoMemory>
-    requires { HasRoom setting.now (rows_of setting.now) lp.old }
-    ensures ok { OnOk result (Extends setting.now (rows_of setting.now) lp.old lp.new) }
-    ensures err { OnErr result (ExtendsInPart setting.now (rows_of setting.now) lp.old lp.new) }
+    requires { HasRoom setting.now (conditions_of setting.now) lp.old }
+    ensures ok { OnOk result (Extends setting.now (conditions_of setting.now) lp.old lp.new) }
+    ensures err { OnErr result (ExtendsInPart setting.now (conditions_of setting.now) lp.old lp.new) }
 {
     for row in 0..setting.rows() {
         push_condition(alloc, setting, condition_at(setting, row), lp)?;

@@ -1,3 +1,4 @@
+//! Programs of small settings: their rows, points and mechanisms.
 ghost use Rattle.md_mech.specs.Accepted.{IsAccepted};
 ghost use Rattle.md_mech.specs.Admissible.{IsAdmissible};
 

@@ -1,6 +1,6 @@
 //! Lists of names and of rows of numbers.
 ghost use Rattle.std.specs.Prelude.{◌≡◌, IfOk, map};
-ghost use Rattle.md_setting.specs.Setting.{names_of, rows_of};
+ghost use Rattle.md_setting.specs.Setting.{names_of, lists_of};
 
 use std::alloc::{AllocError, Global};
 
@@ -17,7 +17,7 @@ pub(crate) fn names(alloc: Global, words: &[&str]) -> Result<Vec<String>, AllocE
 
 // The rows that some lists of numbers are.
 pub(crate) fn rows(alloc: Global, lists: &[&[i64]]) -> Result<Vec<Vec<i64>>, AllocError>
-    ensures { IfOk result (λ rows. rows_of rows.items ≡ map (λ list. list.now) lists.now) }
+    ensures { IfOk result (λ rows. lists_of rows.items ≡ map (λ list. list.now) lists.now) }
 {
     let mut rows = Vec::new(alloc);
     for list in lists {

@@ -6,17 +6,17 @@ use Rattle.std.specs.List.{list_all}
 use Rattle.std.proofs.lemmas.List.Folds.{list_all-map}
 use Rattle.md_setting.specs.declared.raw.RawAgent.{RawAgent}
 use Rattle.md_setting.specs.declared.raw.RawSetting.{RawSetting}
-use Rattle.md_setting.specs.Setting.{written, written_agent, rows_of}
+use Rattle.md_setting.specs.Setting.{written, written_agent, lists_of}
 use Rattle.md_setting.specs.Refusals.{is_small, is_weight, has_small_numbers, has_small_rows, has_small_at, has_small_prior, has_small_lists}
 
-pub small_rows : (rows : List (Vec ℤ Global)) → has_small_rows (rows_of rows) ≡ list_all (λ row. list_all (is_small 1000000) row.items) rows
+pub small_rows : (rows : List (Vec ℤ Global)) → has_small_rows (lists_of rows) ≡ list_all (λ row. list_all (is_small 1000000) row.items) rows
 small_rows rows = list_all-map (list_all (is_small 1000000)) (λ (row : Vec ℤ Global). row.items) rows
 
 pub small_numbers : (agent : RawAgent) →
     has_small_numbers (written_agent agent)
     ≡ (list_all is_weight agent.weights.items && list_all (is_small 1000000) agent.outside.items
     && list_all (λ row. list_all (is_small 1000000) row.items) agent.utility.items
-    && has_small_at (option_map (λ rows. rows_of rows.items) agent.at))
+    && has_small_at (option_map (λ rows. lists_of rows.items) agent.at))
 unfolding has_small_numbers
 small_numbers agent = rw (small_rows agent.utility.items) refl
 

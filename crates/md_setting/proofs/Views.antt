@@ -9,7 +9,7 @@ use Rattle.std.proofs.lemmas.Simd.{map-map}
 use Rattle.md_space.specs.Profiles.{profile_count}
 use Rattle.md_setting.specs.declared.raw.RawAgent.{RawAgent}
 use Rattle.md_setting.specs.declared.raw.RawSetting.{RawSetting}
-use Rattle.md_setting.specs.Setting.{Agent, names_of, rows_of, written_agent, written}
+use Rattle.md_setting.specs.Setting.{Agent, names_of, lists_of, written_agent, written}
 use Rattle.md_setting.specs.Meaning.{sizes_of}
 use Rattle.md_setting.specs.Refusals.{is_name, has_good_names, has_named_types, has_own_names, are_apart, has_good_shape, has_agent_shape, has_rows, has_at_shape, has_prior_shape}
 
@@ -23,7 +23,7 @@ both : (a b x y : Bool) → a ≡ b → x ≡ y → (a && x) ≡ (b && y)
 both a b x y e f = cc
 
 pub all_long : (rows : List (Vec ℤ Global)) (columns : ℕ) →
-    list_all (λ row. length row == columns) (rows_of rows) ≡ list_all (λ row. vec_len row == columns) rows
+    list_all (λ row. length row == columns) (lists_of rows) ≡ list_all (λ row. vec_len row == columns) rows
 all_long [] columns = refl
 all_long (row ∷ rows) columns =
     both (length row.items == columns) (vec_len row == columns) _ _ (ap (λ n. n == columns) (rw (same_len row) refl)) (all_long rows columns)
@@ -67,11 +67,11 @@ good_shape raw =
     ) refl
 
 pub all_rows : (rows : List (Vec ℤ Global)) (count columns : ℕ) →
-    has_rows count columns (rows_of rows) ≡ ((length rows == count) && list_all (λ row. vec_len row == columns) rows)
+    has_rows count columns (lists_of rows) ≡ ((length rows == count) && list_all (λ row. vec_len row == columns) rows)
 all_rows rows count columns =
     both _ _ _ _ (ap (λ n. n == count) (length-map rows (λ (row : Vec ℤ Global). row.items))) (all_long rows columns)
 
-has_at : (at : Option (Vec (Vec ℤ Global) Global)) → is_some (option_map (λ rows. rows_of rows.items) at) ≡ is_some at
+has_at : (at : Option (Vec (Vec ℤ Global) Global)) → is_some (option_map (λ rows. lists_of rows.items) at) ≡ is_some at
 has_at None = refl
 has_at (Some rows) = refl
 
@@ -80,7 +80,7 @@ pub agent_shape : (agent : RawAgent) (has_prior : Bool) (profiles outcomes : ℕ
     ≡ ((vec_len agent.weights == (if has_prior then 0 else vec_len agent.types))
     && (vec_len agent.outside == vec_len agent.types)
     && ((length agent.utility.items == (if is_some agent.at then 0 else vec_len agent.types)) && list_all (λ row. vec_len row == outcomes) agent.utility.items)
-    && has_at_shape profiles outcomes (option_map (λ rows. rows_of rows.items) agent.at))
+    && has_at_shape profiles outcomes (option_map (λ rows. lists_of rows.items) agent.at))
 unfolding has_agent_shape
 agent_shape agent has_prior profiles outcomes =
     let types : length (names_of agent.types.items) ≡ vec_len agent.types = length-map agent.types.items string_bytes ∙ omega arith in

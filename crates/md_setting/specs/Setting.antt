@@ -35,8 +35,8 @@ abbrev pub names_of : List (String Global) → List (List ℕ)
 names_of texts = map string_bytes texts
 
 -- the numbers of some lists
-abbrev pub rows_of : List (Vec ℤ Global) → List (List ℤ)
-rows_of rows = map (λ row. row.items) rows
+abbrev pub lists_of : List (Vec ℤ Global) → List (List ℤ)
+lists_of rows = map (λ row. row.items) rows
 
 -- what an agent as written says
 abbrev pub written_agent : RawAgent → Agent
@@ -45,8 +45,8 @@ written_agent a = record {
   types = names_of a.types.items;
   weights = a.weights.items;
   outside = a.outside.items;
-  utility = rows_of a.utility.items;
-  at = option_map (λ rows. rows_of rows.items) a.at;
+  utility = lists_of a.utility.items;
+  at = option_map (λ rows. lists_of rows.items) a.at;
 }
 
 -- what a setting as written says

@@ -2,7 +2,7 @@
 ghost use Rattle.std.specs.Prelude.{◌≡◌, ◌<◌, [], length, slice_index, slice_index_or, None};
 ghost use Rattle.md_math.specs.Lists.{number_at};
 ghost use Rattle.md_space.specs.Profiles.{profile_count, profile_at};
-ghost use Rattle.md_setting.specs.Setting.{written, written_agent, rows_of};
+ghost use Rattle.md_setting.specs.Setting.{written, written_agent, lists_of};
 ghost use Rattle.md_setting.specs.Meaning.{agent_at, agent_count, outcome_count, sizes_of, utilities_by, utility_of, outside_of};
 ghost use Rattle.md_setting.specs.Shaped.{IsListed};
 
@@ -20,8 +20,8 @@ pub(crate) fn agent_in(raw: &RawSetting, agent: usize) -> &RawAgent
 
 #[tactic(auto, using(crate::proofs::Lookups::lookups))]
 fn row_at(rows: &[Vec<i64>], place: usize) -> &[i64]
-    requires { place < length (rows_of rows.now) }
-    ensures { result.now ≡ slice_index_or (rows_of rows.now) place [] }
+    requires { place < length (lists_of rows.now) }
+    ensures { result.now ≡ slice_index_or (lists_of rows.now) place [] }
 {
     &rows[place]
 }

@@ -1,7 +1,7 @@
 //! Whether the numbers of a setting are within their limits.
 ghost use Rattle.std.specs.Prelude.{◌≡◌, map, is_some, option_map};
 ghost use Rattle.std.specs.List.{list_all};
-ghost use Rattle.md_setting.specs.Setting.{written, written_agent, rows_of};
+ghost use Rattle.md_setting.specs.Setting.{written, written_agent, lists_of};
 ghost use Rattle.md_setting.specs.Refusals.{is_small, is_weight, has_small_numbers, has_small_at, has_small_prior, has_small_lists};
 
 use crate::{RawAgent, RawSetting};
@@ -45,7 +45,7 @@ fn has_small_numbers(agent: &RawAgent) -> bool
 
 #[tactic(auto, using(crate::proofs::RangeTests::small_rows))]
 fn has_small_at(at: &Option<Vec<Vec<i64>>>) -> bool
-    ensures { result ≡ has_small_at (option_map (λ rows. rows_of rows.items) at.now) }
+    ensures { result ≡ has_small_at (option_map (λ rows. lists_of rows.items) at.now) }
 {
     match at {
         None => true,

@@ -2,7 +2,7 @@
 ghost use Rattle.std.specs.Prelude.{◌≡◌, ◌≢◌, ◌≤◌, ◌<◌, ◌==◌, ◌&&◌, IfOk, IfErr, MatchResult, true, false, All, map, vec_len, is_some, length, nat_le, option_map};
 ghost use Rattle.std.specs.List.{list_all};
 ghost use Rattle.md_space.specs.Profiles.{profile_count};
-ghost use Rattle.md_setting.specs.Setting.{written, written_agent, rows_of};
+ghost use Rattle.md_setting.specs.Setting.{written, written_agent, lists_of};
 ghost use Rattle.md_setting.specs.Meaning.{sizes_of};
 ghost use Rattle.md_setting.specs.Refusals.{has_good_sizes, has_good_shape, has_agent_shape, has_at_shape, has_prior_shape};
 
@@ -85,7 +85,7 @@ fn has_agent_shape(agent: &RawAgent, has_prior: bool, profiles: usize, outcomes:
 
 #[tactic(auto, using(crate::proofs::Views::all_rows))]
 fn has_at_shape(at: &Option<Vec<Vec<i64>>>, profiles: usize, outcomes: usize) -> bool
-    ensures { result ≡ has_at_shape profiles outcomes (option_map (λ rows. rows_of rows.items) at.now) }
+    ensures { result ≡ has_at_shape profiles outcomes (option_map (λ rows. lists_of rows.items) at.now) }
 {
     match at {
         None => true,

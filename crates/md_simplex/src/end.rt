@@ -1,3 +1,4 @@
+//! What a run answers.
 use md_cert::Certificate;
 use md_lp::Path;
 

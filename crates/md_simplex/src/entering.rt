@@ -1,3 +1,4 @@
+//! The column that enters a basis.
 ghost use Rattle.std.specs.Prelude.{◌≡◌, ◌<◌, ◌↔◌, IsTrue, MatchOption};
 ghost use Rattle.md_dict.specs.Condensed.{entry_at};
 ghost use Rattle.md_simplex.specs.Rules.{IsFaceColumn, IsFirstIn, IsMainColumn};

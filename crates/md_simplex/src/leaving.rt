@@ -1,3 +1,4 @@
+//! The row that leaves a basis.
 ghost use Rattle.std.specs.Prelude.{◌≡◌, ◌+◌, ◌<◌, ◌≤◌, ◌<ℤ◌, pos, neg_ℤ, MatchBool};
 ghost use Rattle.md_math.specs.LexOrder.{IsLexPositive, IsLexNonNegative};
 ghost use Rattle.md_dict.specs.Condensed.{entry_at};

@@ -1,3 +1,4 @@
+//! The two orders of columns.
 /// In which order the columns are tried where one is to enter.
 #[derive(Clone, Copy, Debug, PartialEq, Eq)]
 pub enum Order {

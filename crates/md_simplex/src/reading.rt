@@ -1,3 +1,4 @@
+//! The certificate that the last dictionary of a path gives.
 ghost use Rattle.std.specs.Prelude.{◌≡◌, ℕ, ◌+◌, ◌^◌, ◌<◌, ℤ, pos, ◌*ℤ◌, ◌<ℤ◌, neg_ℤ, length, IfOk, IfSome};
 ghost use Rattle.md_math.specs.Divisors.{Divides, IsGcdOf};
 ghost use Rattle.md_math.specs.Lists.{list_to, number_at};

@@ -75,7 +75,7 @@ fn follow_taken(alloc: Global, lp: &Lp, width: Width) -> Result<End, SimplexErro
 /// Follows a path of a program from its first basis to its end, and reads off what the last dictionary proves.
 /// The forward path is taken where none of its bases is too wide; else the backward path where none of its bases is.
 /// Where each of them has a basis that is too wide, the pivots to the first such one and its first wide entry are answered for each.
-/// It always ends, and its answer is decided by the program and the width, or by want of memory.
+/// It always ends, and its answer is decided by the program and the width, or by memory that ran out.
 pub fn run(alloc: Global, lp: &Lp, width: Width) -> Result<End, SimplexError>
     ensures ok { IfOk result (IsRun lp.now width) }
     ensures certified { IfOk result (λ end. Certified lp.now end.certificate) }

@@ -1,3 +1,4 @@
+//! The sign of a number.
 ghost use Rattle.std.specs.Prelude.{◌+◌, ◌<◌};
 ghost use Rattle.md_dict.specs.Condensed.{entry_at};
 ghost use Rattle.md_simplex.specs.Signs.{HasSign};

@@ -1,3 +1,4 @@
+//! Why a run has no end to tell.
 use md_lp::Wide;
 use thiserror::Error;
 

@@ -1,3 +1,4 @@
+//! What the rules say of a dictionary.
 use md_lp::Pivot;
 
 /// What the rules say of a dictionary: the next pivot, or how the path ends.

@@ -1,3 +1,4 @@
+//! Paths of small programs, in both orders, and what is read off their ends.
 use super::*;
 use md_cert::{Certificate, check_lp};
 use md_dict::Dict;

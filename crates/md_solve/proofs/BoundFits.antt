@@ -2,7 +2,7 @@
 use Rattle.std.proofs.Common.{◌≡◌, ℤ, List, ◌∙◌}
 use Rattle.md_setting.specs.Setting.{GeneralSetting}
 use Rattle.md_setting.specs.Rows.{row_count as setting_rows}
-use Rattle.md_mech.specs.Rows.{rows_of}
+use Rattle.md_mech.specs.Rows.{conditions_of}
 use Rattle.md_lp.specs.Program.{Program, row_count}
 use Rattle.md_cert.specs.declared.bound.Bound.{Bound}
 use Rattle.md_cert.specs.Fitting.{FitsRows, FitsBound}
@@ -13,7 +13,7 @@ use Rattle.md_answer.specs.AnswerTo.{IsBoundFor}
 use Rattle.md_parts.specs.Fitting.{AreMultipliers}
 
 program-rows : (s : GeneralSetting) (p : Program) → IsProgramOf s p → row_count p ≡ setting_rows s
-program-rows s p is = rows-length s (rows_of s) p.rows is.rows ∙ conditions-length s
+program-rows s p is = rows-length s (conditions_of s) p.rows is.rows ∙ conditions-length s
 
 pub face-fits : (s : GeneralSetting) (p : Program) (face : List ℤ) → IsProgramOf s p → FitsRows p face → AreMultipliers (setting_rows s) face
 face-fits s p face is h = record { one_each = h.one_each ∙ program-rows s p is; sizes = h.sizes }

@@ -14,7 +14,7 @@ use Rattle.md_setting.specs.Setting.{GeneralSetting}
 use Rattle.md_setting.specs.Meaning.{agent_count, outcome_count, sizes_of, utility_of, weight_of, value_of}
 use Rattle.md_setting.specs.Rows.{column_count}
 use Rattle.md_mech.specs.Utility.{weighted_given}
-use Rattle.md_mech.specs.Rows.{Condition, dominant_row, bayes_row, ex_post_row, interim_row, deficit_row, profile_row, rows_of}
+use Rattle.md_mech.specs.Rows.{Condition, dominant_row, bayes_row, ex_post_row, interim_row, deficit_row, profile_row, conditions_of}
 use Rattle.md_mech.proofs.RowLaws.{one-all}
 use Rattle.md_lp.specs.declared.row_kind.RowKind.TheVariants.{AtMost}
 use Rattle.md_lp.specs.Program.{Program, Row, row_count, row_at, left_of}
@@ -79,7 +79,7 @@ lefts-same s x y (c ∷ cs) (row ∷ ps) same placed are (suc r) d b = lefts-sam
 pub sums-same : (s : GeneralSetting) (p : Program) (x y : ℕ → ℤ) → IsProgramOf s p → IsSameForm s x y → (r : ℕ) → r < row_count p → row_sum p x r ≡ row_sum p y r
 sums-same s p x y is same r b =
     subst (λ n. left_of n (row_at p r) x ≡ left_of n (row_at p r) y) (sym is.columns)
-    (lefts-same s x y (rows_of s) p.rows same (conditions-placed s) is.rows r (record { kind = AtMost; terms = []; right = pos 0 }) b)
+    (lefts-same s x y (conditions_of s) p.rows same (conditions-placed s) is.rows r (record { kind = AtMost; terms = []; right = pos 0 }) b)
 
 -- ---- costs
 

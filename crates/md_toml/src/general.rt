@@ -1,7 +1,7 @@
 //! What a document says of a general setting.
 ghost use Rattle.std.specs.Prelude.{map, length, pos, string_bytes, option_map, Option, ℤ, ◌≡◌};
 ghost use Rattle.toml.specs.View.{view, table_view};
-ghost use Rattle.md_setting.specs.Setting.{written_agent, names_of, rows_of, written};
+ghost use Rattle.md_setting.specs.Setting.{written_agent, names_of, lists_of, written};
 ghost use Rattle.md_toml.specs.Reading.{Gives};
 ghost use Rattle.md_toml.specs.Values.{members_of_all, table_in, integer_in, list_in, defaulted};
 ghost use Rattle.md_toml.specs.General.{truth_in, rational_in, demands_of, zeros_for, said_objective, objective_of, weights_of, utility_of, at_of, agent_of, prior_of, each_agent, general_of};
@@ -126,7 +126,7 @@ fn read_weights(
 
 // An agent's utilities by its own type, which must stand where there are none that depend on all types.
 fn read_utility(alloc: Global, members: &Table, at: bool) -> Result<Vec<Vec<i64>>, SettingRefusal>
-    ensures { Gives (λ rows. rows_of rows.items) result (utility_of at (table_view members.now)) }
+    ensures { Gives (λ rows. lists_of rows.items) result (utility_of at (table_view members.now)) }
 {
     if at && member_at(members, Key::AgentUtility).is_none() {
         return Ok(Vec::new(alloc));
@@ -144,7 +144,7 @@ fn read_at(
     members: &Table,
     at: bool,
 ) -> Result<Option<Vec<Vec<i64>>>, SettingRefusal>
-    ensures { Gives (option_map (λ rows. rows_of rows.items)) result (at_of at (table_view members.now)) }
+    ensures { Gives (option_map (λ rows. lists_of rows.items)) result (at_of at (table_view members.now)) }
 {
     if !at {
         return Ok(None);

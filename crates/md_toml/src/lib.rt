@@ -45,7 +45,7 @@ pub fn write_setting(alloc: Global, file: &SettingFile) -> Result<Vec<u8>, NoMem
     ensures reads_back { IfOk result (λ text. setting_of text.items ≡ Ok file.now) }
 {
     let members = file_table(alloc, file)?;
-    // A document without dates is refused for want of memory alone.
+    // A document without dates is refused where memory ran out, and only there.
     match toml::table_to_string(alloc, &members) {
         Ok(text) => Ok(text.into_bytes()),
         Err(_) => Err(NoMemory),

@@ -2,7 +2,7 @@
 ghost use Rattle.std.specs.Prelude.{◌≡◌, ◌≤◌, ◌<◌, IfOk, OnOk, map, pos, ℕ, length, slice_index};
 ghost use Rattle.toml.specs.Data.{string, integer, boolean, table};
 ghost use Rattle.toml.specs.View.{view, table_view};
-ghost use Rattle.md_setting.specs.Setting.{names_of, rows_of};
+ghost use Rattle.md_setting.specs.Setting.{names_of, lists_of};
 ghost use Rattle.md_toml.specs.Writing.{put, numbers_data, texts_data, rows_data};
 
 use crate::Key;
@@ -74,7 +74,7 @@ pub(crate) fn put_rows(
     key: Key,
     rows: &[Vec<i64>],
 ) -> Result<(), NoMemory>
-    ensures { OnOk result (table_view members.new ≡ put key (rows_data (rows_of rows.now)) (table_view members.old)) }
+    ensures { OnOk result (table_view members.new ≡ put key (rows_data (lists_of rows.now)) (table_view members.old)) }
 {
     put(alloc, members, key, rows_value(alloc, rows)?)
 }
@@ -112,7 +112,7 @@ fn texts_value(alloc: Global, texts: &[String]) -> Result<Value, NoMemory>
 }
 
 fn rows_value(alloc: Global, rows: &[Vec<i64>]) -> Result<Value, NoMemory>
-    ensures { IfOk result (λ value. view value ≡ rows_data (rows_of rows.now)) }
+    ensures { IfOk result (λ value. view value ≡ rows_data (lists_of rows.now)) }
 {
     let mut items = Vec::new(alloc);
     for row in rows {

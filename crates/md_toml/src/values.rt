@@ -2,7 +2,7 @@
 ghost use Rattle.std.specs.Prelude.{◌≡◌, option_map, string_bytes};
 ghost use Rattle.toml.specs.Data.{get_member};
 ghost use Rattle.toml.specs.View.{view, table_view, items_view};
-ghost use Rattle.md_setting.specs.Setting.{names_of, rows_of};
+ghost use Rattle.md_setting.specs.Setting.{names_of, lists_of};
 ghost use Rattle.md_toml.specs.Keys.{member_name};
 ghost use Rattle.md_toml.specs.Reading.{Gives};
 ghost use Rattle.md_toml.specs.Values.{text_in, integer_in, truth_value_in, table_in, list_in, each_item, members_of_all, value_at, defaulted};
@@ -125,7 +125,7 @@ pub(crate) fn read_rows(
     key: Key,
     value: &Value,
 ) -> Result<Vec<Vec<i64>>, SettingRefusal>
-    ensures { Gives (λ rows. rows_of rows.items) result (list_in (list_in integer_in) key (view value.now)) }
+    ensures { Gives (λ rows. lists_of rows.items) result (list_in (list_in integer_in) key (view value.now)) }
 {
     match value {
         Value::Array(items) => each_row(alloc, key, items),
@@ -134,7 +134,7 @@ pub(crate) fn read_rows(
 }
 
 fn each_row(alloc: Global, key: Key, items: &[Value]) -> Result<Vec<Vec<i64>>, SettingRefusal>
-    ensures { Gives (λ rows. rows_of rows.items) result (each_item (list_in integer_in key) (items_view items.now)) }
+    ensures { Gives (λ rows. lists_of rows.items) result (each_item (list_in integer_in key) (items_view items.now)) }
 {
     let mut rows = Vec::new(alloc);
     for item in items {

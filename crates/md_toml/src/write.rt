@@ -3,7 +3,7 @@ ghost use Rattle.std.specs.Prelude.{◌≡◌, IfOk, OnOk, map, option_map, is_s
 ghost use Rattle.std.specs.List.{list_any};
 ghost use Rattle.toml.specs.Data.{no_members, table};
 ghost use Rattle.toml.specs.View.{view, table_view};
-ghost use Rattle.md_setting.specs.Setting.{written_agent, written, names_of, rows_of};
+ghost use Rattle.md_setting.specs.Setting.{written_agent, written, names_of, lists_of};
 ghost use Rattle.md_toml.specs.Writing.{put, version_number, version_of, header_with, with_demands, objective_table, with_weights, with_utilities, agent_table, agents_data, with_prior, general_table, auction_table, file_table, IsAccepted, numbers_data, texts_data, rows_data, truth_word, rational_word};
 
 use crate::Key;
@@ -128,7 +128,7 @@ fn put_utilities(
     at: &Option<Vec<Vec<i64>>>,
     utility: &[Vec<i64>],
 ) -> Result<(), NoMemory>
-    ensures { OnOk result (table_view members.new ≡ with_utilities (option_map (λ rows. rows_of rows.items) at.now) (rows_of utility.now) (table_view members.old)) }
+    ensures { OnOk result (table_view members.new ≡ with_utilities (option_map (λ rows. lists_of rows.items) at.now) (lists_of utility.now) (table_view members.old)) }
 {
     match at {
         Some(rows) => put_rows(alloc, members, Key::AgentUtilityAt, rows),

@@ -6,7 +6,7 @@ use Rattle.std.proofs.lemmas.Bool.Decides.{nat_tests}
 use Rattle.md_setting.specs.Setting.{GeneralSetting}
 use Rattle.md_mech.specs.declared.broken.Broken.{Broken}
 use Rattle.md_mech.specs.declared.mechanism.Mechanism.{Mechanism}
-use Rattle.md_mech.specs.Rows.{IsFirstBroken, rows_of}
+use Rattle.md_mech.specs.Rows.{IsFirstBroken, conditions_of}
 use Rattle.md_mech.specs.RowName.{name_of}
 use Rattle.md_top.specs.declared.refusal.Refusal.{Refusal}
 use Rattle.md_top.specs.declared.refusal.Refusal.TheVariants as refusal
@@ -25,14 +25,14 @@ slice_get-behind (y ∷ before) x after = slice_get-behind before x after
 
 -- the name of the row that was found broken, and the record of it
 pub broken-said : (s : GeneralSetting) (m : Mechanism) (broken : Broken) (name text : List ℕ)
-    → IsFirstBroken s m (rows_of s) 0 broken
-    → ForSome (slice_get (rows_of s) broken.row) (λ r. name ≡ name_of s r)
+    → IsFirstBroken s m (conditions_of s) 0 broken
+    → ForSome (slice_get (conditions_of s) broken.row) (λ r. name ≡ name_of s r)
     → text ≡ broken_text name broken.left broken.right
     → (saying : Saying) → saying.status ≡ 20 → saying.text ≡ text → IsBrokenSaying s m saying
 broken-said s m broken name text first named written saying status is =
     let place : broken.row ≡ length first.before = omega (arith, first.number) in
-    let there : slice_get (rows_of s) broken.row ≡ Some first.row =
-    ap (λ k. slice_get (rows_of s) k) place ∙ ap (λ rows. slice_get rows (length first.before)) first.parts ∙ slice_get-behind first.before first.row first.after in
+    let there : slice_get (conditions_of s) broken.row ≡ Some first.row =
+    ap (λ k. slice_get (conditions_of s) k) place ∙ ap (λ rows. slice_get rows (length first.before)) first.parts ∙ slice_get-behind first.before first.row first.after in
     record {
       broken = broken;
       first = first;

@@ -5,7 +5,7 @@ use Rattle.md_top.specs.Verdicts.{rejected}
 use Rattle.md_setting.specs.Setting.{GeneralSetting}
 use Rattle.md_mech.specs.declared.broken.Broken.{Broken}
 use Rattle.md_mech.specs.declared.mechanism.Mechanism.{Mechanism}
-use Rattle.md_mech.specs.Rows.{IsFirstBroken, rows_of}
+use Rattle.md_mech.specs.Rows.{IsFirstBroken, conditions_of}
 use Rattle.md_answer.specs.declared.answer.Answer.{Answer}
 use Rattle.md_answer.specs.declared.answer.Answer.TheVariants.{Table, Optimal, Infeasible, Unbounded, TooWide}
 use Rattle.md_check.specs.declared.verdict.Reject.TheVariants.{Audit}
@@ -13,12 +13,12 @@ use Rattle.md_check.specs.declared.verdict.Verdict.TheVariants.{Rejected}
 use Rattle.md_check.specs.Verdicts.{IsVerdict}
 
 -- the first broken row is one of the setting's
-first-in : (s : GeneralSetting) (m : Mechanism) (broken : Broken) → IsFirstBroken s m (rows_of s) 0 broken → broken.row < length (rows_of s)
+first-in : (s : GeneralSetting) (m : Mechanism) (broken : Broken) → IsFirstBroken s m (conditions_of s) 0 broken → broken.row < length (conditions_of s)
 first-in s m broken h =
-    let size : length (rows_of s) ≡ length h.before + length (h.row ∷ h.after) = ap length h.parts ∙ length-append h.before (h.row ∷ h.after) in
+    let size : length (conditions_of s) ≡ length h.before + length (h.row ∷ h.after) = ap length h.parts ∙ length-append h.before (h.row ∷ h.after) in
     omega (arith, h.number, size)
 
-pub told-in : (s : GeneralSetting) (answer : Answer) (broken : Broken) → IsVerdict s answer (Rejected (Audit broken)) → broken.row < length (rows_of s)
+pub told-in : (s : GeneralSetting) (answer : Answer) (broken : Broken) → IsVerdict s answer (Rejected (Audit broken)) → broken.row < length (conditions_of s)
 told-in s (Table m) broken h = absurd (let e = h in cc)
 told-in s (Optimal value m bound) broken h = first-in s m broken h
 told-in s (Infeasible face) broken h = absurd (h.judged h.program h.is_program)

@@ -8,7 +8,7 @@ use Rattle.md_setting.specs.declared.file.SettingFile.TheVariants.{General, Auct
 use Rattle.md_mech.specs.declared.broken.Broken.{Broken}
 use Rattle.md_mech.specs.declared.mechanism.Mechanism.{Mechanism}
 use Rattle.md_mech.specs.Admissible.{IsAdmissible}
-use Rattle.md_mech.specs.Rows.{IsFirstBroken, rows_of}
+use Rattle.md_mech.specs.Rows.{IsFirstBroken, conditions_of}
 use Rattle.md_mech.specs.RowName.{name_of}
 use Rattle.md_answer.specs.declared.answer.Answer.{Answer}
 use Rattle.md_answer.specs.declared.answer.Answer.TheVariants.{Table, Optimal, Infeasible, Unbounded, TooWide}
@@ -46,7 +46,7 @@ broken_text name left right =
 -- the first row that a mechanism breaks, and what is said of it
 pub record IsBrokenSaying (s : GeneralSetting) (m : Mechanism) (saying : Saying) : Type 0 where
   pub broken : Broken
-  pub first : IsFirstBroken s m (rows_of s) 0 broken
+  pub first : IsFirstBroken s m (conditions_of s) 0 broken
   pub status : saying.status ≡ 20
   pub text : saying.text ≡ broken_text (name_of s first.row) broken.left broken.right
 

@@ -34,7 +34,7 @@ text_of Memory = want_of_memory
 abbrev pub refused : Refusal → Saying
 refused refusal = record { status = status_of refusal; text = text_of refusal }
 
--- a refusal of an answer file, of which want of memory is one of its own
+-- a refusal of an answer file, of which running out of memory is one of its own
 abbrev pub answer_refused : AnswerRefusal → Refusal
 answer_refused answer.Memory = Memory
 answer_refused (answer.Line n) = Answer (answer.Line n)

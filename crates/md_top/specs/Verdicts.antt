@@ -3,7 +3,7 @@ use Rattle.std.specs.Prelude.{◌≡◌, ◌++◌, ◌∷◌, [], ℕ, pos, List
 use Rattle.md_num.specs.WholeText.{text_of}
 use Rattle.md_records.specs.Written.{record_text}
 use Rattle.md_setting.specs.Setting.{GeneralSetting}
-use Rattle.md_mech.specs.Rows.{Condition, rows_of}
+use Rattle.md_mech.specs.Rows.{Condition, conditions_of}
 use Rattle.md_mech.specs.RowName.{name_of}
 use Rattle.md_check.specs.declared.verdict.Reject.{Reject}
 use Rattle.md_check.specs.declared.verdict.Reject.TheVariants.{Audit, Value, Pair, Column, FaceRight, MainRight, RayRow, RayGain}
@@ -24,7 +24,7 @@ rejected condition fields = codes "rejected" ∷ condition ∷ fields
 -- the record of the first condition that fails; the condition with the number 1 names the broken row of the setting
 abbrev pub IsRejected : GeneralSetting → Reject → List (List ℕ) → Type 0
 IsRejected s (Audit broken) fields =
-    (row : Condition) × (slice_get (rows_of s) broken.row ≡ Some row)
+    (row : Condition) × (slice_get (conditions_of s) broken.row ≡ Some row)
     × (fields ≡ rejected (codes "1") (name_of s row ∷ text_of broken.left ∷ text_of broken.right ∷ []))
 IsRejected s (Value right) fields = fields ≡ rejected (codes "2") (text_of right.num ∷ text_of right.den ∷ [])
 IsRejected s (Pair row face main) fields = fields ≡ rejected (codes "3") (text_of (pos row) ∷ text_of face ∷ text_of main ∷ [])

@@ -56,12 +56,12 @@ HasFaultedIn (two_files T serves reading P IsOwn) setting second content before 
 -- ---- what the work gives
 
 -- What comes of the work on files that were read: an answer with a status of the command's own, below 64; a refusal that
--- belongs to what is said, with status 67; or want of memory.
+-- belongs to what is said, with status 67; or that memory ran out.
 abbrev pub IsWorked : (Saying → Type 0) → (ℕ → Type 0) → Result Answered Refusal → Type 0
 IsWorked Says IsOwn (Ok answered) = Says (said answered) × (IsOwn answered.status × (answered.status < 64))
 IsWorked Says IsOwn (Err e) = (e ≡ refusal.Memory) ⊎ (Says (refused e) × (IsOwn 67 × (status_of e ≡ 67)))
 
--- What came of a command: an answer or a refusal that belongs to its reply, or a fault or want of memory.
+-- What came of a command: an answer or a refusal that belongs to its reply, or a fault, or that memory ran out.
 abbrev pub IsOutcome : (Saying → Type 0) → Result Answered Refusal → Type 0
 IsOutcome Replies (Ok answered) = Replies (said answered)
 IsOutcome Replies (Err e) = (Replies (refused e) × (e ≢ refusal.ReadFault)) ⊎ ((e ≡ refusal.ReadFault) ⊎ (e ≡ refusal.Memory))

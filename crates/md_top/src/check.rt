@@ -3,7 +3,7 @@ ghost use Rattle.std.specs.Prelude.{◌≡◌, ◌<◌, ◌∷◌, [], IfOk, len
 ghost use Rattle.md_num.specs.WholeText.{text_of};
 ghost use Rattle.md_setting.specs.ByKind.{IsGeneral, WhereGeneral};
 ghost use Rattle.md_mech.specs.declared.broken.Broken.{Broken};
-ghost use Rattle.md_mech.specs.Rows.{rows_of};
+ghost use Rattle.md_mech.specs.Rows.{conditions_of};
 ghost use Rattle.md_records.specs.Written.{record_text};
 ghost use Rattle.md_answer.specs.AnswerTo.{IsAnswerTo};
 ghost use Rattle.md_check.specs.declared.verdict.Reject.TheVariants as rejects;
@@ -101,7 +101,7 @@ fn rejected_by(alloc: Global, condition: &[u8]) -> Result<Row, NoMemory>
 
 // The record of the first condition that fails.
 fn rejected_record(alloc: Global, setting: &Setting, reject: Reject) -> Result<Row, NoMemory>
-    requires { (broken : Broken) → reject ≡ rejects.Audit broken → broken.row < length (rows_of setting.now) }
+    requires { (broken : Broken) → reject ≡ rejects.Audit broken → broken.row < length (conditions_of setting.now) }
     ensures { IfOk result (IsRejected setting.now reject) }
 {
     match reject {
@@ -128,7 +128,7 @@ fn rejected_record(alloc: Global, setting: &Setting, reject: Reject) -> Result<R
 
 // The record of a broken row of the setting.
 fn broken_record(alloc: Global, setting: &Setting, broken: Broken) -> Result<Row, NoMemory>
-    requires { broken.row < length (rows_of setting.now) }
+    requires { broken.row < length (conditions_of setting.now) }
     ensures { IfOk result (IsRejected setting.now (rejects.Audit broken)) }
 {
     let name = row_name(alloc, setting, broken.row)?;

@@ -1,6 +1,6 @@
 use Rattle.std.proofs.Common.{◌∷◌, [], ◌++◌, sym, ap, ◌∙◌, arith}
 use Rattle.std.proofs.lemmas.List.{map-append}
-use Rattle.md_mech.specs.Rows.{rows_of}
+use Rattle.md_mech.specs.Rows.{conditions_of}
 use Rattle.md_mech.specs.RowName.{name_of}
 use Rattle.md_listing.specs.Listing.{texts_of}
 use Rattle.md_listing.proofs.RowRecords.{names-more}
@@ -13,4 +13,4 @@ loop-row-preserved c =
     ap texts_of c.in_ok-push.ensures.items
     ∙ map-append (λ text. text.items) c.loop-row.names.items (name ∷ [])
     ∙ ap (λ xs. xs ++ name.items ∷ []) c.loop-row.invariant
-    ∙ sym (names-more (name_of s) (rows_of s) c.loop-row.row name.items (omega (arith, c.requires)) c.in_ok-row_name.ensures)
+    ∙ sym (names-more (name_of s) (conditions_of s) c.loop-row.row name.items (omega (arith, c.requires)) c.in_ok-row_name.ensures)

@@ -5,7 +5,7 @@ use Rattle.toml.specs.View.{items_view}
 use Rattle.toml.proofs.Views.{view-Array}
 use Rattle.md_toml.specs.Writing.{items_from, numbers_data}
 use Rattle.md_toml.proofs.PrintLaws.{items-more_of}
-use Rattle.md_setting.specs.Setting.{rows_of}
+use Rattle.md_setting.specs.Setting.{lists_of}
 use Rattle.md_toml.proofs.print.rows_value.Goals as goal
 
 pub loop-row-preserved : goal.loop-row-preserved
@@ -15,4 +15,4 @@ loop-row-preserved c =
     (c.in_ok-numbers_value.ensures ∙ ap numbers_data (c.deref.ensures.value ∙ ap (λ (row : Vec ℤ Global). row.items) c.row-item.is))
 
 pub returns : goal.returns
-returns c = view-Array c.loop-row.items ∙ ap array (c.loop-row.invariant ∙ ap (λ rows. items_from numbers_data (rows_of rows)) (take_all _ _ c.loop-row-test.false))
+returns c = view-Array c.loop-row.items ∙ ap array (c.loop-row.invariant ∙ ap (λ rows. items_from numbers_data (lists_of rows)) (take_all _ _ c.loop-row-test.false))

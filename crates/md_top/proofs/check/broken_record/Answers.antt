@@ -1,13 +1,13 @@
 use Rattle.std.proofs.Common.{rules, FitsSigned}
 use Rattle.std.proofs.lemmas.Int.{to_z-of_z}
 use mir.Syntax.{w128}
-use Rattle.md_mech.specs.Rows.{rows_of}
+use Rattle.md_mech.specs.Rows.{conditions_of}
 use Rattle.md_top.proofs.VerdictRows.{element, broken-record}
 use Rattle.md_top.proofs.check.broken_record.Goals as goal
 
 pub returns : goal.returns
 returns c =
-    let at = element (rows_of c.args.setting.now) c.args.broken.row c.requires in
+    let at = element (conditions_of c.args.setting.now) c.args.broken.row c.requires in
     let left : FitsSigned w128 c.args.broken.left = search rules in
     let right : FitsSigned w128 c.args.broken.right = search rules in (
       at.0,
