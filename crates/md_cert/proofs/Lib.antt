@@ -1,3 +1,4 @@
+pub mod AffineLaws
 pub mod Duality
 pub mod Fractions
 mod Rows

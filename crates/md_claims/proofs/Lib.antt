@@ -1,3 +1,2 @@
-pub mod AffineLaws
 pub mod RayLaws
 pub mod SettingClaims

@@ -28,7 +28,7 @@ use Rattle.md_rows.proofs.Law.{admits-mechanisms, admits-points, costs-points, c
 use Rattle.md_rows.proofs.PointLaws.{mechanism-of_point}
 use Rattle.md_claims.specs.Laws.{IsProgramWithLaws}
 use Rattle.md_claims.specs.Rays.{pays_along, ray_of}
-use Rattle.md_claims.proofs.AffineLaws.{best-affine}
+use Rattle.md_cert.proofs.AffineLaws.{best-affine}
 use Rattle.md_claims.proofs.RayLaws.{mechanism-along, ray-at_chance, raised-same, pays-along_ray, ray-off}
 
 -- the program of a setting has the laws

@@ -5,3 +5,4 @@ pub mod Divided
 pub mod Stored
 pub mod Search
 pub mod Runs
+pub mod Affine

@@ -1,16 +1,11 @@
--- A worth that is an affine function of a program's cost: what a greatest point is worth, nothing exceeds.
+-- Where a worth is an affine function of a program's cost, what a greatest point is worth nothing exceeds.
 use Rattle.std.proofs.Common.{◌≡◌, ℕ, ℤ, pos, ◌+ℤ◌, ◌*ℤ◌, ◌≤ℤ◌, ◌<ℤ◌, ap, ◌∙◌, arith}
 use Rattle.md_math.proofs.Order.{*ℤ-le, le_from_*ℤ}
 use Rattle.md_math.proofs.Ring.{linear, ring}
 use Rattle.md_lp.specs.Program.{Program}
-use Rattle.md_lp.specs.Point.{Meets, cost_sum}
+use Rattle.md_lp.specs.Affine.{StandsAt}
+use Rattle.md_lp.specs.Point.{cost_sum}
 use Rattle.md_cert.specs.Claims.{IsOptimalPoint}
-
--- what has this worth over a denominator stands at a point of the program, over a multiple of the denominator; as often its
--- worth is a part for the point's denominator and a multiple of the point's cost
-pub record StandsAt (p : Program) (base scale times den : ℤ) (y : ℕ → ℤ) (worth : ℤ) : Type 0 where
-  pub meets : Meets p (times *ℤ den) y
-  pub costs : times *ℤ worth ≡ base *ℤ (times *ℤ den) +ℤ scale *ℤ cost_sum p y
 
 module _ (p : Program) (whole : ℤ) (x : ℕ → ℤ) (greatest : IsOptimalPoint p whole x) (base scale times mine : ℤ) (up : pos 0 <ℤ scale) (often : pos 0 <ℤ times) (mine_is : mine ≡ base *ℤ whole +ℤ scale *ℤ cost_sum p x) where
   -- so often one worth by the other denominator
