@@ -1,7 +1,7 @@
 -- Border's condition is necessary: where some mechanism has the odds, no set of values has a positive excess.
 use Rattle.std.proofs.Common.{◌≡◌, ℕ, zero, suc, ◌+◌, ◌*◌, ◌<◌, ℤ, pos, ◌+ℤ◌, ◌-ℤ◌, ◌*ℤ◌, ◌≤ℤ◌, ◌<ℤ◌, Bool, true, false, if◌then◌else◌, List, length, get_or, refl, sym, ap, ◌∙◌, subst, arith}
 use Rattle.std.proofs.lemmas.Int.{ints}
-use Rattle.std.proofs.lemmas.List.{length-replicate, get_or-replicate}
+use Rattle.std.proofs.lemmas.List.{length-replicate}
 use Rattle.std.proofs.Math.IntN.{pos-*ℤ-pos}
 use Rattle.std.proofs.Math.ListN.{replicate}
 use Rattle.md_math.specs.Lists.{number_at}
@@ -27,6 +27,7 @@ use Rattle.md_border.specs.Sets.{has_some}
 use Rattle.md_math.specs.Sets.{member}
 use Rattle.md_border.specs.Sides.{right_of}
 use Rattle.md_border.specs.Odds.{HasOdds, weight_given, demand_of, demands_in, excess_of}
+use Rattle.md_border.proofs.ByValues.{count-general, kinds-general}
 use Rattle.md_border.proofs.SideLaws.{profile-weight}
 use Rattle.md_border.proofs.Wins.{where_in, by_kinds, wins-at}
 
@@ -76,8 +77,7 @@ demands-won a m interim set h =
     (λ v b. chosen-times (member set v) m.den (demand_of a interim v) ∙ ap (λ z. if member set v then z else pos 0) (demand-won a m interim v h b) ∙ sym (chosen-times (member set v) interim.den (won v)))
     ∙ sum_to-*ℤ kinds interim.den (λ v. if member set v then won v else pos 0)
     ∙ ap (λ z. interim.den *ℤ z)
-    (by_bidders sizes n kinds set (win a m) (ap length (sizes_of-general a) ∙ length-replicate n kinds)
-    (λ i b. ap (λ xs. get_or xs i 0) (sizes_of-general a) ∙ get_or-replicate n i kinds 0 b))
+    (by_bidders sizes n kinds set (win a m) (count-general a) (kinds-general a))
 
 -- they win no more than the whole, where there is one
 pub won-le : (a : SymmetricAuction) (m : Mechanism) (set : ℕ) → IsMechanism (general_of a) m

@@ -1,4 +1,5 @@
 pub mod Sets
+pub mod Cuts
 pub mod Sides
 pub mod Odds
 pub mod Worth

@@ -7,7 +7,7 @@ use Rattle.md_setting.specs.Auction.{SymmetricAuction, value_count, total_weight
 use Rattle.md_setting.specs.General.{general_of}
 use Rattle.md_mech.specs.declared.mechanism.Mechanism.{Mechanism}
 use Rattle.md_mech.specs.Accepted.{number_limit}
-use Rattle.md_mech.specs.Mechanism.{chance_of}
+use Rattle.md_mech.specs.Mechanism.{chance_of, pay_of}
 use Rattle.md_mech.specs.Utility.{weighted_given}
 use Rattle.md_border.specs.declared.interim.Interim.{Interim}
 use Rattle.md_math.specs.Sets.{member}
@@ -31,6 +31,12 @@ weight_given a v = slice_index a.weights v * total_weight a.weights ^ (a.bidders
 pub record HasOdds (a : SymmetricAuction) (m : Mechanism) (den : ℤ) (odds : List ℤ) : Type 0 where
   pub wins : (i v : ℕ) → i < a.bidders → v < value_count a
       → den *ℤ weighted_given (general_of a) i v (λ t. chance_of (general_of a) m t (i + 1)) ≡ m.den *ℤ (pos (weight_given a v) *ℤ number_at odds v)
+
+-- A mechanism of the auction in which each bidder with each value pays, on average over the values of the others, what the
+-- payments over the denominator say.
+pub record HasPays (a : SymmetricAuction) (m : Mechanism) (den : ℤ) (pays : List ℤ) : Type 0 where
+  pub paid : (i v : ℕ) → i < a.bidders → v < value_count a
+      → den *ℤ weighted_given (general_of a) i v (λ t. pay_of (general_of a) m i t) ≡ m.den *ℤ (pos (weight_given a v) *ℤ number_at pays v)
 
 -- how often all bidders together ask for the item with a value, by weight, in units of one over the denominator
 abbrev pub demand_of : SymmetricAuction → Interim → ℕ → ℤ

@@ -71,8 +71,8 @@ fn demand_if_in(auction: &Auction, interim: &Interim, set: u32, kind: u32) -> i1
     }
 }
 
-// The weight of the profiles in which a bidder has a kind, for all bidders together.
-fn weight_of_all(auction: &Auction, kind: u32) -> i128
+/// The weight of the profiles in which a bidder has a value of a kind, for all bidders together.
+pub fn weight_of_all(auction: &Auction, kind: u32) -> i128
     requires { kind < value_count auction.now }
     ensures value { result ≡ pos (auction.now.bidders * weight_given auction.now kind) }
     ensures size { result ≤ℤ pos (12 * 10 ^ 12) }

@@ -12,10 +12,10 @@ mod interim;
 mod sides;
 mod worth;
 
-pub use demands::{demand, excess};
+pub use demands::{demand, excess, weight_of_all};
 pub use interim::Interim;
-pub use sides::right_side;
-pub use worth::auction_worth;
+pub use sides::{has_kind, right_side};
+pub use worth::{auction_worth, surplus};
 
 #[cfg(test)]
 mod tests;

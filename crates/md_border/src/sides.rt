@@ -50,7 +50,7 @@ fn weight_if_in(auction: &Auction, set: u32, kind: u32) -> u64
 
 /// Whether a set has a kind.
 #[tactic(auto, unfolding(md_math::specs::Sets::member))]
-pub(crate) fn has_kind(set: u32, kind: u32) -> bool
+pub fn has_kind(set: u32, kind: u32) -> bool
     requires { kind < 12 }
     ensures { result ≡ member set kind }
 {

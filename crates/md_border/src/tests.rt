@@ -1,3 +1,4 @@
+//! Right sides, excesses and the worth of interim odds, worked out by hand.
 ghost use Rattle.std.specs.Prelude.{◌≡◌, ℕ, ◌^◌, ◌<◌, ◌≤◌, pos, ◌≤ℤ◌, length, IfOk};
 ghost use Rattle.md_math.specs.Lists.{number_at};
 ghost use Rattle.md_setting.specs.Auction.{SymmetricAuction, value_count};
@@ -96,6 +97,31 @@ fn right_sides(rt: HostRuntime) -> Result<(), Fail> {
     assert!(rt; has_right_sides(&three, &SIDES_OF_THREE));
     let weighed = auction(rt.alloc(), 2, &[2, 3, 6], &[2, 1, 1])?;
     assert!(rt; has_right_sides(&weighed, &SIDES_BY_WEIGHTS));
+    Ok(())
+}
+
+#[test]
+fn members_of_sets(rt: HostRuntime) -> Result<(), Fail> {
+    // 5 is 1 and 4: the first kind and the third one.
+    assert!(rt; has_kind(5, 0));
+    assert!(rt; !has_kind(5, 1));
+    assert!(rt; has_kind(5, 2));
+    assert!(rt; !has_kind(0, 11));
+    Ok(())
+}
+
+// The other of two bidders has values that weigh 4 together. The item is worth twice the winner's value to the designer, and
+// 5 where it is kept.
+#[test]
+fn numbers_of_one_value(rt: HostRuntime) -> Result<(), Fail> {
+    let auction = Auction::new(rt.alloc(), 2, &[2, 3, 6], &[2, 1, 1], 1, 2, 5)?;
+    if auction.kinds() != 3 {
+        return Err("no three values")?;
+    }
+    assert_eq!(rt; weight_of_all(&auction, 0), 2 * 2 * 4);
+    assert_eq!(rt; weight_of_all(&auction, 2), 2 * 1 * 4);
+    assert_eq!(rt; surplus(&auction, 0), 2 * 2 - 5);
+    assert_eq!(rt; surplus(&auction, 2), 2 * 6 - 5);
     Ok(())
 }
 

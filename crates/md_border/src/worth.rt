@@ -3,7 +3,12 @@ ghost use Rattle.std.specs.Prelude.{◌≡◌, ◌^◌, ◌<◌, pos, ◌<ℤ◌
 ghost use Rattle.md_math.specs.Divisors.{IsLeastTerms};
 ghost use Rattle.md_math.specs.Sizes.{IsWithin};
 ghost use Rattle.md_setting.specs.Auction.{value_count, total_weight};
-ghost use Rattle.md_border.specs.Odds.{IsInterim};
+ghost use Rattle.md_setting.specs.AuctionShaped.{IsAuction};
+ghost use Rattle.md_setting.specs.General.{general_of};
+ghost use Rattle.md_mech.specs.declared.mechanism.Mechanism.{Mechanism};
+ghost use Rattle.md_mech.specs.Mechanism.{IsMechanism};
+ghost use Rattle.md_mech.specs.Value.{IsValueOf};
+ghost use Rattle.md_border.specs.Odds.{IsInterim, HasOdds, HasPays};
 ghost use Rattle.md_border.specs.Worth.{surplus_of, gain_of, gains_of, worth_of};
 
 use crate::Interim;
@@ -16,6 +21,9 @@ pub fn auction_worth(auction: &Auction, interim: &Interim) -> Frac
     requires fits { IsInterim auction.now interim.now }
     ensures value { result.num *ℤ (pos (total_weight auction.now.weights) *ℤ interim.now.den) ≡ worth_of auction.now interim.now *ℤ result.den }
     ensures least { IsLeastTerms result.num result.den }
+
+    // It is the value of each mechanism of the auction that has the odds and the payments.
+    ensures of_mechanisms { (m : Mechanism) → IsMechanism (general_of auction.now) m → HasOdds auction.now m interim.now.den interim.now.odds → HasPays auction.now m interim.now.den interim.now.pays → IsValueOf (general_of auction.now) m result }
 {
     Frac::reduced(worth_over_whole(auction, interim), whole(auction, interim))
 }
@@ -26,6 +34,7 @@ fn whole(auction: &Auction, interim: &Interim) -> i128
     ensures value { result ≡ pos (total_weight auction.now.weights) *ℤ interim.now.den }
     ensures positive { pos 0 <ℤ result }
     ensures size { IsWithin (2 ^ 82) result }
+    ensures shaped { IsAuction auction.now }
 {
     product(i128::from(auction.total()), interim.den)
 }
@@ -70,8 +79,8 @@ fn gain(auction: &Auction, interim: &Interim, kind: u32) -> i128
     )
 }
 
-// What the item is worth to the designer with a bidder whose value is of a kind, more than where it is kept.
-fn surplus(auction: &Auction, kind: u32) -> i128
+/// What the item is worth to the designer with a bidder whose value is of a kind, more than where it is kept.
+pub fn surplus(auction: &Auction, kind: u32) -> i128
     requires { kind < value_count auction.now }
     ensures value { result ≡ surplus_of auction.now kind }
     ensures size { IsWithin 11000000 result }

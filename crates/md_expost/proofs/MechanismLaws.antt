@@ -1,5 +1,5 @@
 -- The mechanism of a mass table is a mechanism of the auction, and has the odds whose demands are the masses.
-use Rattle.std.proofs.Common.{◌≡◌, ℕ, zero, suc, ◌+◌, ◌<◌, ◌≤◌, ℤ, pos, ◌+ℤ◌, ◌-ℤ◌, ◌*ℤ◌, ◌≤ℤ◌, ◌<ℤ◌, Bool, true, false, ◌==◌, if◌then◌else◌, List, refl, sym, ap, ap₂, ◌∙◌, subst, arith}
+use Rattle.std.proofs.Common.{◌≡◌, ℕ, zero, suc, ◌+◌, ◌-◌, ◌<◌, ◌≤◌, ℤ, pos, ◌+ℤ◌, ◌-ℤ◌, ◌*ℤ◌, ◌≤ℤ◌, ◌<ℤ◌, Bool, true, false, ◌==◌, if◌then◌else◌, List, refl, sym, ap, ap₂, ◌∙◌, subst, arith}
 use Rattle.std.specs.Prelude.{slice_index}
 use Rattle.std.proofs.lemmas.Int.{ints}
 use Rattle.std.proofs.Math.IntN.{pos-*ℤ-pos}
@@ -14,21 +14,21 @@ use Rattle.md_math.proofs.TotalLaws.{total_by-*ℤ, total_by-sum_to}
 use Rattle.md_space.specs.Profiles.{IsProfile}
 use Rattle.md_space.specs.AllProfiles.{profiles_of}
 use Rattle.md_space.specs.ByType.{where_type}
-use Rattle.md_space.proofs.TypeSums.{total-same, total_given-same}
-use Rattle.md_setting.specs.Meaning.{sizes_of, weight_of}
+use Rattle.md_space.proofs.TypeSums.{total-same, total_given-same, total_given-*ℤ}
+use Rattle.md_setting.specs.Meaning.{sizes_of, weight_of, marginal_of}
 use Rattle.md_setting.specs.Auction.{SymmetricAuction, value_count}
 use Rattle.md_setting.specs.AuctionShaped.{IsAuction}
 use Rattle.md_setting.specs.General.{general_of}
-use Rattle.md_setting.proofs.GeneralLaws.{general-payments, outcome_count-general, sizes_of-general}
-use Rattle.md_mech.specs.Mechanism.{chance_of, IsMechanism}
+use Rattle.md_setting.proofs.GeneralLaws.{general-payments, agent_count-general, outcome_count-general, sizes_of-general, marginal_of-general}
+use Rattle.md_mech.specs.Mechanism.{chance_of, pay_of, IsMechanism}
 use Rattle.md_mech.specs.Utility.{weighted_given}
 use Rattle.md_mech.proofs.WholeLaws.{stays_nonneg}
-use Rattle.md_mech.proofs.ByProfileLaws.{chance_of-mechanism_by, IsMechanism-mechanism_by}
+use Rattle.md_mech.proofs.ByProfileLaws.{chance_of-mechanism_by, pay_of-mechanism_by, IsMechanism-mechanism_by}
 use Rattle.md_counts.specs.Weights.{has_counts, value_lists}
 use Rattle.md_counts.proofs.RankLaws.{ranked}
 use Rattle.md_counts.proofs.Regrouping.{where_counts, weight_of_values, given-counts}
 use Rattle.md_border.specs.declared.interim.Interim.{Interim}
-use Rattle.md_border.specs.Odds.{HasOdds, weight_given}
+use Rattle.md_border.specs.Odds.{HasOdds, HasPays, weight_given}
 use Rattle.md_border.proofs.SideLaws.{profile-weight}
 use Rattle.md_expost.specs.declared.masses.Masses.{Masses}
 use Rattle.md_expost.specs.Masses.{AreMasses, counts_in, mass_at, mass_of, rank_count}
@@ -174,3 +174,35 @@ odds-of_masses a interim y pays h masses exact = record { wins = λ i v b l. at 
         ap (λ z. interim.den *ℤ z) (*ℤ_cancel (pos n) won (o *ℤ (pos (weight_given a v) *ℤ q)) (some_bidder n h.some_bidder) all)
         ∙ sym (*ℤ_assoc interim.den o (pos (weight_given a v) *ℤ q))
         ∙ ap (λ d. (d *ℤ o) *ℤ (pos (weight_given a v) *ℤ q)) (sym exact.same_den)
+
+-- ---- the payments
+
+-- each bidder with a value pays the same at each profile
+pub pays-of_masses : (a : SymmetricAuction) (y : Masses) (pays : List ℤ) → IsAuction a → HasPays a (mechanism_of a y pays) y.den pays
+pays-of_masses a y pays h = record { paid = λ i v b l. at i v b l }
+  where
+    pay : ℕ → List ℕ → ℤ
+    pay i t = number_at pays (slice_index t i) *ℤ pos (all_orders a)
+
+    term : (i v : ℕ) (t : List ℕ) → i < a.bidders → IsProfile (sizes_of (general_of a)) t → slice_index t i ≡ v
+        → weight_of (general_of a) t *ℤ pay_of (general_of a) (mechanism_of a y pays) i t ≡ (number_at pays v *ℤ pos (all_orders a)) *ℤ weight_of (general_of a) t
+    term i v t b p e =
+        ap (λ z. weight_of (general_of a) t *ℤ z)
+        (pay_of-mechanism_by (general_of a) (whole_of a y) (lottery_of a y) pay t i p (omega (arith, agent_count-general a, b))
+        ∙ ap (λ u. number_at pays u *ℤ pos (all_orders a)) e)
+        ∙ *ℤ_comm (weight_of (general_of a) t) (number_at pays v *ℤ pos (all_orders a))
+
+    less : (n : ℕ) → 1 ≤ n → n ≡ suc (n - 1)
+    less n l = omega (arith, l)
+
+    parts : (d o g q : ℤ) → d *ℤ ((q *ℤ o) *ℤ g) ≡ (d *ℤ o) *ℤ (g *ℤ q)
+    parts d o g q = simp ring
+
+    at : (i v : ℕ) → i < a.bidders → v < value_count a
+        → y.den *ℤ weighted_given (general_of a) i v (λ t. pay_of (general_of a) (mechanism_of a y pays) i t) ≡ whole_of a y *ℤ (pos (weight_given a v) *ℤ number_at pays v)
+    at i v b l =
+        ap (λ z. y.den *ℤ z)
+        (total_given-same (sizes_of (general_of a)) i v _ (λ t. (number_at pays v *ℤ pos (all_orders a)) *ℤ weight_of (general_of a) t) (λ t p e. term i v t b p e)
+        ∙ total_given-*ℤ (sizes_of (general_of a)) i v (number_at pays v *ℤ pos (all_orders a)) (weight_of (general_of a))
+        ∙ ap (λ z. (number_at pays v *ℤ pos (all_orders a)) *ℤ z) (marginal_of-general a (a.bidders - 1) i v h.one_each (less a.bidders h.some_bidder) b l))
+        ∙ parts y.den (pos (all_orders a)) (pos (weight_given a v)) (number_at pays v)

@@ -6,7 +6,7 @@ ghost use Rattle.md_setting.specs.AuctionShaped.{IsAuction};
 ghost use Rattle.md_setting.specs.General.{general_of};
 ghost use Rattle.md_mech.specs.declared.mechanism.Mechanism.{Mechanism};
 ghost use Rattle.md_mech.specs.Mechanism.{IsMechanism};
-ghost use Rattle.md_border.specs.Odds.{IsInterim, HasOdds};
+ghost use Rattle.md_border.specs.Odds.{IsInterim, HasOdds, HasPays};
 ghost use Rattle.md_flow.specs.Network.{node_count, demand_count};
 ghost use Rattle.md_flow.specs.Flows.{Meets, amount_in};
 ghost use Rattle.md_flow.specs.Over.{NoneOver, IsWorst};
@@ -38,6 +38,7 @@ pub fn realise(alloc: Global, auction: &Auction, interim: &Interim) -> Result<Re
     // Border's condition suffices: with any payments by kind, the table makes a mechanism of the auction, which has the odds.
     ensures mechanism { IfOk result (WhereTable (λ y. (pays : List ℤ) → IsMechanism (general_of auction.now) (mechanism_of auction.now y pays))) }
     ensures sufficient { IfOk result (WhereTable (λ y. (pays : List ℤ) → HasOdds auction.now (mechanism_of auction.now y pays) interim.now.den interim.now.odds)) }
+    ensures pays { IfOk result (WhereTable (λ y. (pays : List ℤ) → HasPays auction.now (mechanism_of auction.now y pays) y.den pays)) }
 
     // It is necessary: where a set breaks it, no mechanism of the auction has the odds, truthful or not.
     ensures violated { IfOk result (WhereViolated (IsWorstSet auction.now interim.now)) }

@@ -5,3 +5,8 @@ pub mod TermForms
 pub mod CostLaws
 pub mod PointLaws
 pub mod SampleLaws
+pub mod Replacing
+pub mod MeanLaws
+pub mod AverageRows
+pub mod AdmissibleLaws
+pub mod BoundLaws

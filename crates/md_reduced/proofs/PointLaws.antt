@@ -101,12 +101,16 @@ right-at_most a v shaped h =
     most = rw weight (below _ _ _
         (power-less (total_weight a.weights) (slice_index a.weights v) a.bidders (let l : slice_index a.weights v ≤ total_weight a.weights = omega (arith, weight, sum_in-le (2 ^ v) a.weights) in l) shaped.some_bidder))
 
+-- the weight of all profiles of the others
+pub others-positive : (a : SymmetricAuction) → IsAuction a → 0 < total_weight a.weights ^ (a.bidders - 1)
+others-positive a shaped =
+    let power : total_weight a.weights ^ 0 ≤ total_weight a.weights ^ (a.bidders - 1) = pow-le-pow_right {n = total_weight a.weights} (total-positive a shaped) {i = 0} {j = a.bidders - 1} (omega arith) in
+    omega (arith, power, pow-zero (total_weight a.weights))
+
 weight-positive : (a : SymmetricAuction) (v : ℕ) → IsAuction a → v < value_count a → 0 < a.bidders * weight_given a v
 weight-positive a v shaped h =
     let some : 0 < a.bidders = omega (arith, shaped.some_bidder) in
-    let power : total_weight a.weights ^ 0 ≤ total_weight a.weights ^ (a.bidders - 1) = pow-le-pow_right {n = total_weight a.weights} (total-positive a shaped) {i = 0} {j = a.bidders - 1} (omega arith) in
-    let others : 0 < total_weight a.weights ^ (a.bidders - 1) = omega (arith, power, pow-zero (total_weight a.weights)) in
-    mul-pos some (mul-pos (shaped.weight v h).0 others)
+    mul-pos some (mul-pos (shaped.weight v h).0 (others-positive a shaped))
 
 all-get : {X : Type 0} (P : X → Type 0) (xs : List X) (k : ℕ) (x : X) → All P xs → slice_get xs k ≡ Some x → P x
 all-get P [] k x h e = absurd (none-some x e)

@@ -4,7 +4,7 @@ ghost use Rattle.md_math.specs.Sizes.{IsWithin};
 ghost use Rattle.md_setting.specs.Auction.{value_count};
 ghost use Rattle.md_reduced.specs.Costs.{odds_cost, odds_costs, pay_cost, pay_costs, written_cost};
 
-use crate::numbers::surplus;
+use md_border::surplus;
 use md_num::{NoMemory, Nums, product};
 use md_setting::Auction;
 use std::alloc::Global;

@@ -6,7 +6,6 @@ mod condition;
 mod costs;
 mod interim;
 mod names;
-mod numbers;
 mod reduced;
 mod rows;
 mod terms;

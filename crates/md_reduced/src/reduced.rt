@@ -1,12 +1,14 @@
 //! The reduced program of an auction.
-ghost use Rattle.std.specs.Prelude.{◌≡◌, [], length, IfOk, OnOk};
+ghost use Rattle.std.specs.Prelude.{◌≡◌, [], pos, length, IfOk, OnOk};
 ghost use Rattle.md_setting.specs.Auction.{value_count};
 ghost use Rattle.md_setting.specs.AuctionShaped.{IsAuction};
 ghost use Rattle.md_lp.specs.Program.{row_count};
+ghost use Rattle.md_lp.specs.Point.{Meets};
 ghost use Rattle.md_forms.specs.Built.{HasRoom, Extends};
 ghost use Rattle.md_forms.specs.ProgramOf.{HasCostOf};
 ghost use Rattle.md_reduced.specs.Conditions.{conditions_of};
-ghost use Rattle.md_reduced.specs.Cuts.{AreCuts};
+ghost use Rattle.md_border.specs.Cuts.{AreCuts, HasSingles};
+ghost use Rattle.md_reduced.specs.Mechanisms.{AdmitsPoints, HoldsAdmissible, IsBounded};
 ghost use Rattle.md_reduced.specs.ProgramOf.{IsReducedProgram, HasEachRow, MeetsByConditions, CostsPoints, column_count, forms_of};
 ghost use Rattle.md_reduced.specs.Sides.{cost_of};
 
@@ -32,6 +34,14 @@ pub fn program(alloc: Global, auction: &Auction, cuts: &Sets) -> Result<Lp, NoMe
     // Points of any denominator, with numbers of any size.
     ensures meets { IfOk result (MeetsByConditions auction.now 1 cuts.now) }
     ensures costs { IfOk result (CostsPoints auction.now) }
+
+    // What its points say of the mechanisms of the auction, and these of its points, whatever the cuts are.
+    ensures admits { IfOk result (AdmitsPoints auction.now) }
+    ensures averages { IfOk result (HoldsAdmissible auction.now) }
+
+    // Some point meets it, and where each value alone has a cut no point grows without end.
+    ensures zero { IfOk result (λ lp. Meets lp (pos 1) (λ _. pos 0)) }
+    ensures bounded { IfOk result (λ lp. HasSingles (value_count auction.now) cuts.now → IsBounded lp) }
 {
     let mut lp = without_rows(alloc, auction)?;
     push_rows(alloc, auction, cuts, &mut lp)?;

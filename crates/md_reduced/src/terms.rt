@@ -9,7 +9,7 @@ ghost use Rattle.md_reduced.specs.declared.condition.ReducedCondition.TheVariant
 ghost use Rattle.md_reduced.specs.ProgramOf.{column_count};
 ghost use Rattle.md_reduced.specs.Sides.{left_side};
 
-use crate::numbers::{has_kind, weight_of_all};
+use md_border::{has_kind, weight_of_all};
 use md_forms::push_term;
 use md_lp::Term;
 use md_num::NoMemory;

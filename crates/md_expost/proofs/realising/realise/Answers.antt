@@ -9,7 +9,7 @@ use Rattle.md_flow.specs.Flows.{Meets, amount_in}
 use Rattle.md_flow.specs.Over.{NoneOver, IsWorst}
 use Rattle.md_flow.specs.Ends.{WhereFull, WhereCut}
 use Rattle.md_expost.specs.declared.masses.Masses.{Masses}
-use Rattle.md_expost.proofs.MechanismLaws.{mechanism-of_masses, odds-of_masses}
+use Rattle.md_expost.proofs.MechanismLaws.{mechanism-of_masses, odds-of_masses, pays-of_masses}
 use Rattle.md_expost.proofs.FlowLaws.{masses-of_flow, implements-of_flow, border-met, worst-of_net, no_mechanism}
 use Rattle.md_expost.proofs.realising.realise.Goals as goal
 
@@ -42,6 +42,9 @@ returns-in-Full-clause-mechanism c = λ pays. mechanism-of_masses c.args.auction
 pub returns-in-Full-clause-sufficient : goal.returns-in-Full-clause-sufficient
 returns-in-Full-clause-sufficient c = λ pays.
     odds-of_masses c.args.auction.now c.args.interim.now (table c) pays c.in_ok-counts.ensures.shaped (returns-in-Full-clause-table c) (returns-in-Full-clause-odds c)
+
+pub returns-in-Full-clause-pays : goal.returns-in-Full-clause-pays
+returns-in-Full-clause-pays c = λ pays. pays-of_masses c.args.auction.now (table c) pays c.in_ok-counts.ensures.shaped
 
 pub returns-clause-violated : goal.returns-clause-violated
 returns-clause-violated c =

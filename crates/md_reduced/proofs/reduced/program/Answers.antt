@@ -4,6 +4,8 @@ use Rattle.md_reduced.specs.Conditions.{conditions_of}
 use Rattle.md_reduced.specs.ProgramOf.{IsReducedProgram, column_count, forms_of}
 use Rattle.md_reduced.specs.Sides.{cost_of}
 use Rattle.md_reduced.proofs.BuiltLaws.{whole-room, each-row, rows-count, meets-conditions, costs-points}
+use Rattle.md_reduced.proofs.AdmissibleLaws.{admits, stands-in}
+use Rattle.md_reduced.proofs.BoundLaws.{zero-meets, bounded}
 use Rattle.md_reduced.proofs.reduced.program.Goals as goal
 
 pub push_rows-requires-clause-room : goal.push_rows-requires-clause-room
@@ -16,10 +18,15 @@ returns c =
     let lp = c.push_rows.new.lp in
     let is : IsReducedProgram a 1 cuts lp =
     program-of (column_count a) (forms_of a 1 (conditions_of (value_count a) cuts)) (cost_of a) c.in_ok-lp.lp lp c.in_ok-lp.ensures.columns c.in_ok-lp.ensures.cost c.in_ok-lp.ensures.no_row c.in_ok-push_rows.ensures in
+    let shaped = c.in_ok-lp.ensures.shaped in
     record {
       program = is;
       each_row = each-row a 1 cuts lp is;
       count = rows-count a 1 cuts lp is;
       meets = meets-conditions a 1 cuts lp is;
       costs = costs-points a 1 cuts lp is;
+      admits = admits a cuts lp shaped is;
+      averages = stands-in a cuts lp shaped is;
+      zero = zero-meets a 1 cuts lp is;
+      bounded = λ singles. bounded a cuts lp shaped is singles;
     }

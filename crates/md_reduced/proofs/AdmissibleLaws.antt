@@ -1,0 +1,273 @@
+-- What a reduced program says of the mechanisms of an auction: which are admissible, and where they stand in it.
+use Rattle.std.proofs.Common.{◌≡◌, ◌≢◌, ℕ, suc, ◌+◌, ◌-◌, ◌*◌, ◌^◌, ◌<◌, ◌≤◌, ℤ, pos, ◌+ℤ◌, ◌-ℤ◌, ◌*ℤ◌, ◌≤ℤ◌, ◌<ℤ◌, neg_ℤ, Bool, true, false, if◌then◌else◌, List, ◌++◌, map, length, get_or, All, refl, sym, ap, ap₂, ◌∙◌, subst, arith, inl, inr, ne_eqb}
+use Rattle.std.proofs.lemmas.Bool.{cases_eq}
+use Rattle.std.specs.Prelude.{slice_index}
+use Rattle.std.proofs.lemmas.Int.{ints}
+use Rattle.std.proofs.Math.IntN.{pos-*ℤ-pos}
+use lib.IntN.{*ℤ_comm}
+use Rattle.md_math.specs.Lists.{number_at, list_to}
+use Rattle.md_math.specs.Sums.{sum_to}
+use Rattle.md_math.proofs.Builders.{All-left, All-right, All-up_to_at, length-list_to, get_or-list_to}
+use Rattle.md_math.proofs.Order.{≤ℤ_trans, *ℤ-le, le_from_*ℤ, nonneg_from_*ℤ, nonneg-*ℤ, *ℤ_cancel, positive_pos}
+use Rattle.md_math.proofs.Ring.{linear, ring, *ℤ-zero, zero-*ℤ}
+use Rattle.md_math.proofs.SumLaws.{sum_to-single}
+use Rattle.md_space.specs.Profiles.{IsProfile, replaced}
+use Rattle.md_space.proofs.TypeSums.{total_given-same}
+use Rattle.md_setting.specs.declared.kinds.Truth.{Truth as TruthKind}
+use Rattle.md_setting.specs.declared.kinds.Rational.{Rational as RationalKind}
+use Rattle.md_setting.specs.Meaning.{agent_count, sizes_of, weight_of, outside_of, marginal_of, utility_of}
+use Rattle.md_setting.specs.Auction.{SymmetricAuction, value_count, total_weight}
+use Rattle.md_setting.specs.AuctionShaped.{IsAuction}
+use Rattle.md_setting.specs.General.{general_of}
+use Rattle.md_setting.proofs.GeneralLaws.{HasValues, general-truth, general-rational, general-no_deficit, agent_count-general, outcome_count-general, own_utility-general, other_utility-general, outside_of-general}
+use Rattle.md_mech.specs.declared.mechanism.Mechanism.{Mechanism}
+use Rattle.md_mech.specs.Admissible.{IsAdmissible}
+use Rattle.md_mech.specs.Mechanism.{chance_of, pay_of, IsMechanism}
+use Rattle.md_mech.specs.Optimal.{worth_of}
+use Rattle.md_mech.specs.Rationality.{IsInterimRational, IsRationalBy}
+use Rattle.md_mech.specs.Truth.{IsBayesTruth, IsTruthfulBy}
+use Rattle.md_mech.specs.Utility.{expected_utility, weighted_given}
+use Rattle.md_mech.proofs.RowLaws.{by_report-at}
+use Rattle.md_lp.specs.Program.{Program}
+use Rattle.md_lp.specs.Point.{Meets, cost_sum}
+use Rattle.md_forms.specs.Forms.{Holds}
+use Rattle.md_border.specs.Odds.{HasOdds, HasPays, weight_given}
+use Rattle.md_border.specs.Worth.{surplus_of}
+use Rattle.md_border.proofs.ByValues.{kinds-general, given-sub}
+use Rattle.md_border.proofs.MechanismWorth.{has-values, worth-by_values, others}
+use Rattle.md_border.proofs.Necessity.{won-le}
+use Rattle.md_border.proofs.SideLaws.{right_of-counts}
+use Rattle.md_reduced.specs.declared.condition.ReducedCondition.{ReducedCondition}
+use Rattle.md_reduced.specs.declared.condition.ReducedCondition.TheVariants.{Truth, Rational, Cut}
+use Rattle.md_reduced.specs.Averages.{all_weights, times_of, averages, gain_at, win_in, paid_in, point_of, won_in, IsAdmissibleOnAverage}
+use Rattle.md_reduced.specs.Conditions.{truths_at, truths, rationals, conditions_of}
+use Rattle.md_reduced.specs.Mechanisms.{AdmitsPoints, StandsIn, HoldsAdmissible, base_of, scale_of}
+use Rattle.md_reduced.specs.ProgramOf.{form_of, IsReducedProgram}
+use Rattle.md_reduced.specs.Sides.{pay_in, utility_in, cost_of}
+use Rattle.md_reduced.proofs.BuiltLaws.{meets-conditions, costs-points}
+use Rattle.md_reduced.proofs.AverageRows.{averages-meet}
+use Rattle.md_reduced.proofs.MeanLaws.{nonneg_pos, times-parts, averaged-cost}
+use Rattle.md_reduced.proofs.Replacing.{given-replaced}
+
+-- ---- what a bidder has
+
+-- a bidder has its value as often as it wins, less what it pays
+utility-at : (a : SymmetricAuction) (m : Mechanism) (i : ℕ) (t r : List ℕ) → i < a.bidders → IsProfile (sizes_of (general_of a)) t
+    → expected_utility (general_of a) m i t r ≡ number_at a.values (slice_index t i) *ℤ chance_of (general_of a) m r (i + 1) -ℤ pay_of (general_of a) m i r
+utility-at a m i t r b p =
+    let s = general_of a in
+    let values = has-values a t p in
+    ap (λ k. sum_to k (λ o. chance_of s m r o *ℤ utility_of s i t o) -ℤ pay_of s m i r) (outcome_count-general a)
+    ∙ ap (λ z. z -ℤ pay_of s m i r)
+    (sum_to-single (a.bidders + 1) (i + 1) (λ o. chance_of s m r o *ℤ utility_of s i t o) (omega (arith, b))
+    (λ o c d. ap (λ z. chance_of s m r o *ℤ z) (other_utility-general a i t o b (values.value i b) c d) ∙ *ℤ-zero (chance_of s m r o))
+    ∙ ap (λ z. chance_of s m r (i + 1) *ℤ z) (own_utility-general a i t b (values.value i b))
+    ∙ *ℤ_comm (chance_of s m r (i + 1)) (number_at a.values (slice_index t i)))
+
+-- on average over its profiles with a value, where it reports as r says
+gains-given : (a : SymmetricAuction) (m : Mechanism) (i v : ℕ) (r : List ℕ → List ℕ) → i < a.bidders
+    → weighted_given (general_of a) i v (λ t. expected_utility (general_of a) m i t (r t)) ≡ weighted_given (general_of a) i v (λ t. gain_at a (win_in a m) (paid_in a m) v i (r t))
+gains-given a m i v r b =
+    let s = general_of a in
+    total_given-same (sizes_of s) i v (λ t. weight_of s t *ℤ expected_utility s m i t (r t)) (λ t. weight_of s t *ℤ gain_at a (win_in a m) (paid_in a m) v i (r t))
+    (λ t p e. ap (λ z. weight_of s t *ℤ z) (utility-at a m i t (r t) b p ∙ ap (λ u. number_at a.values u *ℤ chance_of s m (r t) (i + 1) -ℤ pay_of s m i (r t)) e))
+
+-- ---- from mechanisms to points
+
+bayes : (a : SymmetricAuction) (m : Mechanism) → IsAdmissible (general_of a) m → IsBayesTruth (general_of a) m
+bayes a m admissible = subst (λ (k : TruthKind). IsTruthfulBy k (general_of a) m) (general-truth a) admissible.truthful
+
+interim : (a : SymmetricAuction) (m : Mechanism) → IsAdmissible (general_of a) m → IsInterimRational (general_of a) m
+interim a m admissible = subst (λ (k : RationalKind). IsRationalBy k (general_of a) m) (general-rational a) admissible.rational
+
+nothing_outside : (a : SymmetricAuction) (m : Mechanism) (i v : ℕ) → i < a.bidders → (m.den *ℤ outside_of (general_of a) i v) *ℤ marginal_of (general_of a) i v ≡ pos 0
+nothing_outside a m i v b =
+    ap (λ z. (m.den *ℤ z) *ℤ marginal_of (general_of a) i v) (outside_of-general a i v b)
+    ∙ ap (λ z. z *ℤ marginal_of (general_of a) i v) (*ℤ-zero m.den)
+    ∙ zero-*ℤ (marginal_of (general_of a) i v)
+
+pub mechanism-on_average : (a : SymmetricAuction) (m : Mechanism) → IsAuction a → IsAdmissible (general_of a) m → IsAdmissibleOnAverage a 1 m.den (win_in a m) (paid_in a m)
+mechanism-on_average a m shaped admissible =
+    let s = general_of a in
+    let agent = λ (i : ℕ) (b : i < a.bidders). subst (λ n. i < n) (sym (agent_count-general a)) b in
+    let inside = λ (i v : ℕ) (b : i < a.bidders) (l : v < value_count a). subst (λ k. v < k) (sym (kinds-general a i b)) l in
+    record {
+      den_positive = admissible.mechanism.den;
+      nonneg = λ i t b p. admissible.mechanism.not_negative t (i + 1) p (omega (arith, b, outcome_count-general a));
+      truthful = λ i v w b l k.
+          subst (λ z. z ≤ℤ weighted_given s i v (gain_at a (win_in a m) (paid_in a m) v i)) (gains-given a m i v (λ t. replaced t i w) b)
+          (subst (λ z. weighted_given s i v (λ t. expected_utility s m i t (replaced t i w)) ≤ℤ z) (gains-given a m i v (λ t. t) b) (bayes a m admissible i v w (agent i b) (inside i v b l) (inside i w b k)));
+      rational = λ i v b l.
+          subst (λ z. z ≤ℤ weighted_given s i v (gain_at a (win_in a m) (paid_in a m) v i)) (nothing_outside a m i v b)
+          (subst (λ z. ((m.den *ℤ outside_of s i v) *ℤ marginal_of s i v) ≤ℤ z) (gains-given a m i v (λ t. t) b) (interim a m admissible i v (agent i b) (inside i v b l)));
+      inside = λ set. subst (λ r. won_in a (win_in a m) set ≤ℤ (m.den *ℤ r)) (right_of-counts a set) (won-le a m set admissible.mechanism);
+    }
+
+pub stands-in : (a : SymmetricAuction) (cuts : List ℕ) (p : Program) → IsAuction a → IsReducedProgram a 1 cuts p → HoldsAdmissible a p
+stands-in a cuts p shaped is m admissible =
+    let s = general_of a in
+    let n = pos a.bidders in
+    let all = pos (all_weights a) in
+    let t = pos (times_of a) in
+    let x = point_of a m in
+    let power = pos (total_weight a.weights ^ a.bidders) in
+    let added = sum_to (value_count a) (λ v. sum_to a.bidders (λ i. surplus_of a v *ℤ weighted_given s i v (win_in a m i) +ℤ a.revenue *ℤ weighted_given s i v (paid_in a m i))) in
+    let cost : all *ℤ added ≡ p.factor *ℤ cost_sum p x = sym (averaged-cost a (win_in a m) (paid_in a m)) ∙ costs-points a 1 cuts p is x in
+    record {
+      meets = averages-meet a 1 cuts p m.den (win_in a m) (paid_in a m) shaped is (mechanism-on_average a m shaped admissible);
+      worth = ap (λ z. t *ℤ z) (worth-by_values a m shaped admissible.mechanism)
+          ∙ first t (a.keep *ℤ m.den) power added
+          ∙ ap₂ (λ y z. y +ℤ z) (second t a.keep m.den power)
+          (ap (λ z. z *ℤ added) (times-parts a)
+          ∙ third n (others a) all added
+          ∙ ap (λ z. (n *ℤ others a) *ℤ z) cost
+          ∙ ap (λ z. z *ℤ (p.factor *ℤ cost_sum p x)) (pos-*ℤ-pos a.bidders (total_weight a.weights ^ (a.bidders - 1)))
+          ∙ fourth (pos (a.bidders * total_weight a.weights ^ (a.bidders - 1))) p.factor (cost_sum p x));
+    }
+  where
+    first : (t k w g : ℤ) → t *ℤ (k *ℤ w +ℤ g) ≡ t *ℤ (k *ℤ w) +ℤ t *ℤ g
+    first t k w g = simp ring
+
+    second : (t k d w : ℤ) → t *ℤ ((k *ℤ d) *ℤ w) ≡ (k *ℤ w) *ℤ (t *ℤ d)
+    second t k d w = simp ring
+
+    third : (n b w g : ℤ) → ((n *ℤ b) *ℤ w) *ℤ g ≡ (n *ℤ b) *ℤ (w *ℤ g)
+    third n b w g = simp ring
+
+    fourth : (c f z : ℤ) → c *ℤ (f *ℤ z) ≡ (c *ℤ f) *ℤ z
+    fourth c f z = simp ring
+
+-- ---- from points to mechanisms
+
+-- the conditions that a point keeps, one by one
+pub record KeepsRows (a : SymmetricAuction) (x : ℕ → ℤ) : Type 0 where
+  pub truth : (v w : ℕ) → v < value_count a → w < value_count a → utility_in a x v w ≤ℤ utility_in a x v v
+  pub rational : (v : ℕ) → v < value_count a → pos 0 ≤ℤ utility_in a x v v
+
+pub keeps-rows : (a : SymmetricAuction) (units : ℕ) (cuts : List ℕ) (p : Program) (den : ℤ) (x : ℕ → ℤ) → IsReducedProgram a units cuts p → Meets p den x → KeepsRows a x
+keeps-rows a units cuts p den x is meets = record {
+  truth = λ v w l k. elim (cases_eq w v) [
+    | inl e ↦ same (utility_in a x v w) (utility_in a x v v) (ap (utility_in a x v) e)
+    | inr d ↦
+        less (utility_in a x v w) (utility_in a x v v) (den *ℤ pos 0) (*ℤ-zero den)
+        (by_report-at holds kinds v (Truth v) w k (ne_eqb w v d) (All-up_to_at holds kinds v (truths_at kinds) l (All-left holds (truths kinds) (rationals kinds ++ map Cut cuts) kept)))
+  ];
+  rational = λ v l.
+      negative (utility_in a x v v) (den *ℤ pos 0) (*ℤ-zero den)
+      (subst holds (get_or-list_to kinds Rational v (Rational v) l)
+      (All-left holds (rationals kinds) (map Cut cuts) (All-right holds (truths kinds) (rationals kinds ++ map Cut cuts) kept) v (Rational v) (subst (λ n. v < n) (sym (length-list_to kinds Rational)) l)));
+}
+  where
+    kinds : ℕ
+    kinds = value_count a
+
+    holds : ReducedCondition → Type 0
+    holds c = Holds den x (form_of a units c)
+
+    kept : All holds (conditions_of kinds cuts)
+    kept = (meets-conditions a units cuts p is den x meets.point).0 meets
+
+    same : (y z : ℤ) → y ≡ z → y ≤ℤ z
+    same y z e = omega (arith, linear)
+
+    less : (y z o : ℤ) → o ≡ pos 0 → (y -ℤ z) ≤ℤ o → y ≤ℤ z
+    less y z o e l = omega (arith, linear)
+
+    negative : (y o : ℤ) → o ≡ pos 0 → neg_ℤ y ≤ℤ o → pos 0 ≤ℤ y
+    negative y o e l = omega (arith, linear)
+
+-- what a bidder with the value w would have with the value v, by the odds and payments of a point
+gain-by_odds : (a : SymmetricAuction) (m : Mechanism) (den : ℤ) (x : ℕ → ℤ) (i v w : ℕ) → HasOdds a m den (list_to (value_count a) x) → HasPays a m den (list_to (value_count a) (pay_in a x)) → i < a.bidders → w < value_count a
+    → den *ℤ weighted_given (general_of a) i w (gain_at a (win_in a m) (paid_in a m) v i) ≡ m.den *ℤ (pos (weight_given a w) *ℤ utility_in a x v w)
+gain-by_odds a m den x i v w odds pays b k =
+    let s = general_of a in
+    let c = number_at a.values v in
+    let won = weighted_given s i w (win_in a m i) in
+    let paid = weighted_given s i w (paid_in a m i) in
+    ap (λ z. den *ℤ z) (given-sub s i w c (win_in a m i) (paid_in a m i))
+    ∙ first den c won paid
+    ∙ ap₂ (λ y z. c *ℤ y -ℤ z) (odds.wins i w b k) (pays.paid i w b k)
+    ∙ ap₂ (λ y z. c *ℤ (m.den *ℤ (pos (weight_given a w) *ℤ y)) -ℤ m.den *ℤ (pos (weight_given a w) *ℤ z)) (get_or-list_to (value_count a) x w (pos 0) k) (get_or-list_to (value_count a) (pay_in a x) w (pos 0) k)
+    ∙ second m.den (pos (weight_given a w)) c (x w) (pay_in a x w)
+  where
+    first : (d c y z : ℤ) → d *ℤ (c *ℤ y -ℤ z) ≡ c *ℤ (d *ℤ y) -ℤ d *ℤ z
+    first d c y z = simp ring (omega (arith, linear))
+
+    second : (m g c y z : ℤ) → c *ℤ (m *ℤ (g *ℤ y)) -ℤ m *ℤ (g *ℤ z) ≡ m *ℤ (g *ℤ (c *ℤ y -ℤ z))
+    second m g c y z = simp ring (omega (arith, linear))
+
+-- what it has where it tells w
+told-by_odds : (a : SymmetricAuction) (m : Mechanism) (den : ℤ) (x : ℕ → ℤ) (i v w : ℕ) → IsAuction a → HasOdds a m den (list_to (value_count a) x) → HasPays a m den (list_to (value_count a) (pay_in a x)) → i < a.bidders → v < value_count a → w < value_count a
+    → den *ℤ weighted_given (general_of a) i v (λ t. gain_at a (win_in a m) (paid_in a m) v i (replaced t i w)) ≡ m.den *ℤ (pos (weight_given a v) *ℤ utility_in a x v w)
+told-by_odds a m den x i v w shaped odds pays b l k =
+    let s = general_of a in
+    let f = λ (u : ℕ). pos (slice_index a.weights u) in
+    let g = gain_at a (win_in a m) (paid_in a m) v i in
+    let told = weighted_given s i v (λ t. g (replaced t i w)) in
+    let there = weighted_given s i w g in
+    *ℤ_cancel (f w) (den *ℤ told) (m.den *ℤ (pos (weight_given a v) *ℤ utility_in a x v w)) (positive_pos _ (shaped.weight w k).0)
+    (first (f w) den told
+    ∙ ap (λ z. den *ℤ z) (given-replaced a i v w g b l k)
+    ∙ first den (f v) there
+    ∙ ap (λ z. f v *ℤ z) (gain-by_odds a m den x i v w odds pays b k)
+    ∙ ap (λ z. f v *ℤ (m.den *ℤ (z *ℤ utility_in a x v w))) (sym (pos-*ℤ-pos (slice_index a.weights w) (total_weight a.weights ^ (a.bidders - 1))))
+    ∙ second (f v) (f w) m.den (others a) (utility_in a x v w)
+    ∙ ap (λ z. f w *ℤ (m.den *ℤ (z *ℤ utility_in a x v w))) (pos-*ℤ-pos (slice_index a.weights v) (total_weight a.weights ^ (a.bidders - 1))))
+  where
+    first : (x y z : ℤ) → x *ℤ (y *ℤ z) ≡ y *ℤ (x *ℤ z)
+    first x y z = simp ring
+
+    second : (x y m o u : ℤ) → x *ℤ (m *ℤ ((y *ℤ o) *ℤ u)) ≡ y *ℤ (m *ℤ ((x *ℤ o) *ℤ u))
+    second x y m o u = simp ring
+
+pub admits : (a : SymmetricAuction) (cuts : List ℕ) (p : Program) → IsAuction a → IsReducedProgram a 1 cuts p → AdmitsPoints a p
+admits a cuts p shaped is m den x meets mechanism odds pays = record {
+  mechanism = mechanism;
+  truthful = subst (λ (k : TruthKind). IsTruthfulBy k (general_of a) m) (sym (general-truth a)) truthful;
+  rational = subst (λ (k : RationalKind). IsRationalBy k (general_of a) m) (sym (general-rational a)) rational;
+  no_deficit = λ on. off_is_on (general-no_deficit a) on;
+}
+  where
+    off_is_on : {P : Type 0} {b : Bool} → b ≡ false → b ≡ true → P
+    off_is_on e f = cc
+
+    rows : KeepsRows a x
+    rows = keeps-rows a 1 cuts p den x is meets
+
+    bidder : (i : ℕ) → i < agent_count (general_of a) → i < a.bidders
+    bidder i h = subst (λ n. i < n) (agent_count-general a) h
+
+    kind : (i v : ℕ) → i < a.bidders → v < slice_index (sizes_of (general_of a)) i → v < value_count a
+    kind i v b h = subst (λ k. v < k) (kinds-general a i b) h
+
+    factor : (v : ℕ) → ℤ
+    factor v = pos (weight_given a v)
+
+    some : (z : ℤ) → pos 1 ≤ℤ z → pos 0 ≤ℤ z
+    some z l = omega (arith, ints)
+
+    truthful : IsBayesTruth (general_of a) m
+    truthful i v w h l k =
+        let s = general_of a in
+        let b = bidder i h in
+        let c = kind i v b l in
+        let g = gain_at a (win_in a m) (paid_in a m) v i in
+        let less : (m.den *ℤ (factor v *ℤ utility_in a x v w)) ≤ℤ (m.den *ℤ (factor v *ℤ utility_in a x v v)) =
+        *ℤ-le m.den _ _ (some m.den mechanism.den) (*ℤ-le (factor v) _ _ (nonneg_pos (weight_given a v)) (rows.truth v w c (kind i w b k))) in
+        subst (λ z. z ≤ℤ weighted_given s i v (λ t. expected_utility s m i t t)) (sym (gains-given a m i v (λ t. replaced t i w) b))
+        (subst (λ z. weighted_given s i v (λ t. g (replaced t i w)) ≤ℤ z) (sym (gains-given a m i v (λ t. t) b))
+        (le_from_*ℤ den (weighted_given s i v (λ t. g (replaced t i w))) (weighted_given s i v g) meets.point.positive
+        (subst (λ z. z ≤ℤ (den *ℤ weighted_given s i v g)) (sym (told-by_odds a m den x i v w shaped odds pays b c (kind i w b k)))
+        (subst (λ z. (m.den *ℤ (factor v *ℤ utility_in a x v w)) ≤ℤ z) (sym (gain-by_odds a m den x i v v odds pays b c)) less))))
+
+    rational : IsInterimRational (general_of a) m
+    rational i v h l =
+        let s = general_of a in
+        let b = bidder i h in
+        let c = kind i v b l in
+        let g = gain_at a (win_in a m) (paid_in a m) v i in
+        subst (λ z. z ≤ℤ weighted_given s i v (λ t. expected_utility s m i t t)) (sym (nothing_outside a m i v b))
+        (subst (λ z. pos 0 ≤ℤ z) (sym (gains-given a m i v (λ t. t) b))
+        (nonneg_from_*ℤ den (weighted_given s i v g) meets.point.positive
+        (subst (λ z. pos 0 ≤ℤ z) (sym (gain-by_odds a m den x i v v odds pays b c))
+        (nonneg-*ℤ m.den _ (some m.den mechanism.den) (nonneg-*ℤ (factor v) _ (nonneg_pos (weight_given a v)) (rows.rational v c))))))
