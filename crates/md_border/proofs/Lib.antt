@@ -6,3 +6,4 @@ pub mod Necessity
 pub mod DemandLaws
 pub mod WorthLaws
 pub mod MechanismWorth
+pub mod SingleCuts

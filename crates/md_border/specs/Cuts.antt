@@ -1,5 +1,6 @@
 -- Lists of sets of an auction's values, each of which cuts off some odds.
 use Rattle.std.specs.Prelude.{◌≡◌, ◌≢◌, ℕ, ◌<◌, ◌≤◌, ◌^◌, List, length, slice_index, slice_get, Some}
+use Rattle.md_math.specs.Lists.{list_to}
 
 -- sets of so many kinds, none of them empty, and no two the same
 pub record AreCuts (kinds : ℕ) (sets : List ℕ) : Type 0 where
@@ -15,3 +16,7 @@ pub record HasSet (set : ℕ) (sets : List ℕ) : Type 0 where
 -- for each kind the set of this kind alone stands among them
 pub record HasSingles (kinds : ℕ) (sets : List ℕ) : Type 0 where
   pub single : (v : ℕ) → v < kinds → HasSet (2 ^ v) sets
+
+-- the sets of one kind each, in their order
+abbrev pub singles_of : ℕ → List ℕ
+singles_of kinds = list_to kinds (λ kind. 2 ^ kind)

@@ -180,3 +180,10 @@ fn odds_that_are_met(rt: HostRuntime) -> Result<(), Fail> {
     assert_eq!(rt; auction_worth(&auction, &odds), Frac { num: 3, den: 1 });
     Ok(())
 }
+
+#[test]
+fn singles_of_kinds(rt: HostRuntime) -> Result<(), Fail> {
+    let sets = singles(rt.alloc(), 3)?;
+    assert_eq!(rt; sets.as_slice(), [1, 2, 4].as_slice());
+    Ok(())
+}

@@ -41,7 +41,7 @@ use Rattle.md_reduced.specs.declared.condition.ReducedCondition.{ReducedConditio
 use Rattle.md_reduced.specs.declared.condition.ReducedCondition.TheVariants.{Truth, Rational, Cut}
 use Rattle.md_reduced.specs.Averages.{all_weights, times_of, averages, gain_at, win_in, paid_in, point_of, won_in, IsAdmissibleOnAverage}
 use Rattle.md_reduced.specs.Conditions.{truths_at, truths, rationals, conditions_of}
-use Rattle.md_reduced.specs.Mechanisms.{AdmitsPoints, StandsIn, HoldsAdmissible, base_of, scale_of}
+use Rattle.md_reduced.specs.Mechanisms.{AdmitsPoints, HoldsAdmissible, base_of, scale_of}
 use Rattle.md_reduced.specs.ProgramOf.{form_of, IsReducedProgram}
 use Rattle.md_reduced.specs.Sides.{pay_in, utility_in, cost_of}
 use Rattle.md_reduced.proofs.BuiltLaws.{meets-conditions, costs-points}
@@ -115,7 +115,7 @@ stands-in a cuts p shaped is m admissible =
     let cost : all *ℤ added ≡ p.factor *ℤ cost_sum p x = sym (averaged-cost a (win_in a m) (paid_in a m)) ∙ costs-points a 1 cuts p is x in
     record {
       meets = averages-meet a 1 cuts p m.den (win_in a m) (paid_in a m) shaped is (mechanism-on_average a m shaped admissible);
-      worth = ap (λ z. t *ℤ z) (worth-by_values a m shaped admissible.mechanism)
+      costs = ap (λ z. t *ℤ z) (worth-by_values a m shaped admissible.mechanism)
           ∙ first t (a.keep *ℤ m.den) power added
           ∙ ap₂ (λ y z. y +ℤ z) (second t a.keep m.den power)
           (ap (λ z. z *ℤ added) (times-parts a)

@@ -10,3 +10,4 @@ pub mod MeanLaws
 pub mod AverageRows
 pub mod AdmissibleLaws
 pub mod BoundLaws
+pub mod OptimalLaws

@@ -8,7 +8,7 @@ ghost use Rattle.md_forms.specs.Built.{HasRoom, Extends};
 ghost use Rattle.md_forms.specs.ProgramOf.{HasCostOf};
 ghost use Rattle.md_reduced.specs.Conditions.{conditions_of};
 ghost use Rattle.md_border.specs.Cuts.{AreCuts, HasSingles};
-ghost use Rattle.md_reduced.specs.Mechanisms.{AdmitsPoints, HoldsAdmissible, IsBounded};
+ghost use Rattle.md_reduced.specs.Mechanisms.{AdmitsPoints, HoldsAdmissible, IsBounded, MakesOptimal};
 ghost use Rattle.md_reduced.specs.ProgramOf.{IsReducedProgram, HasEachRow, MeetsByConditions, CostsPoints, column_count, forms_of};
 ghost use Rattle.md_reduced.specs.Sides.{cost_of};
 
@@ -38,6 +38,7 @@ pub fn program(alloc: Global, auction: &Auction, cuts: &Sets) -> Result<Lp, NoMe
     // What its points say of the mechanisms of the auction, and these of its points, whatever the cuts are.
     ensures admits { IfOk result (AdmitsPoints auction.now) }
     ensures averages { IfOk result (HoldsAdmissible auction.now) }
+    ensures optimal { IfOk result (MakesOptimal auction.now) }
 
     // Some point meets it, and where each value alone has a cut no point grows without end.
     ensures zero { IfOk result (λ lp. Meets lp (pos 1) (λ _. pos 0)) }

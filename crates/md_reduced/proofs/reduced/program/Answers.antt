@@ -5,6 +5,7 @@ use Rattle.md_reduced.specs.ProgramOf.{IsReducedProgram, column_count, forms_of}
 use Rattle.md_reduced.specs.Sides.{cost_of}
 use Rattle.md_reduced.proofs.BuiltLaws.{whole-room, each-row, rows-count, meets-conditions, costs-points}
 use Rattle.md_reduced.proofs.AdmissibleLaws.{admits, stands-in}
+use Rattle.md_reduced.proofs.OptimalLaws.{makes-optimal}
 use Rattle.md_reduced.proofs.BoundLaws.{zero-meets, bounded}
 use Rattle.md_reduced.proofs.reduced.program.Goals as goal
 
@@ -27,6 +28,7 @@ returns c =
       costs = costs-points a 1 cuts lp is;
       admits = admits a cuts lp shaped is;
       averages = stands-in a cuts lp shaped is;
+      optimal = makes-optimal a cuts lp shaped is;
       zero = zero-meets a 1 cuts lp is;
       bounded = λ singles. bounded a cuts lp shaped is singles;
     }

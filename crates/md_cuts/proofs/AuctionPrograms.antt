@@ -1,0 +1,139 @@
+-- The reduced programs of an auction are what a cut run goes over.
+use Rattle.std.proofs.Common.{◌≡◌, ℕ, ◌+◌, ◌*◌, ◌-◌, ◌<◌, ◌≤◌, ◌^◌, true, false, ℤ, pos, ◌-ℤ◌, ◌*ℤ◌, ◌≤ℤ◌, ◌<ℤ◌, if◌then◌else◌, List, ◌++◌, length, map, All, get_or, refl, sym, ap, ap₂, ◌∙◌, subst, arith}
+use Rattle.std.specs.Prelude.{slice_index}
+use Rattle.std.proofs.lemmas.Int.{ints}
+use Rattle.std.proofs.lemmas.Nat.Bits.{bit_at-zero}
+use Rattle.md_math.specs.Lists.{number_at}
+use Rattle.md_math.specs.Sets.{member}
+use Rattle.md_math.specs.Sums.{sum_to}
+use Rattle.md_math.proofs.Builders.{All-right, get_or-list_to}
+use Rattle.md_math.proofs.Order.{nonneg-*ℤ}
+use Rattle.md_math.proofs.SumLaws.{sum_to-same, sum_to-zero}
+use Rattle.md_lp.specs.Program.{Program}
+use Rattle.md_lp.specs.Point.{Meets}
+use Rattle.md_lp.specs.declared.wide.Wide.{Wide}
+use Rattle.md_lp.proofs.SamePrograms.{IsSameProgram}
+use Rattle.md_cert.specs.Fitting.{Fits, FitsBound, FitsColumns, FitsRows}
+use Rattle.md_cert.specs.declared.bound.Bound.{Bound}
+use Rattle.md_cert.specs.declared.certificate.Certificate.{Certificate}
+use Rattle.md_cert.specs.declared.certificate.Certificate.TheVariants.{Optimal, Infeasible, Unbounded}
+use Rattle.md_cert.proofs.SameCertificates.{certified-same}
+use Rattle.md_setting.specs.Auction.{SymmetricAuction, value_count}
+use Rattle.md_setting.specs.AuctionShaped.{IsAuction}
+use Rattle.md_simplex.proofs.SamePaths.{first_wide-same}
+use Rattle.md_simplex.proofs.SameRuns.{run-same}
+use Rattle.md_border.specs.Odds.{demands_in, excess_of, weight_given}
+use Rattle.md_border.specs.Sides.{right_by_counts}
+use Rattle.md_border.proofs.SideLaws.{right_of-counts}
+use Rattle.md_expost.specs.WorstSets.{IsWorstSet, MeetsBorder}
+use Rattle.md_forms.specs.Forms.{Holds}
+use Rattle.md_forms.proofs.OneProgram.{same_program}
+use Rattle.md_reduced.specs.Conditions.{conditions_of, rationals, truths}
+use Rattle.md_reduced.specs.Points.{interim_in, MeetsReduced}
+use Rattle.md_reduced.specs.ProgramOf.{IsReducedProgram, column_count, form_of, forms_of}
+use Rattle.md_reduced.specs.Sides.{cost_of, demands_of}
+use Rattle.md_reduced.proofs.BoundLaws.{bounded, right-nonneg, zero-meets}
+use Rattle.md_reduced.proofs.BuiltLaws.{all-of, meets-conditions}
+use Rattle.md_cuts.specs.AuctionCuts.{auction_cutting}
+use Rattle.md_cuts.specs.Cutting.{Cutting, IsCutPoint, IsCutting, IsShownOf}
+use Rattle.md_cuts.specs.Worst.{IsWorst, NoneOver}
+
+-- ---- one program
+
+module _ (p q : Program) (same : IsSameProgram p q) where
+  columns-same : (numbers : List ℤ) → FitsColumns p numbers → FitsColumns q numbers
+  columns-same numbers f = record {
+    one_each = f.one_each ∙ same.columns;
+    sizes = f.sizes;
+    nonneg = λ j l. f.nonneg j (subst (λ n. j < n) (sym same.columns) l);
+  }
+
+  rows-same : (numbers : List ℤ) → FitsRows p numbers → FitsRows q numbers
+  rows-same numbers f = record { one_each = f.one_each ∙ same.rows; sizes = f.sizes }
+
+  bound-same : (bound : Bound) → FitsBound p bound → FitsBound q bound
+  bound-same bound f = record { den = f.den; main = rows-same bound.main f.main; face = rows-same bound.face f.face }
+
+  fits-same : (c : Certificate) → Fits p c → Fits q c
+  fits-same (Optimal den point bound) f = (f.0, columns-same point f.1, bound-same bound f.2)
+  fits-same (Infeasible face) f = rows-same face f
+  fits-same (Unbounded den point ray) f = (f.0, columns-same point f.1, columns-same ray f.2)
+
+  shown-of : IsShownOf p q
+  shown-of = record {
+    run = run-same p q same;
+    wide = λ order width wide h. first_wide-same p q same order width wide.path wide.entry h;
+    certified = certified-same p q same;
+    fits = fits-same;
+  }
+
+one-program : (a : SymmetricAuction) (cuts : List ℕ) (p q : Program) → IsReducedProgram a 1 cuts p → IsReducedProgram a 1 cuts q → IsShownOf p q
+one-program a cuts p q h k =
+    shown-of p q (same_program (column_count a) (forms_of a 1 (conditions_of (value_count a) cuts)) (cost_of a) p q h k)
+
+-- ---- excesses
+
+-- the demands at the odds of a point
+demands-at : (a : SymmetricAuction) (den : ℤ) (x : ℕ → ℤ) (set : ℕ) → demands_in a (interim_in a den x) set ≡ demands_of a x set
+demands-at a den x set =
+    sum_to-same (value_count a) _ _
+    (λ v b. ap (λ z. if member set v then pos (a.bidders * weight_given a v) *ℤ z else pos 0) (get_or-list_to (value_count a) x v (pos 0) b))
+
+-- a set whose demands keep to its right side is not over
+not-over : (a : SymmetricAuction) (den : ℤ) (x : ℕ → ℤ) (set : ℕ) → demands_of a x set ≤ℤ (den *ℤ right_by_counts a 1 set) → excess_of a (interim_in a den x) set ≤ℤ pos 0
+not-over a den x set h =
+    subst (λ z. z ≤ℤ pos 0) (sym (ap₂ (λ d r. d -ℤ den *ℤ r) (demands-at a den x set) (right_of-counts a set))) (less (demands_of a x set) (den *ℤ right_by_counts a 1 set) h)
+  where
+    less : (d r : ℤ) → d ≤ℤ r → (d -ℤ r) ≤ℤ pos 0
+    less d r l = omega (arith, ints, l)
+
+-- a cut of a program is not over at its points
+cut-kept : (a : SymmetricAuction) (cuts : List ℕ) (p : Program) (den : ℤ) (x : ℕ → ℤ) (k : ℕ) → IsReducedProgram a 1 cuts p → Meets p den x → k < length cuts
+    → excess_of a (interim_in a den x) (slice_index cuts k) ≤ℤ pos 0
+cut-kept a cuts p den x k is meets b =
+    let kinds = value_count a in
+    let kept = (meets-conditions a 1 cuts p is den x meets.point).0 meets in
+    let rest = All-right (λ c. Holds den x (form_of a 1 c)) (rationals kinds) _ (All-right (λ c. Holds den x (form_of a 1 c)) (truths kinds) _ kept) in
+    not-over a den x (slice_index cuts k) (all-of (λ c. Holds den x (form_of a 1 c)) _ cuts rest k 0 b)
+
+-- the empty set is never over
+member-empty : (v : ℕ) → member 0 v ≡ false
+unfolding member
+member-empty v = rw (bit_at-zero v) refl
+
+demands-empty : (a : SymmetricAuction) (x : ℕ → ℤ) → demands_of a x 0 ≡ pos 0
+demands-empty a x = sum_to-zero (value_count a) (λ v. if member 0 v then pos (a.bidders * weight_given a v) *ℤ x v else pos 0) (λ v b. rw (member-empty v) refl)
+
+empty-kept : (a : SymmetricAuction) (den : ℤ) (x : ℕ → ℤ) → pos 0 <ℤ den → excess_of a (interim_in a den x) 0 ≤ℤ pos 0
+empty-kept a den x positive =
+    not-over a den x 0
+    (subst (λ z. z ≤ℤ (den *ℤ right_by_counts a 1 0)) (sym (demands-empty a x)) (nonneg-*ℤ den (right_by_counts a 1 0) (some den positive) (right-nonneg a 1 0)))
+  where
+    some : (d : ℤ) → pos 0 <ℤ d → pos 0 ≤ℤ d
+    some d l = omega (arith, ints, l)
+
+-- ---- the cutting
+
+pub IsCutting-auction : (a : SymmetricAuction) → IsAuction a → IsCutting (auction_cutting a)
+IsCutting-auction a shaped = record {
+  few = shaped.few_values;
+  one = one-program a;
+  kept = λ cuts p den x k is meets b. cut-kept a cuts p den x k is meets b;
+  empty = λ cuts p den x is meets. empty-kept a den x meets.point.positive;
+  has_point = λ cuts p is none. none.none (pos 1) (λ _. pos 0) (zero-meets a 1 cuts p is);
+  bounded = λ cuts p den x ray singles is. bounded a cuts p shaped is singles den x ray;
+}
+
+-- ---- points and worst sets
+
+pub meets-reduced : (a : SymmetricAuction) (den : ℤ) (point : List ℤ) → IsCutPoint (auction_cutting a) den point → MeetsReduced a den (number_at point)
+meets-reduced a den point h = record { cuts = h.cuts; program = h.program; is_program = h.is_program; singles = h.singles; meets = h.meets }
+
+pub point-length : (a : SymmetricAuction) (den : ℤ) (point : List ℤ) → IsCutPoint (auction_cutting a) den point → length point ≡ column_count a
+point-length a den point h = h.point_fits.one_each ∙ h.is_program.columns
+
+pub worst-of : (a : SymmetricAuction) (den : ℤ) (x : ℕ → ℤ) (set : ℕ) → IsWorstSet a (interim_in a den x) set → IsWorst (auction_cutting a) den x set
+worst-of a den x set h = record { inside = h.inside; positive = h.positive; greatest = h.greatest; largest = h.largest }
+
+pub none-over : (a : SymmetricAuction) (den : ℤ) (x : ℕ → ℤ) → MeetsBorder a (interim_in a den x) → NoneOver (auction_cutting a) den x
+none-over a den x h = record { none_over = h.none_over }

@@ -1,0 +1,5 @@
+pub mod Cutting
+pub mod Worst
+pub mod CutRuns
+pub mod Turns
+pub mod AuctionCuts

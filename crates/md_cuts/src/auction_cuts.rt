@@ -1,0 +1,63 @@
+//! The cut programs of auctions: reduced programs, whose cuts are Border's conditions.
+ghost use Rattle.std.specs.Prelude.{IfOk};
+ghost use Rattle.md_math.specs.Lists.{number_at};
+ghost use Rattle.md_cuts.specs.AuctionCuts.{IsRealised, auction_cutting};
+ghost use Rattle.md_cuts.specs.Cutting.{IsCutPoint};
+ghost use Rattle.md_cuts.specs.Worst.{IsWorst, NoneOver, WhereTable, WhereViolated};
+
+use crate::{CutProgram, Worst};
+use md_border::Interim;
+use md_expost::{Masses, RealiseEnd, realise};
+use md_lp::{Lp, Sets};
+use md_num::{NoMemory, Nums};
+use md_reduced::{interim_of, program};
+use md_setting::Auction;
+use std::alloc::Global;
+
+/// The interim odds and payments of a point, and a mass table that has exactly the odds.
+#[derive(Debug, Drop)]
+pub struct Realised {
+    /// The odds and the payments.
+    pub interim: Interim,
+    /// The mass table, over the same denominator.
+    pub masses: Masses,
+}
+
+impl CutProgram for Auction {
+    type Table = Realised;
+
+    ghost cutting = { auction_cutting };
+
+    ghost shows = { IsRealised };
+
+    fn places(&self) -> u32 {
+        self.kinds()
+    }
+
+    fn program(&self, alloc: Global, cuts: &Sets) -> Result<Lp, NoMemory> {
+        program(alloc, self, cuts)
+    }
+
+    fn worst(&self, alloc: Global, den: i128, point: &Nums) -> Result<Worst<Realised>, NoMemory> {
+        worst_of(alloc, self, den, point)
+    }
+}
+
+// A mass table with the odds of a point, or the set of values that breaks Border's condition most.
+fn worst_of(
+    alloc: Global,
+    auction: &Auction,
+    den: i128,
+    point: &Nums,
+) -> Result<Worst<Realised>, NoMemory>
+    requires { IsCutPoint (auction_cutting auction.now) den point.now }
+    ensures violated { IfOk result (WhereViolated (IsWorst (auction_cutting auction.now) den (number_at point.now))) }
+    ensures none_over { IfOk result (WhereTable (λ _. NoneOver (auction_cutting auction.now) den (number_at point.now))) }
+    ensures shows { IfOk result (WhereTable (IsRealised auction.now den (number_at point.now))) }
+{
+    let interim = interim_of(alloc, auction, den, point)?;
+    match realise(alloc, auction, &interim)? {
+        RealiseEnd::Table(masses) => Ok(Worst::Table(Realised { interim, masses })),
+        RealiseEnd::Violated(set) => Ok(Worst::Violated(set)),
+    }
+}
