@@ -36,11 +36,3 @@ Divides-raw_at step kept seat g i j h a =
           ]
       | inr l ↦ subst (Divides g) (sym (raw_at-right step kept seat i j l)) (h.of_rows.at i step.columns a (omega arith))
     ]
-
--- an exact quotient is the quotient
-pub quotient_is : (g x q : ℤ) → pos 0 <ℤ g → Divides g x → g *ℤ q ≡ x → q ≡ int_div x g
-quotient_is g x q p h e = *ℤ_cancel g q (int_div x g) p (e ∙ sym (Divides-int_div g x h))
-
--- a number that is not within a limit is above it
-pub above_from_not : (limit : ℕ) (z : ℤ) → ¬ IsWithin limit z → limit < unsigned_abs z
-above_from_not limit z h = elim (cases_lt limit (unsigned_abs z)) [ inl l ↦ l | inr l ↦ absurd (h (record { within = l })) ]

@@ -2,13 +2,16 @@
 use Rattle.std.proofs.Common.{◌≡◌, ℕ, ◌+◌, ◌<◌, ◌==◌, ◌&&◌, nat_le, Bool, true, false, if◌then◌else◌, List, length, ℤ, pos, ◌*ℤ◌, neg_ℤ, ◌<ℤ◌, sym, ap, ◌∙◌, subst, arith}
 use Rattle.md_math.specs.Lists.{number_at}
 use Rattle.md_math.specs.Divisors.{Divides}
+use Rattle.md_math.proofs.Order.{positive-*ℤ}
+use Rattle.md_math.proofs.Ring.{*ℤ_assoc}
 use Rattle.md_math.proofs.Division.{Divides_refl, Divides-neg_ℤ, Divides-zero}
 use Rattle.md_dict.specs.declared.step.Step.{Step}
 use Rattle.md_dict.specs.declared.rows.Rows.{Rows}
-use Rattle.md_dict.specs.declared.combination.Combination.{Combination}
+use Rattle.md_least_rows.specs.declared.combination.Combination.{Combination}
 use Rattle.md_dict.specs.Dictionary.{basic_value}
-use Rattle.md_dict.specs.Rows.{own_den, own_number, IsLeastRow}
-use Rattle.md_dict.specs.Combination.{AreLeastRows}
+use Rattle.md_dict.specs.Rows.{own_den, own_number}
+use Rattle.md_least_rows.specs.LeastRows.{IsLeastRow}
+use Rattle.md_least_rows.specs.Combination.{AreLeastRows, IsLowered}
 use Rattle.md_dict.specs.RowStep.{IsRowStep, IsOwnRow, IsCombinationOf}
 
 -- what a basic column holds is a multiple of the denominator
@@ -46,3 +49,17 @@ AreLeastRows-of step rows i c own taken h row_in is o t =
       taken_at_place = at_place step rows step.row c.place is.common c.multiplier taken h is.place t is.multiplier;
       leaving = subst (λ z. Divides z c.leaving) (sym is.den) leaving;
     }
+
+-- a lowered combination is one of the same row
+pub IsCombinationOf-lowered : (step : Step) (rows : Rows) (i : ℕ) (c low : Combination) → IsCombinationOf step rows i c → IsLowered c low → IsCombinationOf step rows i low
+IsCombinationOf-lowered step rows i c low h l = record {
+  other = h.other;
+  place = l.place ∙ h.place;
+  common = h.common *ℤ l.common;
+  positive = positive-*ℤ h.common l.common h.positive l.positive;
+  multiplier = *ℤ_assoc h.common l.common low.multiplier ∙ ap (λ z. h.common *ℤ z) l.multiplier ∙ h.multiplier;
+  factor = *ℤ_assoc h.common l.common low.factor ∙ ap (λ z. h.common *ℤ z) l.factor ∙ h.factor;
+  den = l.den ∙ h.den;
+  pivot_den = l.pivot_den ∙ h.pivot_den;
+  leaving = l.leaving ∙ h.leaving;
+}

@@ -7,7 +7,6 @@ mod NewNumbers
 mod OldRows
 mod Parts
 mod Readers
-mod Reading
 mod StepDivisor
 pub mod Values
 pub mod Writing
@@ -28,10 +27,3 @@ mod NewTable
 mod Restoring
 mod Tables
 mod TurningBack
-mod HalfSizes
-mod Reducing
-mod Candidates
-mod OddParts
-mod Lowering
-mod Guessing
-mod Multiplying

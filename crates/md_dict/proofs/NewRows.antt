@@ -9,11 +9,12 @@ use Rattle.md_math.proofs.Division.{Divides_trans, Divides_cancel, Divides-int_d
 use Rattle.md_math.proofs.Gcds.{gcd_of_two, family_gcd}
 use Rattle.md_math.proofs.Order.{*ℤ_cancel, positive-*ℤ, positive_from_*ℤ}
 use Rattle.md_math.proofs.Ring.{*ℤ_assoc, *ℤ-one}
+use Rattle.md_least_rows.proofs.LeastRows.{divides_row_factor}
 use Rattle.md_dict.specs.declared.step.Step.{Step}
 use Rattle.md_dict.specs.Step.{raw_number, IsStepDivisor}
-use Rattle.md_dict.specs.Rows.{IsLeastRow}
+use Rattle.md_least_rows.specs.LeastRows.{IsLeastRow}
 use Rattle.md_dict.specs.Multiples.{IsLeastMultiple, IsNewRow, HaveDivisor}
-use Rattle.md_dict.proofs.NewNumbers.{divides_from}
+use Rattle.md_least_rows.proofs.Quotients.{divides_from}
 
 -- ---- numbers
 
@@ -48,17 +49,6 @@ divides_divisor x z g den p above part whole h =
     Divides_cancel den x g above (subst (λ y. Divides y (den *ℤ g)) (*ℤ_comm x den) (subst (Divides (x *ℤ den)) (part ∙ sym whole ∙ *ℤ_comm g den) grown))
 
 -- ---- one row
-
--- what divides a number times each number of a row in least terms divides that number
-pub divides_row_factor : (width : ℕ) (den : ℤ) (f : ℕ → ℤ) (x e : ℤ) → IsLeastRow width den f → Divides x (e *ℤ den) → ((s : ℕ) → s < width → Divides x (e *ℤ f s)) → Divides x e
-divides_row_factor width den f x e least h k =
-    let (g, p) = family_gcd width f in
-    let (u, q) = gcd_of_two den g in
-    let unit : unsigned_abs u ≡ 1 = least.only_one u q.is_gcd.left (record { at = λ s b. Divides_trans u g (f s) q.is_gcd.right (p.is_gcd.common.at s b) }) in
-    subst (Divides x) (ap (λ y. e *ℤ y) (is_one u unit q.is_gcd.nonneg) ∙ *ℤ-one e) (q.factor x e h (p.factor x e k))
-  where
-    is_one : (u : ℤ) → unsigned_abs u ≡ 1 → pos 0 ≤ℤ u → u ≡ pos 1
-    is_one u a b = omega (arith, ints)
 
 -- its denominator divides the denominator times the pivot
 pub common_multiple : (step : Step) (kept : List ℤ) (i : ℕ) (den : ℤ) (f : ℕ → ℤ) → IsNewRow step kept i den f → Divides den (step.den *ℤ step.pivot)

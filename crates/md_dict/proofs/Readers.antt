@@ -1,5 +1,5 @@
 -- What the readers of a dictionary say: each column that is not basic is kept once, the greatest size, and that a basis has one dictionary.
-use Rattle.std.proofs.Common.{◌≡◌, ℕ, ◌+◌, ◌-◌, ◌*◌, ◌/◌, ◌%◌, ◌<◌, ◌≤◌, ◌⊎◌, ◌==◌, ◌&&◌, nat_le, Bool, true, false, if◌then◌else◌, length, slice_index, ℤ, pos, neg_ℤ, unsigned_abs, refl, sym, ap, ◌∙◌, subst, inl, inr, arith, mod-lt, mul-le-mul_right, eq-eqb, ne_eqb}
+use Rattle.std.proofs.Common.{◌≡◌, ℕ, ◌+◌, ◌-◌, ◌*◌, ◌/◌, ◌%◌, ◌<◌, ◌≤◌, ◌⊎◌, ◌==◌, ◌&&◌, nat_le, Bool, true, false, if◌then◌else◌, length, slice_index, ℤ, pos, neg_ℤ, unsigned_abs, refl, sym, ap, ◌∙◌, subst, inl, inr, arith, mod-lt, mul-le-mul_right, eq-eqb, ne_eqb, lt-ltb, le-ltb}
 use Rattle.std.proofs.lemmas.Bool.{cases_lt}
 use Rattle.std.proofs.Math.Nat as NatL
 use Rattle.md_math.specs.Lists.{number_at}
@@ -8,7 +8,7 @@ use Rattle.md_math.proofs.SizeLaws.{IsWithin-neg_ℤ, IsWithin-zero}
 use Rattle.md_lp.specs.Program.{Program}
 use Rattle.md_dict.specs.Dictionary.{basic_value, IsDictionary}
 use Rattle.md_dict.specs.FirstTable.{first_entry}
-use Rattle.md_dict.specs.Condensed.{Condensed, basic_at, kept_column_at, kept_number, entry_at, IsShapedDictionary, Holds, KeepsEachOnce, IsGreatestSize}
+use Rattle.md_dict.specs.Condensed.{Condensed, basic_at, kept_column_at, kept_number, place_column, entry_at, IsShapedDictionary, Holds, KeepsEachOnce, IsGreatestSize}
 use Rattle.md_dict.proofs.RawPivot.{basic_own}
 use Rattle.md_dict.proofs.Writing.{place_inside}
 use Rattle.md_dict.proofs.Exchange.{entry-kept, entry-basic, entry-right, leaving_seat, leaving_in}
@@ -32,6 +32,19 @@ KeepsEachOnce-shaped d h = record {
       ];
 }
 
+-- the number at a kept place is the entry at the column that stands there
+pub entry-place : (d : Condensed) (r s : ℕ) → IsShapedDictionary d → s < d.columns + 1 → entry_at d r (place_column d s) ≡ kept_number d r s
+entry-place d r s h a =
+    elim (cases_lt s d.columns) [
+      | inl l ↦
+          let seat : slice_index d.seat (kept_column_at d s) ≡ s = h.places.seat_of_order s (omega arith) in
+          let inside : kept_column_at d s < d.columns + d.rows = h.places.order_in s (omega arith) in
+          rw (lt-ltb s d.columns l) (entry-kept d r (kept_column_at d s) inside (omega arith) ∙ ap (λ t. kept_number d r t) seat)
+      | inr l ↦
+          let same : d.columns ≡ s = omega arith in
+          rw (le-ltb s d.columns l) (entry-right d r (d.columns + d.rows) (omega arith) ∙ ap (λ t. kept_number d r t) same)
+    ]
+
 -- a size that bounds the kept numbers and the denominator bounds each entry
 pub bound_of : (d : Condensed) (size : ℕ) → IsShapedDictionary d → ((k : ℕ) → k < length d.kept → unsigned_abs (number_at d.kept k) ≤ size) → (0 < d.rows → unsigned_abs d.den ≤ size) → (r j : ℕ) → r < d.rows + 2 → j < d.columns + d.rows + 1 → IsWithin size (entry_at d r j)
 bound_of d size h k m r j a b =
@@ -54,6 +67,13 @@ bound_of d size h k m r j a b =
     by_tests false true w = IsWithin-neg_ℤ size d.den w
     by_tests false false w = IsWithin-zero size
 
+place_column-in : (d : Condensed) (s : ℕ) → IsShapedDictionary d → place_column d s < d.columns + d.rows + 1
+place_column-in d s h =
+    elim (cases_lt s d.columns) [
+      | inl l ↦ rw (lt-ltb s d.columns l) (let inside : kept_column_at d s < d.columns + d.rows = h.places.order_in s (omega arith) in omega arith)
+      | inr l ↦ rw (le-ltb s d.columns l) (omega arith)
+    ]
+
 -- each kept number is an entry
 kept_entry : (d : Condensed) (size k : ℕ) → IsShapedDictionary d → ((r j : ℕ) → r < d.rows + 2 → j < d.columns + d.rows + 1 → IsWithin size (entry_at d r j)) → k < length d.kept → unsigned_abs (number_at d.kept k) ≡ size → IsGreatestSize d size
 kept_entry d size k h b a e =
@@ -61,29 +81,14 @@ kept_entry d size k h b a e =
     let place : k % (d.columns + 1) < d.columns + 1 = mod-lt k (omega arith) in
     let row : k / (d.columns + 1) < d.rows + 2 = row_in (omega (arith, h.kept_length)) parts in
     let number : unsigned_abs (kept_number d (k / (d.columns + 1)) (k % (d.columns + 1))) ≡ size = ap (λ i. unsigned_abs (number_at d.kept i)) parts ∙ e in
-    elim (cases_lt (k % (d.columns + 1)) d.columns) [
-      | inl l ↦
-          let seat : slice_index d.seat (kept_column_at d (k % (d.columns + 1))) ≡ k % (d.columns + 1) = h.places.seat_of_order (k % (d.columns + 1)) (omega arith) in
-          let inside : kept_column_at d (k % (d.columns + 1)) < d.columns + d.rows = h.places.order_in (k % (d.columns + 1)) (omega arith) in
-          record {
-            bound = b;
-            row = k / (d.columns + 1);
-            column = kept_column_at d (k % (d.columns + 1));
-            row_in = row;
-            column_in = omega arith;
-            reached = ap unsigned_abs (entry-kept d (k / (d.columns + 1)) (kept_column_at d (k % (d.columns + 1))) inside (omega arith) ∙ ap (λ s. kept_number d (k / (d.columns + 1)) s) seat) ∙ number;
-          }
-      | inr l ↦
-          let same : d.columns ≡ k % (d.columns + 1) = omega arith in
-          record {
-            bound = b;
-            row = k / (d.columns + 1);
-            column = d.columns + d.rows;
-            row_in = row;
-            column_in = omega arith;
-            reached = ap unsigned_abs (entry-right d (k / (d.columns + 1)) (d.columns + d.rows) (omega arith) ∙ ap (λ s. kept_number d (k / (d.columns + 1)) s) same) ∙ number;
-          }
-    ]
+    record {
+      bound = b;
+      row = k / (d.columns + 1);
+      column = place_column d (k % (d.columns + 1));
+      row_in = row;
+      column_in = place_column-in d (k % (d.columns + 1)) h;
+      reached = ap unsigned_abs (entry-place d (k / (d.columns + 1)) (k % (d.columns + 1)) h place) ∙ number;
+    }
   where
     row_in : k < (d.rows + 2) * (d.columns + 1) → k / (d.columns + 1) * (d.columns + 1) + k % (d.columns + 1) ≡ k → k / (d.columns + 1) < d.rows + 2
     row_in c q =

@@ -1,10 +1,12 @@
 -- How rows that were written get their old numbers back.
-use Rattle.std.proofs.Common.{◌≡◌, ℕ, ◌+◌, ◌^◌, ◌<◌, ◌≤◌, List, length, set, ℤ, pos, ◌+ℤ◌, ◌-ℤ◌, ◌*ℤ◌, ◌<ℤ◌, to_z, of_z, FitsSigned, refl, sym, ap₂, ◌∙◌, subst, inl, inr, arith, get_or-set_same, get_or-set_other}
+use Rattle.std.proofs.Common.{◌≡◌, ℕ, ◌+◌, ◌*◌, ◌^◌, ◌<◌, ◌≤◌, List, length, set, ℤ, pos, ◌+ℤ◌, ◌-ℤ◌, ◌*ℤ◌, ◌<ℤ◌, to_z, of_z, FitsSigned, unsigned_abs, refl, sym, ap, ap₂, ◌∙◌, subst, inl, inr, arith, get_or-set_same, get_or-set_other}
 use Rattle.std.proofs.lemmas.Bool.{cases_eq}
+use Rattle.std.proofs.lemmas.Int.{fits_signed_from_abs, unsigned_abs-mul}
 use lib.Signed.{mag}
 use mir.Syntax.{w128, w64}
 use Rattle.md_math.specs.Lists.{number_at}
 use Rattle.md_math.specs.Sizes.{IsWithin}
+use Rattle.md_math.proofs.SizeLaws.{IsWithin-sub}
 use Rattle.md_math.proofs.Order.{*ℤ_cancel}
 use Rattle.md_math.proofs.Ring.{linear}
 use Rattle.md_math.proofs.Bits.{read_result}
@@ -13,7 +15,7 @@ use Rattle.md_dict.specs.declared.rows.Rows.{Rows}
 use Rattle.md_dict.specs.Step.{number_in}
 use Rattle.md_dict.specs.Fill.{Leaves}
 use Rattle.md_dict.specs.Rows.{own_number}
-use Rattle.md_dict.proofs.Reading.{cross_of_small, read_short, read_small}
+use Rattle.md_division.proofs.Reading.{product_small, two_products_small}
 
 -- ---- one row
 
@@ -67,10 +69,6 @@ quotient_is_own pivot own q whole above e h = *ℤ_cancel pivot q own above (h �
 
 -- ---- what is read on the way
 
--- a number of 62 bits that was widened
-pub widened : (x from : ℤ) → IsWithin (2 ^ 62) x → from ≡ to_z w64 (of_z w64 x) → to_z w128 (of_z w128 from) ≡ x
-widened x from h e = rw (e, read_short x h) (read_small x h)
-
 -- a product that was read
 pub product_is : (a b x y result : ℤ) → to_z w128 (of_z w128 x) ≡ a → to_z w128 (of_z w128 y) ≡ b → mag result < 2 ^ 127 → result ≡ to_z w128 (of_z w128 x) *ℤ to_z w128 (of_z w128 y) → to_z w128 (of_z w128 result) ≡ a *ℤ b
 product_is a b x y result p q small e = read_result result small ∙ e ∙ ap₂ (λ u v. u *ℤ v) p q
@@ -78,4 +76,10 @@ product_is a b x y result p q small e = read_result result small ∙ e ∙ ap₂
 -- the sum of the two products fits
 pub sum_fits : (divisor new pivot own factor taken : ℤ) → IsWithin (2 ^ 62) pivot → IsWithin (2 ^ 62) own → IsWithin (2 ^ 62) factor → IsWithin (2 ^ 62) taken → divisor *ℤ new ≡ pivot *ℤ own -ℤ factor *ℤ taken → FitsSigned w128 (divisor *ℤ new +ℤ factor *ℤ taken)
 sum_fits divisor new pivot own factor taken p o f t e =
-    subst (FitsSigned w128) (sym (whole_is divisor new pivot own factor taken e)) (cross_of_small pivot own factor taken p o f t).first_fits
+    subst (FitsSigned w128) (sym (whole_is divisor new pivot own factor taken e)) (fits_signed_from_abs w128 (pivot *ℤ own) (let small = product_small pivot own p o in omega (arith, small)))
+
+-- the divisor times the new number is small
+pub changed_small : (divisor new pivot own factor taken : ℤ) → IsWithin (2 ^ 62) pivot → IsWithin (2 ^ 62) own → IsWithin (2 ^ 62) factor → IsWithin (2 ^ 62) taken → divisor *ℤ new ≡ pivot *ℤ own -ℤ factor *ℤ taken → unsigned_abs divisor * unsigned_abs new < 2 ^ 126
+changed_small divisor new pivot own factor taken p o f t e =
+    let whole : IsWithin (unsigned_abs (pivot *ℤ own) + unsigned_abs (factor *ℤ taken)) (pivot *ℤ own -ℤ factor *ℤ taken) = IsWithin-sub _ _ (pivot *ℤ own) (factor *ℤ taken) (record { within = omega arith }) (record { within = omega arith }) in
+    omega (arith, unsigned_abs-mul divisor new, ap unsigned_abs e, unsigned_abs-mul pivot own, unsigned_abs-mul factor taken, whole.within, two_products_small pivot own factor taken p o f t)

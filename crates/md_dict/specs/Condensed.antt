@@ -30,6 +30,10 @@ basic_at d row = slice_index d.order (d.columns + row)
 abbrev pub kept_number : Condensed → ℕ → ℕ → ℤ
 kept_number d row place = number_at d.kept (row * (d.columns + 1) + place)
 
+-- the column at a kept place; at the place after the last stands the right side
+abbrev pub place_column : Condensed → ℕ → ℕ
+place_column d place = if nat_lt place d.columns then kept_column_at d place else d.columns + d.rows
+
 -- the entry at a row and a column of the whole dictionary
 abbrev pub entry_at : Condensed → ℕ → ℕ → ℤ
 entry_at d row column =

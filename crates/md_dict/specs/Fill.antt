@@ -1,36 +1,15 @@
 -- How the numbers after a pivot are written beside those before it, row by row.
 use Rattle.std.specs.Prelude.{◌≡◌, ◌≢◌, ℕ, ◌+◌, ◌-◌, ◌*◌, ◌%◌, ◌<◌, ◌≤◌, ◌^◌, ℤ, pos, ◌*ℤ◌, ◌⊎◌, int_div, List, length, unsigned_abs}
-use Rattle.std.specs.Int.{bit_at}
 use Rattle.md_math.specs.Lists.{number_at}
 use Rattle.md_math.specs.Sizes.{AllWithin, IsWithin}
 use Rattle.md_dict.specs.declared.step.Step.{Step}
 use Rattle.md_dict.specs.declared.rows.Rows.{Rows}
-use Rattle.md_dict.specs.declared.quick.Guess.{Guess}
-use Rattle.md_dict.specs.declared.quick.QuickDivider.{QuickDivider}
 use Rattle.md_dict.specs.Step.{number_in, AreRowsNarrow, IsStepDivisor, IsTable}
 use Rattle.md_dict.specs.RowStep.{kept_in, AreDone, AreOldFrom, AreRestorable, IsDraft, IsMadeRow, IsNoted, IsRowStep}
 use Rattle.md_dict.specs.Rows.{share_of}
 use Rattle.md_dict.specs.declared.draft.Draft.{Draft}
 use Rattle.md_dict.specs.declared.fill.Filled.{Filled}
 use Rattle.md_dict.specs.Multiples.{IsLeastMultiple, IsNewRow}
-
--- the k lowest bits of n are 0
-pub record EndsInZeros (k n : ℕ) : Type 0 where
-  pub at : (i : ℕ) → i < k → bit_at n i ≡ 0
-
--- d is a power of 2 times a number whose product with the inverse is 1 in 64 bits
-pub record IsInverseOf (d : ℤ) (guess : Guess) : Type 0 where
-  pub odd : ℕ
-  pub shift_in : guess.shift < 64
-  pub value : d ≡ pos (2 ^ guess.shift * odd)
-  pub one : odd * guess.inverse % 2 ^ 64 ≡ 1
-
--- it divides by d, and its quotients are within a limit
-pub record IsQuick (d : ℤ) (limit : ℕ) (divider : QuickDivider) : Type 0 where
-  pub value : divider.value ≡ d
-  pub size : IsWithin (2 ^ 63 - 1) divider.value
-  pub most : divider.guess.most ≤ limit
-  pub inverse : IsInverseOf d divider.guess
 
 -- the numbers of the other rows stay
 pub record Leaves (step : Step) (i : ℕ) (old new : List ℤ) : Type 0 where

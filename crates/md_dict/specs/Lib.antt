@@ -1,13 +1,9 @@
-pub mod Combination
 pub mod Condensed
 pub mod Dictionary
 pub mod Exchange
 pub mod Fill
 pub mod FirstRows
 pub mod FirstTable
-pub mod Halves
-pub mod Long
-pub mod Reduce
 pub mod Multiples
 pub mod Pivot
 pub mod RowStep

@@ -3,6 +3,7 @@ use Rattle.std.specs.Prelude.{◌≡◌, ℕ, ◌+◌, ◌*◌, ◌<◌, ◌^◌
 use Rattle.md_math.specs.Lists.{list_to, number_at, up_to}
 use Rattle.md_math.specs.Sizes.{IsWithin, AllWithin}
 use Rattle.md_math.specs.Divisors.{Divides, IsCommonDivisor}
+use Rattle.md_least_rows.specs.LeastRows.{IsLeastRow, IsRowSize}
 use Rattle.md_dict.specs.declared.rows.Rows.{Rows}
 
 -- a row's number at a place, over the row's denominator
@@ -24,17 +25,6 @@ size_of rows i = number_at rows.sizes.items i
 -- the numbers of the first n rows, one after another, over the denominator of all rows
 abbrev pub kept_of : ℕ → Rows → List ℤ
 kept_of n rows = up_to n (λ i. list_to rows.width (λ s. share_of rows i *ℤ own_number rows i s))
-
--- a row of numbers over a denominator, in least terms: only 1 and -1 divide them all
-pub record IsLeastRow (width : ℕ) (den : ℤ) (f : ℕ → ℤ) : Type 0 where
-  pub positive : pos 0 <ℤ den
-  pub only_one : (x : ℤ) → Divides x den → IsCommonDivisor width f x → unsigned_abs x ≡ 1
-
--- the greatest size of a row's numbers
-pub record IsRowSize (width : ℕ) (f : ℕ → ℤ) (size : ℤ) : Type 0 where
-  pub small : IsWithin (2 ^ 62) size
-  pub bound : (s : ℕ) → s < width → IsWithin (unsigned_abs size) (f s)
-  pub reached : (size ≡ pos 0) ⊎ ((s : ℕ) × (s < width) × (unsigned_abs (f s) ≡ unsigned_abs size))
 
 -- n rows of one length whose numbers stand over a denominator
 pub record AreRows (n : ℕ) (den : ℤ) (rows : Rows) : Type 0 where

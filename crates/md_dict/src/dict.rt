@@ -1,3 +1,4 @@
+//! The dictionary of a basis, as its callers see it.
 ghost use Rattle.std.specs.Prelude.{◌≡◌, ℕ, ◌+◌, ◌*◌, ◌^◌, ◌<◌, ◌≤◌, ℤ, pos, ◌<ℤ◌, ◌≤ℤ◌, ◌*ℤ◌, ◌⊎◌, length, ◌↔◌, int_div, IfErr, IfNone, IfOk, IfSome, IsTrue, OnOk, OnErr, slice_index, ◌==◌, if◌then◌else◌, unsigned_abs};
 ghost use Rattle.md_num.specs.Limits.{limit_of};
 ghost use Rattle.md_math.specs.Lists.{number_at};
@@ -11,11 +12,12 @@ ghost use Rattle.md_dict.specs.FirstTable.{first_entry};
 use crate::draft::Draft;
 use crate::first::{first_columns, first_numbers, numbers_to, wide_first};
 use crate::refusals::{StartRefusal, TooWide};
+use crate::renewal::{fill, renew};
 use crate::rows::Rows;
 use crate::sizes::greatest_product;
 use crate::step::{Step, basic_number};
 use crate::wide::first_wide;
-use crate::witnesses::Witnesses;
+use md_least_rows::Witnesses;
 use md_lp::{Entry, Lp};
 use md_num::Width;
 use std::alloc::Global;
@@ -53,7 +55,7 @@ impl Model for Dict {
 }
 
 impl Dict {
-    ghost use Rattle.md_dict.specs.Condensed.{Holds, IsGreatestSize, IsShapedDictionary, KeepsEachOnce, TakesColumn, basic_at, entry_at, kept_column_at, kept_number};
+    ghost use Rattle.md_dict.specs.Condensed.{Holds, IsGreatestSize, IsShapedDictionary, KeepsEachOnce, TakesColumn, basic_at, entry_at, kept_column_at, kept_number, place_column};
     ghost use Rattle.md_dict.specs.Start.{IsRefused, IsStart};
     ghost use Rattle.md_dict.specs.Step.{new_entry};
     ghost use Rattle.md_dict.specs.Exchange.{IsExchange, IsWideStep, AreWritten, exchanged, step_of};
@@ -62,6 +64,7 @@ impl Dict {
     /// It is refused where it has an entry above the width's limit in size, and where memory ran out.
     pub fn start(alloc: Global, lp: &Lp, width: Width) -> Result<Dict, StartRefusal>
         ensures ok { IfOk result (IsStart lp.now width) }
+        ensures narrow { IfOk result (λ d. IsNarrow d.rows d.columns (limit_of width) (entry_at d)) }
         ensures refused { IfErr result (IsRefused lp.now width) }
     {
         let rows = lp.rows();
@@ -121,8 +124,9 @@ impl Dict {
         ensures positive { pos 0 <ℤ result }
         ensures size { IsWithin (limit_of self.now.bits) result }
 
-        // A basis has at most one dictionary.
+        // A basis has at most one dictionary, also where it is wide.
         ensures only { (p : Program) (den : ℤ) (e : ℕ → ℕ → ℤ) → Holds p self.now → IsDictionary self.now.rows self.now.columns (first_entry p) (basic_at self.now) den e → den ≡ result }
+        ensures unique { (m n : ℕ) (t : ℕ → ℕ → ℤ) (basis : ℕ → ℕ) (den other : ℤ) (e f : ℕ → ℕ → ℤ) → IsDictionary m n t basis den e → IsDictionary m n t basis other f → den ≡ other }
     {
         self.den
     }
@@ -146,6 +150,17 @@ impl Dict {
         self.order[place as usize]
     }
 
+    /// The number at a row and a kept place, over the denominator of all entries. At the place after the last is the right side.
+    pub fn kept(&self, row: u32, place: u32) -> i128
+        requires row_in { row < self.now.rows + 2 }
+        requires place_in { place < self.now.columns + 1 }
+        ensures value { result ≡ kept_number self.now row place }
+        ensures entry { result ≡ entry_at self.now row (place_column self.now place) }
+        ensures size { IsWithin (limit_of self.now.bits) result }
+    {
+        self.table.number(row as usize, place as usize)
+    }
+
     /// The entry at a row and a column of the whole dictionary.
     pub fn entry(&self, row: u32, column: u32) -> i128
         requires row_in { row < self.now.rows + 2 }
@@ -153,15 +168,16 @@ impl Dict {
         ensures value { result ≡ entry_at self.now row column }
         ensures size { IsWithin (limit_of self.now.bits) result }
 
-        // A basis has at most one dictionary.
+        // A basis has at most one dictionary, also where it is wide.
         ensures only { (p : Program) (den : ℤ) (e : ℕ → ℕ → ℤ) → Holds p self.now → IsDictionary self.now.rows self.now.columns (first_entry p) (basic_at self.now) den e → e row column ≡ entry_at self.now row column }
+        ensures unique { (m n : ℕ) (t : ℕ → ℕ → ℤ) (basis : ℕ → ℕ) (den other : ℤ) (e f : ℕ → ℕ → ℤ) → IsDictionary m n t basis den e → IsDictionary m n t basis other f → (r j : ℕ) → r < m + 2 → j < n + m + 1 → e r j ≡ f r j }
     {
         if column >= self.columns + self.rows {
-            return self.kept_number(row as usize, self.columns as usize);
+            return self.kept(row, self.columns);
         }
         let place = self.seat[column as usize];
         if place < self.columns {
-            return self.kept_number(row as usize, place as usize);
+            return self.kept(row, place);
         }
         basic_number(
             self.rows as usize,
@@ -213,16 +229,6 @@ impl Dict {
         Ok(())
     }
 
-    // The kept number of a row at a place.
-    fn kept_number(&self, row: usize, place: usize) -> i128
-        requires row_in { row < self.now.rows + 2 }
-        requires place_in { place < self.now.columns + 1 }
-        ensures value { result ≡ kept_number self.now row place }
-        ensures size { IsWithin (limit_of self.now.bits) result }
-    {
-        self.table.number(row, place)
-    }
-
     // Whether a column is basic.
     fn is_basic(&self, column: u32) -> bool
         requires { column < self.now.columns }
@@ -238,15 +244,15 @@ impl Dict {
         ensures { result ≡ step_of self.now row column (pos 1) }
     {
         let columns = self.columns as usize;
-        let place = self.seat[column as usize] as usize;
+        let place = self.seat[column as usize];
         Step {
             rows: self.rows as usize,
             columns,
             row: row as usize,
-            place,
+            place: place as usize,
             entering: column as usize,
             leaving: self.order[columns + row as usize] as usize,
-            pivot: self.kept_number(row as usize, place),
+            pivot: self.kept(row, place),
             den: self.den,
             limit: self.width.limit().unsigned_abs(),
             divisor: 1,
@@ -271,9 +277,9 @@ impl Dict {
         ensures wide { IfErr result (λ divided. IsWideStep self.old step.now.row step.now.entering divided) }
         ensures stays { IfErr result (λ _. self.new ≡ self.old) }
     {
-        let filled = step.fill(&mut self.table, &mut self.draft, &mut self.witnesses);
+        let filled = fill(step, &mut self.table, &mut self.draft, &mut self.witnesses);
         let divided = step.over(filled.den);
-        if !step.renew(&mut self.table, &mut self.draft, &filled) {
+        if !renew(step, &mut self.table, &mut self.draft, &filled) {
             return Err(divided);
         }
         self.order[step.place] = step.leaving as u32;

@@ -1,3 +1,4 @@
+//! What a pivot notes while it writes.
 ghost use Rattle.std.specs.Prelude.{◌≡◌, ℕ, ◌*ℤ◌, ◌^◌, ◌<◌, ◌≤◌, ℤ, pos, ◌<ℤ◌, length, IfOk, IsFalse, IsTrue};
 ghost use Rattle.md_math.specs.Sizes.{AllWithin, IsWithin};
 ghost use Rattle.md_math.specs.Lists.{number_at};
@@ -5,7 +6,7 @@ ghost use Rattle.md_math.specs.Divisors.{Divides};
 
 use crate::multiples::{are_sizes_within, share_out};
 use crate::rows::{Rows, filled};
-use crate::wide::is_within;
+use md_division::is_within;
 use md_num::NoMemory;
 use std::alloc::Global;
 use std::mem;

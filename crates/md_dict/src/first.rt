@@ -1,3 +1,4 @@
+//! The numbers of the first dictionary, row by row from the terms of the program.
 ghost use Rattle.std.specs.Prelude.{◌≡◌, ℕ, ◌+◌, ◌-◌, ◌*◌, ◌^◌, ◌<◌, ◌≤◌, ℤ, pos, negsuc, int_lt, neg_ℤ, ◌-ℤ◌, ◌*ℤ◌, [], ◌∷◌, ◌++◌, length, replicate, if◌then◌else◌, IfOk, MatchOption, OnOk};
 ghost use Rattle.md_math.specs.Lists.{list_to, number_at};
 ghost use Rattle.md_math.specs.Sums.{sum_to};
@@ -11,7 +12,7 @@ ghost use Rattle.md_dict.specs.Wide.{IsFirstWide, IsNarrow};
 
 use crate::rows::filled;
 use crate::sizes::are_surely_within;
-use crate::wide::is_within;
+use md_division::is_within;
 use md_lp::{Entry, Lp, RowKind};
 use md_num::NoMemory;
 use std::alloc::Global;

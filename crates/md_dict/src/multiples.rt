@@ -1,11 +1,11 @@
+//! Least common multiples, and the shares of numbers in one.
 ghost use Rattle.std.specs.Prelude.{◌≡◌, ℕ, ◌<◌, ◌^◌, ◌↔◌, ℤ, pos, ◌*ℤ◌, ◌<ℤ◌, length, unsigned_abs, IsTrue};
 ghost use Rattle.md_math.specs.Lists.{number_at};
 ghost use Rattle.md_math.specs.Sizes.{AllWithin, IsWithin};
 ghost use Rattle.md_math.specs.Divisors.{Divides};
 ghost use Rattle.md_dict.specs.Multiples.{IsLeastMultiple, IsMultipleOfTwo};
 
-use crate::division::common_divisor;
-use crate::wide::is_within;
+use md_division::{common_divisor, is_within};
 use md_num::{exact_quotient, product};
 
 // Whether a number divides a multiple, both of which have mostly 64 bits.

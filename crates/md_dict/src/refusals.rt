@@ -1,3 +1,4 @@
+//! Why a dictionary does not start, or does not go to another basis.
 use md_lp::Entry;
 use thiserror::Error;
 

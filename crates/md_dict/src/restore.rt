@@ -1,8 +1,15 @@
+//! Old rows, made again of the new ones that stand in their places.
 ghost use Rattle.std.specs.Prelude.{◌≡◌, ◌≢◌, ℕ, ◌+◌, ◌^◌, ◌<◌, ◌≤◌, ◌-ℤ◌, ◌*ℤ◌, ◌<ℤ◌, ℤ, pos, length, unsigned_abs};
 ghost use Rattle.md_math.specs.Lists.{number_at};
 ghost use Rattle.md_math.specs.Sizes.{AllWithin, IsWithin};
+ghost use Rattle.md_dict.specs.declared.rows.Rows.{Rows};
+ghost use Rattle.md_dict.specs.Step.{IsTable, number_in};
+ghost use Rattle.md_dict.specs.Rows.{own_number};
+ghost use Rattle.md_dict.specs.RowStep.{AreOldFrom, AreOldRows, AreOldTimes, AreRestorable, CanBeRestored, CanBeTurnedBack};
+ghost use Rattle.md_dict.specs.Fill.{Leaves};
 
-use crate::old_rows::OldRows;
+use crate::copies::put_row;
+use crate::old_rows::{OldRows, stays};
 use crate::step::Step;
 use md_num::{exact_quotient, product};
 
@@ -22,107 +29,99 @@ fn undone(divisor: i128, number: i64, pivot: i64, factor: i64, taken: i64) -> i6
     exact_quotient(changed + taken_off, i128::from(pivot)) as i64
 }
 
-impl Step {
-    ghost use Rattle.md_dict.specs.declared.rows.Rows.{Rows};
-    ghost use Rattle.md_dict.specs.Step.{IsTable, number_in};
-    ghost use Rattle.md_dict.specs.Rows.{own_number};
-    ghost use Rattle.md_dict.specs.RowStep.{AreOldFrom, AreOldRows, AreOldTimes, AreRestorable, CanBeRestored, CanBeTurnedBack};
-    ghost use Rattle.md_dict.specs.Fill.{Leaves};
-
-    // The number that stood at a place before a row was changed.
-    fn old_number_of(
-        &self,
-        old: &OldRows,
-        divisor: i128,
-        row: usize,
-        place: usize,
-        number: i64,
-    ) -> i64
-        requires old { (rows : Rows) × AreOldRows self.now rows old.now × (place ≢ self.now.place → divisor *ℤ number ≡ own_number rows self.now.row self.now.place *ℤ own_number rows row place -ℤ own_number rows row self.now.place *ℤ own_number rows self.now.row place) }
-        requires row { row < self.now.rows + 2 }
-        requires place { place < self.now.columns + 1 }
-        requires divisor { unsigned_abs divisor < 2 ^ 126 }
-        requires number { IsWithin (2 ^ 62) number }
-        ensures { (rows : Rows) → AreOldRows self.now rows old.now → (place ≢ self.now.place → divisor *ℤ number ≡ own_number rows self.now.row self.now.place *ℤ own_number rows row place -ℤ own_number rows row self.now.place *ℤ own_number rows self.now.row place) → result ≡ own_number rows row place }
-    {
-        if place == self.place {
-            old.factors[row]
-        } else {
-            undone(
-                divisor,
-                number,
-                old.factors[self.row],
-                old.factors[row],
-                old.pivot_row[place],
-            )
-        }
+// The number that stood at a place before a row was changed.
+fn old_number_of(
+    step: &Step,
+    old: &OldRows,
+    divisor: i128,
+    row: usize,
+    place: usize,
+    number: i64,
+) -> i64
+    requires old { (rows : Rows) × AreOldRows step.now rows old.now × (place ≢ step.now.place → divisor *ℤ number ≡ own_number rows step.now.row step.now.place *ℤ own_number rows row place -ℤ own_number rows row step.now.place *ℤ own_number rows step.now.row place) }
+    requires row { row < step.now.rows + 2 }
+    requires place { place < step.now.columns + 1 }
+    requires divisor { unsigned_abs divisor < 2 ^ 126 }
+    requires number { IsWithin (2 ^ 62) number }
+    ensures { (rows : Rows) → AreOldRows step.now rows old.now → (place ≢ step.now.place → divisor *ℤ number ≡ own_number rows step.now.row step.now.place *ℤ own_number rows row place -ℤ own_number rows row step.now.place *ℤ own_number rows step.now.row place) → result ≡ own_number rows row place }
+{
+    if place == step.place {
+        old.factors[row]
+    } else {
+        undone(
+            divisor,
+            number,
+            old.factors[step.row],
+            old.factors[row],
+            old.pivot_row[place],
+        )
     }
+}
 
-    // Turns the numbers of a row that was changed back.
-    fn turn_numbers_back(&self, old: &OldRows, divisor: i128, row: usize, own: &mut [i64])
-        requires old { (rows : Rows) × AreOldRows self.now rows old.now × AreOldTimes self.now rows row divisor (number_at own.old) }
-        requires row { row < self.now.rows + 2 }
-        requires divisor { unsigned_abs divisor < 2 ^ 126 }
-        requires length { length own.old ≡ self.now.columns + 1 }
-        requires size { AllWithin self.now.limit own.old }
-        ensures back { (rows : Rows) → AreOldRows self.now rows old.now → AreOldTimes self.now rows row divisor (number_at own.old) → (s : ℕ) → s < self.now.columns + 1 → number_at own.new s ≡ own_number rows row s }
-        ensures length { length own.new ≡ self.now.columns + 1 }
-        ensures size { AllWithin self.now.limit own.new }
-    {
-        for place in 0..own.len() {
-            own[place] = self.old_number_of(old, divisor, row, place, own[place]);
-        }
+// Turns the numbers of a row that was changed back.
+fn turn_numbers_back(step: &Step, old: &OldRows, divisor: i128, row: usize, own: &mut [i64])
+    requires old { (rows : Rows) × AreOldRows step.now rows old.now × AreOldTimes step.now rows row divisor (number_at own.old) }
+    requires row { row < step.now.rows + 2 }
+    requires divisor { unsigned_abs divisor < 2 ^ 126 }
+    requires length { length own.old ≡ step.now.columns + 1 }
+    requires size { AllWithin step.now.limit own.old }
+    ensures back { (rows : Rows) → AreOldRows step.now rows old.now → AreOldTimes step.now rows row divisor (number_at own.old) → (s : ℕ) → s < step.now.columns + 1 → number_at own.new s ≡ own_number rows row s }
+    ensures length { length own.new ≡ step.now.columns + 1 }
+    ensures size { AllWithin step.now.limit own.new }
+{
+    for place in 0..own.len() {
+        own[place] = old_number_of(step, old, divisor, row, place, own[place]);
     }
+}
 
-    // Turns a row that was changed back.
-    fn turn_back(&self, old: &OldRows, den: i64, row: usize, numbers: &mut [i64])
-        requires old { (rows : Rows) × AreOldRows self.now rows old.now × CanBeTurnedBack self.now rows row den (number_in self.now numbers.old row) }
-        requires positive { pos 0 <ℤ den }
-        requires den { IsWithin (2 ^ 62) den }
-        requires row { row < self.now.rows + 2 }
-        requires table { IsTable self.now numbers.old }
-        ensures back { (rows : Rows) → AreOldRows self.now rows old.now → CanBeTurnedBack self.now rows row den (number_in self.now numbers.old row) → (s : ℕ) → s < self.now.columns + 1 → number_in self.now numbers.new row s ≡ own_number rows row s }
-        ensures leaves { Leaves self.now row numbers.old numbers.new }
-        ensures table { IsTable self.now numbers.new }
-    {
-        let pivot = i128::from(old.factors[self.row]);
-        let whole = product(pivot, i128::from(old.dens[row]));
-        let divisor = exact_quotient(whole, i128::from(den));
-        let start = row * (self.columns + 1);
-        let end = start + self.columns + 1;
-        self.turn_numbers_back(old, divisor, row, &mut numbers[start..end]);
+// Turns a row that was changed back.
+fn turn_back(step: &Step, old: &OldRows, den: i64, row: usize, numbers: &mut [i64])
+    requires old { (rows : Rows) × AreOldRows step.now rows old.now × CanBeTurnedBack step.now rows row den (number_in step.now numbers.old row) }
+    requires positive { pos 0 <ℤ den }
+    requires den { IsWithin (2 ^ 62) den }
+    requires row { row < step.now.rows + 2 }
+    requires table { IsTable step.now numbers.old }
+    ensures back { (rows : Rows) → AreOldRows step.now rows old.now → CanBeTurnedBack step.now rows row den (number_in step.now numbers.old row) → (s : ℕ) → s < step.now.columns + 1 → number_in step.now numbers.new row s ≡ own_number rows row s }
+    ensures leaves { Leaves step.now row numbers.old numbers.new }
+    ensures table { IsTable step.now numbers.new }
+{
+    let pivot = i128::from(old.factors[step.row]);
+    let whole = product(pivot, i128::from(old.dens[row]));
+    let divisor = exact_quotient(whole, i128::from(den));
+    let start = row * (step.columns + 1);
+    let end = start + step.columns + 1;
+    turn_numbers_back(step, old, divisor, row, &mut numbers[start..end]);
+}
+
+// Gives a row its old numbers back.
+fn restore_row(step: &Step, old: &OldRows, den: i64, row: usize, numbers: &mut [i64])
+    requires old { (rows : Rows) × AreOldRows step.now rows old.now × CanBeRestored step.now rows old.now.factors.now row den (number_in step.now numbers.old row) }
+    requires row { row < step.now.rows + 2 }
+    requires table { IsTable step.now numbers.old }
+    ensures back { (rows : Rows) → AreOldRows step.now rows old.now → CanBeRestored step.now rows old.now.factors.now row den (number_in step.now numbers.old row) → (s : ℕ) → s < step.now.columns + 1 → number_in step.now numbers.new row s ≡ own_number rows row s }
+    ensures leaves { Leaves step.now row numbers.old numbers.new }
+    ensures table { IsTable step.now numbers.new }
+{
+    if stays(step, old.factors, row) {
+        return;
     }
-
-    // Gives a row its old numbers back.
-    fn restore_row(&self, old: &OldRows, den: i64, row: usize, numbers: &mut [i64])
-        requires old { (rows : Rows) × AreOldRows self.now rows old.now × CanBeRestored self.now rows old.now.factors.now row den (number_in self.now numbers.old row) }
-        requires row { row < self.now.rows + 2 }
-        requires table { IsTable self.now numbers.old }
-        ensures back { (rows : Rows) → AreOldRows self.now rows old.now → CanBeRestored self.now rows old.now.factors.now row den (number_in self.now numbers.old row) → (s : ℕ) → s < self.now.columns + 1 → number_in self.now numbers.new row s ≡ own_number rows row s }
-        ensures leaves { Leaves self.now row numbers.old numbers.new }
-        ensures table { IsTable self.now numbers.new }
-    {
-        if self.stays(old.factors, row) {
-            return;
-        }
-        if row == self.row {
-            self.put_row(row, old.pivot_row, numbers);
-        } else {
-            self.turn_back(old, den, row, numbers);
-        }
+    if row == step.row {
+        put_row(step, row, old.pivot_row, numbers);
+    } else {
+        turn_back(step, old, den, row, numbers);
     }
+}
 
-    // Gives the rows that were written their old numbers back.
-    pub fn restore_rows(&self, old: &OldRows, dens: &[i64], written: usize, numbers: &mut [i64])
-        requires old { (rows : Rows) × AreOldRows self.now rows old.now × AreRestorable self.now rows old.now.factors.now numbers.old dens.now written }
-        requires written { written ≤ self.now.rows + 2 }
-        requires dens { length dens.now ≡ self.now.rows + 2 }
-        requires table { IsTable self.now numbers.old }
-        ensures back { (rows : Rows) → AreOldRows self.now rows old.now → AreRestorable self.now rows old.now.factors.now numbers.old dens.now written → AreOldFrom self.now rows numbers.new 0 }
-        ensures table { IsTable self.now numbers.new }
-    {
-        for row in 0..written {
-            self.restore_row(old, dens[row], row, numbers);
-        }
+// Gives the rows that were written their old numbers back.
+pub fn restore_rows(step: &Step, old: &OldRows, dens: &[i64], written: usize, numbers: &mut [i64])
+    requires old { (rows : Rows) × AreOldRows step.now rows old.now × AreRestorable step.now rows old.now.factors.now numbers.old dens.now written }
+    requires written { written ≤ step.now.rows + 2 }
+    requires dens { length dens.now ≡ step.now.rows + 2 }
+    requires table { IsTable step.now numbers.old }
+    ensures back { (rows : Rows) → AreOldRows step.now rows old.now → AreRestorable step.now rows old.now.factors.now numbers.old dens.now written → AreOldFrom step.now rows numbers.new 0 }
+    ensures table { IsTable step.now numbers.new }
+{
+    for row in 0..written {
+        restore_row(step, old, dens[row], row, numbers);
     }
 }

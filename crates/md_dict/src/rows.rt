@@ -1,10 +1,11 @@
+//! Rows of numbers over denominators of their own.
 ghost use Rattle.std.specs.Prelude.{◌≡◌, ℕ, ◌+◌, ◌-◌, ◌*◌, take, drop, ◌*ℤ◌, ◌^◌, ◌<◌, ◌≤◌, ℤ, pos, ◌<ℤ◌, length, replicate, IfOk, IsTrue, IsFalse, unsigned_abs};
 ghost use Rattle.md_math.specs.Sizes.{AllWithin, IsWithin};
 ghost use Rattle.md_math.specs.Lists.{number_at};
 ghost use Rattle.md_math.specs.Divisors.{Divides};
-ghost use Rattle.md_dict.specs.Rows.{IsRowSize};
+ghost use Rattle.md_least_rows.specs.LeastRows.{IsRowSize};
 
-use crate::sizes::row_size;
+use md_least_rows::row_size;
 use md_num::NoMemory;
 use std::alloc::Global;
 

@@ -1,3 +1,4 @@
+//! Dictionaries of a small auction along a path that was worked out by hand.
 use super::*;
 use md_lp::Entry;
 use md_num::Width;
@@ -24,6 +25,14 @@ fn entry_at(dict: &Dict, row: u32, column: u32) -> Option<i128> {
     }
 }
 
+fn kept_at(dict: &Dict, row: u32, place: u32) -> Option<i128> {
+    if row < dict.rows() + 2 && place < dict.columns() + 1 {
+        Some(dict.kept(row, place))
+    } else {
+        None
+    }
+}
+
 #[test]
 fn follows_the_path_of_a_buyer(rt: HostRuntime) -> Result<(), Fail> {
     let lp = buyer(rt.alloc(), 3)?;
@@ -44,7 +53,9 @@ fn follows_the_path_of_a_buyer(rt: HostRuntime) -> Result<(), Fail> {
         assert_eq!(rt; dict.den(), den);
         assert_eq!(rt; dict.greatest(), greatest);
     }
+    // The right side of the main row, as an entry and at the last kept place.
     assert_eq!(rt; entry_at(&dict, 7, 18), Some(6));
+    assert_eq!(rt; kept_at(&dict, 7, 12), Some(6));
     Ok(())
 }
 

@@ -1,3 +1,4 @@
+//! The first entry that is too wide after a pivot.
 ghost use Rattle.std.specs.Prelude.{◌≡◌, ℕ, List, ◌+◌, ◌^◌, ◌<◌, ◌≤◌, ◌↔◌, pos, ◌*ℤ◌, ◌<ℤ◌, int_div, IsTrue, MatchOption, unsigned_abs};
 ghost use Rattle.md_math.specs.Sizes.{IsWithin};
 ghost use Rattle.md_math.specs.Divisors.{Divides};
@@ -6,9 +7,9 @@ ghost use Rattle.md_dict.specs.RowStep.{IsRowStep, kept_in};
 ghost use Rattle.md_dict.specs.Step.{IsSeated, IsStepDivisor, seat_after, raw_at, new_entry};
 ghost use Rattle.md_dict.specs.Wide.{IsFirstWide, IsNarrow};
 
-use crate::division::Divider;
 use crate::rows::Rows;
 use crate::step::{Step, basic_number};
+use md_division::{Divider, is_within};
 use md_lp::Entry;
 use md_num::{exact_quotient, product};
 
@@ -90,13 +91,6 @@ fn new_den(step: &Step) -> i128
     ensures { result ≡ int_div (step.now.den *ℤ step.now.pivot) step.now.divisor }
 {
     exact_quotient(product(step.den, step.pivot), step.divisor)
-}
-
-// Whether a number is within a limit.
-pub fn is_within(x: i128, limit: u128) -> bool
-    ensures { IsTrue result ↔ IsWithin limit x }
-{
-    x.unsigned_abs() <= limit
 }
 
 // The first column of a row whose entry after the pivot is above the limit.

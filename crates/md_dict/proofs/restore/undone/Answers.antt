@@ -1,18 +1,17 @@
-use Rattle.std.proofs.Common.{◌≡◌, ◌<◌, ◌^◌, ℤ, ◌+ℤ◌, ◌-ℤ◌, ◌*ℤ◌, unsigned_abs, sym, subst, lit<}
-use Rattle.std.proofs.lemmas.Int.{unsigned_abs-mul}
+use Rattle.std.proofs.Common.{◌≡◌, ◌^◌, ℤ, ◌+ℤ◌, ◌-ℤ◌, ◌*ℤ◌, sym, subst, lit<}
 use mir.Syntax.{w64}
 use Rattle.md_math.specs.Sizes.{IsWithin}
 use Rattle.md_math.proofs.SizeLaws.{fits_from_IsWithin}
 use Rattle.md_math.proofs.Division.{Divides-from_product}
-use Rattle.md_dict.proofs.Reading.{cross_of_small, read, read_short, read_small, read_wide, sizes_small}
-use Rattle.md_dict.proofs.Restoring.{product_is, quotient_is_own, sum_fits, whole_is, widened}
+use Rattle.md_division.proofs.Reading.{read, read_short, read_small, read_wide, sizes_small, widened}
+use Rattle.md_dict.proofs.Restoring.{changed_small, product_is, quotient_is_own, sum_fits, whole_is}
 use Rattle.md_dict.proofs.restore.undone.Goals as goal
 
 pub product-changed-requires : goal.product-changed-requires
 product-changed-requires c =
     let (own, w, e) = c.requires.own in
-    let small : unsigned_abs (c.args.divisor *ℤ c.args.number) < 2 ^ 126 = subst (λ z. unsigned_abs z < 2 ^ 126) (sym e) (cross_of_small c.args.pivot own c.args.factor c.args.taken c.requires.pivot w c.requires.factor c.requires.taken).size in
-    rw (read_wide c.args.divisor c.requires.divisor, widened c.args.number c.from.result c.requires.number c.from.ensures) (subst (λ n. n < 2 ^ 126) (unsigned_abs-mul c.args.divisor c.args.number) small)
+    rw (read_wide c.args.divisor c.requires.divisor, widened c.args.number c.from.result c.requires.number c.from.ensures)
+    (changed_small c.args.divisor c.args.number c.args.pivot own c.args.factor c.args.taken c.requires.pivot w c.requires.factor c.requires.taken e)
 
 pub product-taken_off-requires : goal.product-taken_off-requires
 product-taken_off-requires c =

@@ -14,11 +14,11 @@ returns c =
     let column_in : c.args.column < c.self.inside.columns = h.column_in in
     let seats : length c.self.inside.seat.items ≡ c.self.inside.columns + c.self.inside.rows = h.shape.places.seat_length in
     let orders : length c.self.inside.order.items ≡ c.self.inside.columns + c.self.inside.rows = h.shape.places.order_length in
-    let place : c.index.result.now ≡ slice_index c.self.inside.seat.items c.args.column = get_or_read c.self.inside.seat.items c.args.column c.index.result.now (omega arith) c.index.ensures 0 in
-    let leaving : c.index-2.result.now ≡ basic_at (the_view c.self.inside) c.args.row = get_or_read c.self.inside.order.items (c.self.inside.columns + c.args.row) c.index-2.result.now (omega arith) c.index-2.ensures 0 in
-    let inside : c.index.result.now < c.self.inside.columns = subst (λ s. s < c.self.inside.columns) (sym place) h.place_in in
+    let place : c.index-place.result.now ≡ slice_index c.self.inside.seat.items c.args.column = get_or_read c.self.inside.seat.items c.args.column c.index-place.result.now (omega arith) c.index-place.ensures 0 in
+    let leaving : c.index.result.now ≡ basic_at (the_view c.self.inside) c.args.row = get_or_read c.self.inside.order.items (c.self.inside.columns + c.args.row) c.index.result.now (omega arith) c.index.ensures 0 in
+    let inside : c.index-place.result.now < c.self.inside.columns = subst (λ s. s < c.self.inside.columns) (sym place) h.place_in in
     step_for (the_view c.self.inside) c.args.self.now c.args.row c.args.column _ c.self.view_is
-    (step_is (the_view c.self.inside) c.args.row c.args.column c.index.result.now c.index-2.result.now c.unsigned_abs.result _ _ place leaving
-    (read_result c.kept_number.result c.kept_number.type_inv ∙ c.kept_number.ensures.value ∙ ap (λ d. kept_number d c.args.row c.index.result.now) (sym c.self.view_is) ∙ ap (λ s. kept_number (the_view c.self.inside) c.args.row s) place)
+    (step_is (the_view c.self.inside) c.args.row c.args.column c.index-place.result.now c.index.result.now c.unsigned_abs.result _ _ place leaving
+    (read_result c.kept.result c.kept.type_inv ∙ c.kept.ensures.value ∙ ap (λ d. kept_number d c.args.row c.index-place.result.now) (sym c.self.view_is) ∙ ap (λ s. kept_number (the_view c.self.inside) c.args.row s) place)
     (read_den (the_view c.self.inside) h.shape)
     (read_limit c.self.inside.width c.unsigned_abs.result c.limit.result h.shape.most_bits c.limit.ensures.value c.unsigned_abs.ensures.value))

@@ -1,5 +1,0 @@
-use Rattle.md_dict.specs.Reduce.{IsAttempt}
-use Rattle.md_dict.proofs.combination.Combination.common_at_witnesses.Given as goal
-
-abbrev pub invariant-loop-place : goal.invariant-loop-place
-invariant-loop-place l = IsAttempt l.self l.own l.taken l.divider.value

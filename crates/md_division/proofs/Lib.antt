@@ -1,0 +1,4 @@
+mod Divisors
+pub mod Guessing
+pub mod OddParts
+pub mod Reading

@@ -1,0 +1,4 @@
+pub mod Combination
+pub mod Halves
+pub mod LeastRows
+pub mod Reduce
