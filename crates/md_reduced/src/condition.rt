@@ -31,7 +31,7 @@ pub(crate) enum ReducedCondition {
 }
 
 /// How many rows the reduced program with these cuts has.
-pub(crate) fn row_count(auction: &Auction, cuts: &Sets) -> u32
+pub fn row_count(auction: &Auction, cuts: &Sets) -> u32
     requires { AreCuts (value_count auction.now) cuts.now }
     ensures { result ≡ length (conditions_of (value_count auction.now) cuts.now) }
 {
