@@ -7,7 +7,7 @@ use Rattle.std.proofs.Math.Nat.{pow-suc}
 use lib.IntN.{*ℤ_comm}
 use Rattle.md_math.specs.Divisors.{IsLeastTerms}
 use Rattle.md_math.specs.Lists.{number_at}
-use Rattle.md_math.specs.Sums.{sum_to, total_by}
+use Rattle.md_math.specs.Sums.{sum_to}
 use Rattle.md_math.proofs.Order.{*ℤ_cancel}
 use Rattle.md_math.proofs.Ring.{linear, ring, *ℤ-+ℤ}
 use Rattle.md_math.proofs.SumLaws.{sum_to-same, sum_to-+ℤ, sum_to-sub, sum_to-*ℤ, sum_to-front, sum_to-constant}
@@ -28,7 +28,7 @@ use Rattle.md_mech.specs.Optimal.{objective_at, worth_of as mechanism_worth}
 use Rattle.md_mech.specs.Utility.{weighted_given}
 use Rattle.md_mech.specs.Value.{IsValueOf}
 use Rattle.md_border.specs.declared.interim.Interim.{Interim}
-use Rattle.md_border.specs.Odds.{IsInterim, HasOdds, HasPays, weight_given}
+use Rattle.md_border.specs.Odds.{HasOdds, HasPays, weight_given}
 use Rattle.md_border.specs.Worth.{surplus_of, gain_of, gains_of, worth_of}
 use Rattle.md_border.proofs.ByValues.{count-general, kinds-general, gains-by_values}
 

@@ -1,5 +1,5 @@
 -- Border's condition is necessary: where some mechanism has the odds, no set of values has a positive excess.
-use Rattle.std.proofs.Common.{◌≡◌, ℕ, zero, suc, ◌+◌, ◌*◌, ◌<◌, ℤ, pos, ◌+ℤ◌, ◌-ℤ◌, ◌*ℤ◌, ◌≤ℤ◌, ◌<ℤ◌, Bool, true, false, if◌then◌else◌, List, length, get_or, refl, sym, ap, ◌∙◌, subst, arith}
+use Rattle.std.proofs.Common.{◌≡◌, ℕ, ◌+◌, ◌*◌, ◌<◌, ℤ, pos, ◌-ℤ◌, ◌*ℤ◌, ◌≤ℤ◌, ◌<ℤ◌, if◌then◌else◌, List, length, get_or, sym, ap, ◌∙◌, subst, arith}
 use Rattle.std.proofs.lemmas.Int.{ints}
 use Rattle.std.proofs.lemmas.List.{length-replicate}
 use Rattle.std.proofs.Math.IntN.{pos-*ℤ-pos}
@@ -7,7 +7,7 @@ use Rattle.std.proofs.Math.ListN.{replicate}
 use Rattle.md_math.specs.Lists.{number_at}
 use Rattle.md_math.specs.Sums.{sum_to, total_by}
 use Rattle.md_math.proofs.Order.{*ℤ-le, le_from_*ℤ, chosen-times}
-use Rattle.md_math.proofs.Ring.{linear, ring, *ℤ-zero, *ℤ_left_comm}
+use Rattle.md_math.proofs.Ring.{linear, ring, *ℤ_left_comm}
 use Rattle.md_math.proofs.SumLaws.{sum_to-constant, sum_to-same, sum_to-*ℤ, sum_to-swap, sum_to-if}
 use Rattle.md_math.proofs.TotalLaws.{total_by-le, total_by-sum_to, total_by-*ℤ}
 use Rattle.md_space.specs.Profiles.{IsProfile}

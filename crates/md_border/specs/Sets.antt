@@ -1,5 +1,5 @@
 -- Sets of kinds of values, written as numbers: the bit of a kind is 1 where the set has it.
-use Rattle.std.specs.Prelude.{ℕ, Bool, List, length, slice_index, if◌then◌else◌, ◌==◌}
+use Rattle.std.specs.Prelude.{ℕ, Bool, List, length, slice_index, if◌then◌else◌}
 use Rattle.std.specs.List.{sum_by, list_any}
 use Rattle.md_math.specs.Lists.{list_to}
 use Rattle.md_math.specs.Sets.{member}

@@ -1,5 +1,5 @@
 -- What a reduced program says of the mechanisms of an auction: which are admissible, and where they stand in it.
-use Rattle.std.proofs.Common.{◌≡◌, ◌≢◌, ℕ, suc, ◌+◌, ◌-◌, ◌*◌, ◌^◌, ◌<◌, ◌≤◌, ℤ, pos, ◌+ℤ◌, ◌-ℤ◌, ◌*ℤ◌, ◌≤ℤ◌, ◌<ℤ◌, neg_ℤ, Bool, true, false, if◌then◌else◌, List, ◌++◌, map, length, get_or, All, refl, sym, ap, ap₂, ◌∙◌, subst, arith, inl, inr, ne_eqb}
+use Rattle.std.proofs.Common.{◌≡◌, ℕ, ◌+◌, ◌-◌, ◌*◌, ◌^◌, ◌<◌, ℤ, pos, ◌+ℤ◌, ◌-ℤ◌, ◌*ℤ◌, ◌≤ℤ◌, neg_ℤ, Bool, true, false, List, ◌++◌, map, All, sym, ap, ap₂, ◌∙◌, subst, arith, inl, inr, ne_eqb}
 use Rattle.std.proofs.lemmas.Bool.{cases_eq}
 use Rattle.std.specs.Prelude.{slice_index}
 use Rattle.std.proofs.lemmas.Int.{ints}
@@ -8,7 +8,7 @@ use lib.IntN.{*ℤ_comm}
 use Rattle.md_math.specs.Lists.{number_at, list_to}
 use Rattle.md_math.specs.Sums.{sum_to}
 use Rattle.md_math.proofs.Builders.{All-left, All-right, All-up_to_at, length-list_to, get_or-list_to}
-use Rattle.md_math.proofs.Order.{≤ℤ_trans, *ℤ-le, le_from_*ℤ, nonneg_from_*ℤ, nonneg-*ℤ, *ℤ_cancel, positive_pos}
+use Rattle.md_math.proofs.Order.{*ℤ-le, le_from_*ℤ, nonneg_from_*ℤ, nonneg-*ℤ, *ℤ_cancel, positive_pos}
 use Rattle.md_math.proofs.Ring.{linear, ring, *ℤ-zero, zero-*ℤ}
 use Rattle.md_math.proofs.SumLaws.{sum_to-single}
 use Rattle.md_space.specs.Profiles.{IsProfile, replaced}
@@ -19,11 +19,10 @@ use Rattle.md_setting.specs.Meaning.{agent_count, sizes_of, weight_of, outside_o
 use Rattle.md_setting.specs.Auction.{SymmetricAuction, value_count, total_weight}
 use Rattle.md_setting.specs.AuctionShaped.{IsAuction}
 use Rattle.md_setting.specs.General.{general_of}
-use Rattle.md_setting.proofs.GeneralLaws.{HasValues, general-truth, general-rational, general-no_deficit, agent_count-general, outcome_count-general, own_utility-general, other_utility-general, outside_of-general}
+use Rattle.md_setting.proofs.GeneralLaws.{general-truth, general-rational, general-no_deficit, agent_count-general, outcome_count-general, own_utility-general, other_utility-general, outside_of-general}
 use Rattle.md_mech.specs.declared.mechanism.Mechanism.{Mechanism}
 use Rattle.md_mech.specs.Admissible.{IsAdmissible}
-use Rattle.md_mech.specs.Mechanism.{chance_of, pay_of, IsMechanism}
-use Rattle.md_mech.specs.Optimal.{worth_of}
+use Rattle.md_mech.specs.Mechanism.{chance_of, pay_of}
 use Rattle.md_mech.specs.Rationality.{IsInterimRational, IsRationalBy}
 use Rattle.md_mech.specs.Truth.{IsBayesTruth, IsTruthfulBy}
 use Rattle.md_mech.specs.Utility.{expected_utility, weighted_given}
@@ -39,11 +38,11 @@ use Rattle.md_border.proofs.Necessity.{won-le}
 use Rattle.md_border.proofs.SideLaws.{right_of-counts}
 use Rattle.md_reduced.specs.declared.condition.ReducedCondition.{ReducedCondition}
 use Rattle.md_reduced.specs.declared.condition.ReducedCondition.TheVariants.{Truth, Rational, Cut}
-use Rattle.md_reduced.specs.Averages.{all_weights, times_of, averages, gain_at, win_in, paid_in, point_of, won_in, IsAdmissibleOnAverage}
+use Rattle.md_reduced.specs.Averages.{all_weights, times_of, gain_at, win_in, paid_in, point_of, won_in, IsAdmissibleOnAverage}
 use Rattle.md_reduced.specs.Conditions.{truths_at, truths, rationals, conditions_of}
-use Rattle.md_reduced.specs.Mechanisms.{AdmitsPoints, HoldsAdmissible, base_of, scale_of}
+use Rattle.md_reduced.specs.Mechanisms.{AdmitsPoints, HoldsAdmissible}
 use Rattle.md_reduced.specs.ProgramOf.{form_of, IsReducedProgram}
-use Rattle.md_reduced.specs.Sides.{pay_in, utility_in, cost_of}
+use Rattle.md_reduced.specs.Sides.{pay_in, utility_in}
 use Rattle.md_reduced.proofs.BuiltLaws.{meets-conditions, costs-points}
 use Rattle.md_reduced.proofs.AverageRows.{averages-meet}
 use Rattle.md_reduced.proofs.MeanLaws.{nonneg_pos, times-parts, averaged-cost}

@@ -1,11 +1,11 @@
 -- The averages of what bidders win and pay meet the reduced program.
-use Rattle.std.proofs.Common.{◌≡◌, ℕ, ◌+◌, ◌-◌, ◌*◌, ◌^◌, ◌<◌, ◌≤◌, ℤ, pos, ◌-ℤ◌, ◌*ℤ◌, ◌≤ℤ◌, ◌<ℤ◌, neg_ℤ, List, ◌++◌, map, length, get_or, All, sym, ap, ◌∙◌, subst, arith, mul-pos}
+use Rattle.std.proofs.Common.{◌≡◌, ℕ, ◌<◌, ℤ, pos, ◌-ℤ◌, ◌*ℤ◌, ◌≤ℤ◌, ◌<ℤ◌, neg_ℤ, List, ◌++◌, map, get_or, All, arith, mul-pos}
 use Rattle.std.proofs.lemmas.Int.{ints}
 use Rattle.std.proofs.lemmas.List.Elements.{All-append, All-map}
 use Rattle.md_math.proofs.Builders.{All-list_to, All-up_to}
 use Rattle.md_math.proofs.Order.{positive-*ℤ, positive_pos}
 use Rattle.md_math.proofs.Ring.{linear, *ℤ-zero}
-use Rattle.md_setting.specs.Auction.{SymmetricAuction, value_count, total_weight}
+use Rattle.md_setting.specs.Auction.{SymmetricAuction, value_count}
 use Rattle.md_setting.specs.AuctionShaped.{IsAuction}
 use Rattle.md_mech.proofs.RowLaws.{all-by_report}
 use Rattle.md_lp.specs.Program.{Program}

@@ -1,12 +1,12 @@
 -- A reduced program is met by the point of zeros, and with a cut for each value alone no point of it grows without end.
-use Rattle.std.proofs.Common.{◌≡◌, ℕ, suc, ◌+◌, ◌*◌, ◌<◌, ◌≤◌, ◌^◌, ℤ, pos, ◌+ℤ◌, ◌-ℤ◌, ◌*ℤ◌, ◌≤ℤ◌, ◌<ℤ◌, neg_ℤ, unsigned_abs, Bool, true, false, if◌then◌else◌, List, refl, sym, ap, ap₂, ◌∙◌, subst, arith, inl, inr, min}
+use Rattle.std.proofs.Common.{◌≡◌, ℕ, ◌+◌, ◌*◌, ◌<◌, ℤ, pos, ◌+ℤ◌, ◌-ℤ◌, ◌*ℤ◌, ◌≤ℤ◌, ◌<ℤ◌, neg_ℤ, unsigned_abs, Bool, true, false, if◌then◌else◌, List, refl, subst, arith, inl, inr, min}
 use Rattle.std.specs.Prelude.{slice_index}
 use Rattle.std.proofs.lemmas.Int.{ints}
 use Rattle.md_math.specs.Lists.{number_at}
 use Rattle.md_math.specs.Sets.{member}
 use Rattle.md_math.specs.Sums.{sum_to}
-use Rattle.md_math.proofs.Order.{≤ℤ_trans, le_from_lt, *ℤ-le, nonneg-*ℤ}
-use Rattle.md_math.proofs.Ring.{linear, ring, *ℤ-zero, one-*ℤ, *ℤ-+ℤ}
+use Rattle.md_math.proofs.Order.{≤ℤ_trans, *ℤ-le, nonneg-*ℤ}
+use Rattle.md_math.proofs.Ring.{linear, ring, *ℤ-zero, one-*ℤ}
 use Rattle.md_math.proofs.SumLaws.{sum_to-zero, sum_to-le}
 use Rattle.md_math.proofs.TotalLaws.{total_by-nonneg}
 use Rattle.md_setting.specs.Auction.{SymmetricAuction, value_count}
@@ -16,7 +16,7 @@ use Rattle.md_counts.specs.Weights.{weight_of_counts}
 use Rattle.md_lp.specs.Program.{Program}
 use Rattle.md_lp.specs.Point.{Meets, cost_sum}
 use Rattle.md_lp.specs.Divided.{IsDivisorFor}
-use Rattle.md_cert.specs.Claims.{GrowsAlong, along}
+use Rattle.md_cert.specs.Claims.{along}
 use Rattle.md_forms.specs.Forms.{Holds, unit}
 use Rattle.md_border.specs.Cuts.{HasSingles}
 use Rattle.md_border.specs.Odds.{weight_given}
@@ -26,7 +26,7 @@ use Rattle.md_border.specs.Worth.{surplus_of}
 use Rattle.md_reduced.specs.Mechanisms.{IsBounded}
 use Rattle.md_reduced.specs.Points.{MeetsReduced}
 use Rattle.md_reduced.specs.ProgramOf.{column_count, form_of, IsReducedProgram}
-use Rattle.md_reduced.specs.Sides.{pay_in, utility_in, demands_of, cost_of}
+use Rattle.md_reduced.specs.Sides.{pay_in, demands_of, cost_of}
 use Rattle.md_reduced.proofs.AdmissibleLaws.{KeepsRows, keeps-rows}
 use Rattle.md_reduced.proofs.BuiltLaws.{meets-conditions, costs-points}
 use Rattle.md_reduced.proofs.AverageRows.{all-conditions}

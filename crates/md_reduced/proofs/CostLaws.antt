@@ -7,7 +7,7 @@ use Rattle.md_math.specs.Lists.{number_at}
 use Rattle.md_math.specs.Sizes.{IsWithin, AllWithin}
 use Rattle.md_math.specs.Sums.{sum_to, dot}
 use Rattle.md_math.proofs.Builders.{length-list_to, get_or-list_to, All-list_to, number_at-behind}
-use Rattle.md_math.proofs.Ring.{linear, *ℤ-+ℤ, *ℤ-neg_ℤ, neg_ℤ-*ℤ, *ℤ_assoc, one-*ℤ, both-parts}
+use Rattle.md_math.proofs.Ring.{linear, *ℤ-+ℤ, *ℤ_assoc, both-parts}
 use Rattle.md_math.proofs.SizeLaws.{IsWithin-*ℤ, IsWithin-wider}
 use Rattle.md_math.proofs.SumLaws.{sum_to-same, sum_to-+ℤ, sum_to-join}
 use Rattle.md_setting.specs.Auction.{SymmetricAuction, value_count}

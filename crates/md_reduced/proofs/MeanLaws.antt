@@ -1,24 +1,22 @@
 -- The averages over the bidders of an auction: what they say of truth, of taking part, of sets of values and of the objective.
-use Rattle.std.proofs.Common.{◌≡◌, ◌≢◌, ℕ, suc, ◌+◌, ◌-◌, ◌*◌, ◌^◌, ◌<◌, ◌≤◌, ℤ, pos, negsuc, ◌+ℤ◌, ◌-ℤ◌, ◌*ℤ◌, ◌≤ℤ◌, ◌<ℤ◌, neg_ℤ, Bool, true, false, ◌==◌, if◌then◌else◌, List, get_or, refl, sym, ap, ap₂, ◌∙◌, subst, arith, eq-eqb, ne_eqb}
+use Rattle.std.proofs.Common.{◌≡◌, ℕ, suc, ◌+◌, ◌-◌, ◌*◌, ◌^◌, ◌<◌, ℤ, pos, negsuc, ◌+ℤ◌, ◌-ℤ◌, ◌*ℤ◌, ◌≤ℤ◌, ◌<ℤ◌, Bool, true, false, ◌==◌, if◌then◌else◌, List, get_or, refl, sym, ap, ap₂, ◌∙◌, subst, arith, eq-eqb, ne_eqb}
 use Rattle.std.specs.Prelude.{slice_index, nat_lt}
 use Rattle.std.proofs.lemmas.Bool.Decides.{nat_tests}
 use Rattle.std.proofs.lemmas.Int.{ints}
 use Rattle.std.proofs.Math.IntN.{pos-*ℤ-pos}
 use Rattle.md_math.specs.Lists.{number_at}
 use Rattle.md_math.specs.Sets.{member}
-use Rattle.md_math.specs.Sums.{sum_to, total_by}
-use Rattle.md_math.proofs.Order.{≤ℤ_trans, *ℤ-le, le_from_*ℤ, nonneg-*ℤ, positive-*ℤ, positive_pos, chosen-times, chosen-nonneg}
+use Rattle.md_math.specs.Sums.{sum_to}
+use Rattle.md_math.proofs.Order.{*ℤ-le, le_from_*ℤ, nonneg-*ℤ, positive-*ℤ, positive_pos, chosen-times, chosen-nonneg}
 use Rattle.md_math.proofs.ProductLaws.{product_to-times, product_to-positive}
-use Rattle.md_math.proofs.Ring.{linear, ring, *ℤ-+ℤ, *ℤ-neg_ℤ, *ℤ_assoc}
+use Rattle.md_math.proofs.Ring.{linear, ring, *ℤ_assoc}
 use Rattle.md_math.proofs.SumLaws.{sum_to-same, sum_to-sub, sum_to-*ℤ, sum_to-le, sum_to-nonneg, sum_to-+ℤ}
-use Rattle.md_math.proofs.TotalLaws.{total_by-sub, total_by-nonneg}
+use Rattle.md_math.proofs.TotalLaws.{total_by-nonneg}
 use Rattle.md_space.specs.AllProfiles.{profiles_of}
 use Rattle.md_space.specs.ByType.{where_type}
 use Rattle.md_space.specs.Profiles.{IsProfile, replaced}
 use Rattle.md_space.proofs.InOrder.{All-profiles_of}
 use Rattle.md_space.proofs.Ranks.{length-IsProfile}
-use Rattle.md_space.proofs.TypeSums.{total-same}
-use Rattle.md_setting.specs.Setting.{GeneralSetting}
 use Rattle.md_setting.specs.Meaning.{sizes_of, weight_of}
 use Rattle.md_setting.specs.Auction.{SymmetricAuction, value_count, total_weight}
 use Rattle.md_setting.specs.AuctionShaped.{IsAuction}

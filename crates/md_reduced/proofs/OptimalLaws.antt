@@ -1,14 +1,12 @@
 -- A mechanism with the odds and payments of a greatest point of a reduced program is optimal over all mechanisms of the
 -- auction.
-use Rattle.std.proofs.Common.{◌≡◌, ℕ, zero, suc, zero-mul, ◌+◌, ◌*◌, ◌-◌, ◌<◌, ◌≤◌, ◌^◌, ℤ, pos, ◌+ℤ◌, ◌*ℤ◌, ◌≤ℤ◌, ◌<ℤ◌, List, refl, sym, ap, ap₂, ◌∙◌, subst, arith}
+use Rattle.std.proofs.Common.{◌≡◌, ℕ, zero, suc, zero-mul, ◌*◌, ◌-◌, ◌<◌, ◌^◌, ℤ, pos, ◌+ℤ◌, ◌*ℤ◌, ◌≤ℤ◌, ◌<ℤ◌, List, sym, ap, ap₂, ◌∙◌, subst, arith}
 use Rattle.std.specs.Prelude.{slice_index}
 use Rattle.std.proofs.lemmas.Int.{ints}
 use Rattle.std.proofs.Math.IntN.{pos-*ℤ-pos}
-use Rattle.md_math.specs.Lists.{number_at}
-use Rattle.md_math.specs.Sums.{sum_to}
 use Rattle.md_math.proofs.Builders.{get_or-list_to}
 use Rattle.md_math.proofs.Order.{*ℤ-le, le_from_*ℤ, le_from_lt, positive-*ℤ, positive_pos}
-use Rattle.md_math.proofs.Ring.{linear, ring}
+use Rattle.md_math.proofs.Ring.{ring}
 use Rattle.md_math.proofs.SumLaws.{sum_to-same}
 use Rattle.md_lp.specs.Program.{Program}
 use Rattle.md_lp.specs.Point.{cost_sum}
@@ -22,7 +20,7 @@ use Rattle.md_mech.specs.Admissible.{IsAdmissible}
 use Rattle.md_mech.specs.Mechanism.{IsMechanism}
 use Rattle.md_mech.specs.Optimal.{IsOptimal, worth_of as mechanism_worth}
 use Rattle.md_border.specs.Odds.{HasOdds, HasPays}
-use Rattle.md_border.specs.Worth.{gain_of, gains_of, surplus_of, worth_of}
+use Rattle.md_border.specs.Worth.{gains_of, surplus_of, worth_of}
 use Rattle.md_border.proofs.MechanismWorth.{others, power-of_all, worth-of_odds}
 use Rattle.md_forms.specs.Forms.{unit}
 use Rattle.md_lp.proofs.Dividing.{IsDivisorFor-positive}

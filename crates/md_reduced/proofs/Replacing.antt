@@ -3,10 +3,7 @@ use Rattle.std.proofs.Common.{◌≡◌, ℕ, zero, suc, ◌*◌, ◌<◌, ℤ, 
 use Rattle.std.specs.Prelude.{slice_index}
 use Rattle.std.proofs.Math.IntN.{pos-*ℤ-pos}
 use Rattle.md_math.specs.Products.{product_by}
-use Rattle.md_math.specs.Sums.{total_by}
 use Rattle.md_math.proofs.Ring.{*ℤ_assoc}
-use Rattle.md_space.specs.AllProfiles.{profiles_of}
-use Rattle.md_space.specs.ByType.{where_type}
 use Rattle.md_space.specs.Profiles.{IsProfile, replaced}
 use Rattle.md_space.proofs.Ranks.{length-IsProfile, replaced-IsProfile}
 use Rattle.md_space.proofs.TypeSums.{total_given-same, total_given-*ℤ, swapped}

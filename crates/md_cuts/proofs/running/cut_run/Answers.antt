@@ -5,7 +5,7 @@ use Rattle.md_border.specs.Cuts.{singles_of}
 use Rattle.md_cuts.specs.CutRuns.{EndsSettled, EndsWide, IsCutRun}
 use Rattle.md_cuts.specs.Turns.{IsAdded, IsEnded, IsTurn}
 use Rattle.md_cuts.specs.CutRuns.{AreWide}
-use Rattle.md_cuts.proofs.CutLists.{cuts-fewer}
+use Rattle.md_reduced.proofs.CutLaws.{cuts-fewer}
 use Rattle.md_cuts.proofs.OneCutRun.{not_settled_wide, same_settled, same_wide}
 use Rattle.md_cuts.proofs.SingleCuts.{HasSingles-run}
 use Rattle.md_cuts.proofs.Turning.{run-first, run-more}
