@@ -6,13 +6,16 @@ use Rattle.std.proofs.lemmas.Int.{ints}
 use Rattle.std.specs.Prelude.{int_le, unsigned_abs}
 use Rattle.md_math.specs.Lists.{number_at}
 use Rattle.md_setting.specs.Auction.{SymmetricAuction, value_count}
+use Rattle.md_math.specs.Sizes.{AllWithin}
 use Rattle.md_mech.specs.Accepted.{number_limit}
+use Rattle.md_border.specs.declared.interim.Interim.{Interim}
 use Rattle.md_border.specs.Odds.{IsInterim}
-use Rattle.md_parts.specs.Fields.{is_place, denominator_field}
+use Rattle.md_parts.specs.Fields.{any_number, is_place, denominator_field}
 use Rattle.md_parts.specs.Reading.{Rest, read_record}
 use Rattle.md_parts.proofs.NumbersRead.{IsInField, number_field-is, numbers-after, record-was_read}
 use Rattle.md_parts.proofs.Blocks.{in_two}
 use Rattle.md_answer.specs.Odds.{interim_den, odds_field, odds_in}
+use Rattle.md_answer.specs.InterimRecords.{pays_in, interim_in}
 
 den-known : (rest after : Rest) (den : ℤ) → interim_den rest ≡ Ok (den, after) → IsInField 62 (int_le (pos 1)) den
 den-known rest after den h =
@@ -53,19 +56,47 @@ zeros-at zero k = refl
 zeros-at (suc n) zero = refl
 zeros-at (suc n) (suc k) = zeros-at n k
 
--- odds that were read, without payments
-pub interim-known : (a : SymmetricAuction) (den : ℤ) (odds pays : List ℤ) (rest mid after : Rest) → interim_den rest ≡ Ok (den, mid) → odds_in a den mid ≡ Ok (odds, after) → pays ≡ replicate (value_count a) (pos 0)
-    → IsInterim a (record { den = den; odds = odds; pays = pays })
-interim-known a den odds pays rest mid after hd ho hp =
-    let d = den-known rest mid den hd in
-    let o = odds-known a den mid after odds ho in
+-- payments that are in their range, one for each value
+record ArePays (a : SymmetricAuction) (pays : List ℤ) : Type 0 where
+  pub long : length pays ≡ value_count a
+  pub small : AllWithin number_limit pays
+
+interim-of : (a : SymmetricAuction) (den : ℤ) (odds pays : List ℤ) → IsInField 62 (int_le (pos 1)) den → AreOdds a den odds → ArePays a pays → IsInterim a (record { den = den; odds = odds; pays = pays })
+interim-of a den odds pays d o p =
     let one = int_le-true (pos 1) den d.passes in
-    let none : (k : ℕ) → number_at pays k ≡ pos 0 = λ k. ap (λ (xs : List ℤ). number_at xs k) hp ∙ zeros-at (value_count a) k in
     record {
       den_positive = one;
       den_size = den-small den number_limit one d.small.within;
       one_odds = o.long;
-      one_pay = ap length hp ∙ length-replicate (value_count a) (pos 0);
+      one_pay = p.long;
       odds = λ v l. let long = o.long in place-inside den (number_at odds v) one (All-get_or (IsInField 62 (is_place 0 (unsigned_abs den + 1))) odds v (pos 0) (omega (arith, long, l)) o.each).passes;
-      pay_size = record { at = λ k l. rw (none k) (record { within = omega arith }) };
+      pay_size = p.small;
     }
+
+-- odds that were read, without payments
+pub interim-known : (a : SymmetricAuction) (den : ℤ) (odds pays : List ℤ) (rest mid after : Rest) → interim_den rest ≡ Ok (den, mid) → odds_in a den mid ≡ Ok (odds, after) → pays ≡ replicate (value_count a) (pos 0)
+    → IsInterim a (record { den = den; odds = odds; pays = pays })
+interim-known a den odds pays rest mid after hd ho hp =
+    let none : (k : ℕ) → number_at pays k ≡ pos 0 = λ k. ap (λ (xs : List ℤ). number_at xs k) hp ∙ zeros-at (value_count a) k in
+    interim-of a den odds pays (den-known rest mid den hd) (odds-known a den mid after odds ho)
+    (record { long = ap length hp ∙ length-replicate (value_count a) (pos 0); small = record { at = λ k l. rw (none k) (record { within = omega arith }) } })
+
+-- payments that were read
+pays-known : (a : SymmetricAuction) (rest after : Rest) (pays : List ℤ) → pays_in a rest ≡ Ok (pays, after) → ArePays a pays
+pays-known a rest after pays h =
+    let fields = replicate (value_count a) any_number in
+    let r = record-was_read (codes "pays") fields rest pays after h in
+    let long : length r.texts ≡ value_count a = r.long ∙ length-replicate (value_count a) any_number in
+    let e = numbers-after (IsInField 62 (λ _. true)) any_number (λ text n holds. number_field-is 62 (λ _. true) text n (lit≤ tt) holds) [] (value_count a) 2 r.texts pays (omega (arith, long)) r.read in
+    record { long = let l = e.long in omega (arith, l); small = record { at = λ k l. (All-get_or (IsInField 62 (λ _. true)) pays k (pos 0) l e.each).small } }
+
+-- odds and payments that were read
+pub interim-read : (a : SymmetricAuction) (rest after : Rest) (interim : Interim) → interim_in a rest ≡ Ok (interim, after) → IsInterim a interim
+interim-read a rest after interim h =
+    let den = in_two (interim_den rest) _ interim after h in
+    let odds = in_two (odds_in a den.one den.mid) _ interim after den.next_is in
+    let pays = in_two (pays_in a odds.mid) _ interim after odds.next_is in
+    let made : Interim = record { den = den.one; odds = odds.one; pays = pays.one } in
+    let pair : (made, pays.mid) ≡ (interim, after) = cc in
+    subst (IsInterim a) (ap (λ (p : Interim × Rest). p.0) pair)
+    (interim-of a den.one odds.one pays.one (den-known rest den.mid den.one den.first_is) (odds-known a den.one den.mid odds.mid odds.one odds.first_is) (pays-known a odds.mid pays.mid pays.one pays.first_is))

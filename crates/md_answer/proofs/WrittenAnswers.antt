@@ -8,7 +8,7 @@ use Rattle.md_lp.specs.declared.wide.Wide.{Wide}
 use Rattle.md_records.specs.Written.{IsReadBack}
 use Rattle.md_records.proofs.RecordTexts.{records_of-text}
 use Rattle.md_answer.specs.declared.answer.Answer.{Answer}
-use Rattle.md_answer.specs.declared.answer.Answer.TheVariants.{Table, Optimal, Infeasible, Unbounded, TooWide}
+use Rattle.md_answer.specs.declared.answer.Answer.TheVariants.{Table, Optimal, Infeasible, Unbounded, AuctionOptimal, TooWide}
 use Rattle.md_parts.specs.declared.first_record.Head.{Head}
 use Rattle.md_answer.specs.declared.kind.Kind.{Kind}
 use Rattle.md_answer.specs.declared.kind.Kind.TheVariants as kind
@@ -30,7 +30,7 @@ use Rattle.md_parts.proofs.WrittenParts.{first-written, end-written, mechanism-w
 abbrev Rows : Type 0
 Rows = List (List (List ℕ))
 
-version-with : (cuts : List ℕ) (first : Wide) (second : Option Wide) → version_in (TooWide cuts first second) ≡ version_with second
+pub version-with : (cuts : List ℕ) (first : Wide) (second : Option Wide) → version_in (TooWide cuts first second) ≡ version_with second
 version-with cuts first None = refl
 version-with cuts first (Some second) = refl
 
@@ -52,6 +52,7 @@ inner-written s (Unbounded mechanism ray) few h p =
     written-then the_end (mechanism_of s) (λ m. ray_of s >>= (λ r. nothing_more (Unbounded m r))) (mechanism_rows s mechanism) (ray_rows s ray) mechanism (Unbounded mechanism ray)
     (mechanism-written s mechanism (ray_rows s ray ++ the_end) h.0)
     (written-as the_end (ray_of s) (λ r. Unbounded mechanism r) (ray_rows s ray) ray (ray-written s ray the_end h.1))
+inner-written s (AuctionOptimal value interim masses cuts bound) few h p = absurd h
 inner-written s (TooWide cuts first second) few h p =
     let version = version_with second in
     rw (version-with cuts first second)
@@ -66,6 +67,7 @@ answer-stands (Table mechanism) = refl
 answer-stands (Optimal value mechanism bound) = refl
 answer-stands (Infeasible face) = refl
 answer-stands (Unbounded mechanism ray) = refl
+answer-stands (AuctionOptimal value interim masses cuts bound) = refl
 answer-stands (TooWide cuts first None) = refl
 answer-stands (TooWide cuts first (Some second)) = refl
 
@@ -105,6 +107,7 @@ inner-some s (Optimal value mechanism bound) =
     (All-cons IsSome (number_row (codes "bound") (bound.den ∷ [])) rows (omega arith) (rows-some (row_count s) (both_row bound))))
 inner-some s (Infeasible face) = rows-some (row_count s) (face_row face)
 inner-some s (Unbounded mechanism ray) = All-append IsSome (mechanism_rows s mechanism) (ray_rows s ray) (mechanism-some s mechanism) (payments-some (codes "ray") s ray s.payments)
+inner-some s (AuctionOptimal value interim masses cuts bound) = All-nil IsSome
 inner-some s (TooWide cuts first second) = All-append IsSome (wide_rows first) (second_rows second) (wide-some first) (second-some second)
 
 answer-read_back : (s : GeneralSetting) (a : Answer) → IsReadBack (answer_rows s a)

@@ -6,7 +6,7 @@ use Rattle.md_mech.specs.Accepted.{IsAccepted}
 use Rattle.md_cert.specs.declared.bound.Bound.{Bound}
 use Rattle.md_parts.specs.Fitting.{IsFraction, AreMultipliers, IsBoundOver, IsRayFor, HasFraction, HasWidePlaces}
 use Rattle.md_answer.specs.declared.answer.Answer.{Answer}
-use Rattle.md_answer.specs.declared.answer.Answer.TheVariants.{Table, Optimal, Infeasible, Unbounded, TooWide}
+use Rattle.md_answer.specs.declared.answer.Answer.TheVariants.{Table, Optimal, Infeasible, Unbounded, AuctionOptimal, TooWide}
 
 -- multipliers of the rows of the setting's program
 abbrev pub IsBoundFor : GeneralSetting → Bound → Type 0
@@ -18,6 +18,7 @@ IsAnswerTo s (Table mechanism) = IsAccepted s mechanism
 IsAnswerTo s (Optimal value mechanism bound) = IsFraction value.num value.den × IsAccepted s mechanism × IsBoundFor s bound
 IsAnswerTo s (Infeasible face) = AreMultipliers (row_count s) face
 IsAnswerTo s (Unbounded mechanism ray) = IsAccepted s mechanism × IsRayFor s ray
+IsAnswerTo s (AuctionOptimal value interim masses cuts bound) = ⊥
 IsAnswerTo s (TooWide cuts first second) = (cuts ≡ []) × HasFraction first × IfSome second HasFraction
 
 -- the places that an answer names are as its types hold them

@@ -4,4 +4,12 @@ pub mod AnswerTo
 pub mod Pivots
 pub mod Rows
 pub mod Odds
+pub mod InterimRecords
 pub mod MassRecords
+pub mod MassReading
+pub mod ReducedRows
+pub mod AuctionKinds
+pub mod AuctionAnswers
+pub mod AuctionAnswerTo
+pub mod AuctionPivots
+pub mod AuctionRows

@@ -9,12 +9,16 @@ use Rattle.md_parts.specs.Path.{path_of}
 use Rattle.md_parts.specs.LastRecord.{read_end}
 use Rattle.md_parts.specs.Fitting.{IsTablePlace}
 
--- no record comes before the pivots, and the program of a general setting has no rows that were added as cuts
-abbrev pub whole_pivots : Reading Pivots
-whole_pivots = do
+-- the pivots of a program with some cuts, and then the end
+abbrev pub pivots_with : List ℕ → Reading Pivots
+pivots_with cuts = do
   path ← path_of
   _ ← read_end
-  nothing_more record { cuts = []; path = path }
+  nothing_more record { cuts = cuts; path = path }
+
+-- no record comes before the pivots, and the program of a general setting has no rows that were added as cuts
+abbrev pub whole_pivots : Reading Pivots
+whole_pivots = pivots_with []
 
 abbrev pub pivots_of : List ℕ → Result Pivots AnswerRefusal
 pivots_of bytes = answered (whole_pivots record { read = 0; left = records_of bytes })

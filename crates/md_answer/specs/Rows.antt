@@ -4,7 +4,7 @@ use Rattle.md_setting.specs.Setting.{GeneralSetting}
 use Rattle.md_setting.specs.Rows.{row_count}
 use Rattle.md_records.specs.Written.{text_of_records}
 use Rattle.md_answer.specs.declared.answer.Answer.{Answer}
-use Rattle.md_answer.specs.declared.answer.Answer.TheVariants.{Table, Optimal, Infeasible, Unbounded, TooWide}
+use Rattle.md_answer.specs.declared.answer.Answer.TheVariants.{Table, Optimal, Infeasible, Unbounded, AuctionOptimal, TooWide}
 use Rattle.md_parts.specs.declared.version.Version.{Version}
 use Rattle.md_parts.specs.declared.version.Version.TheVariants.{One, Two}
 use Rattle.md_answer.specs.declared.kind.Kind.{Kind}
@@ -18,6 +18,7 @@ inner_rows s (Table mechanism) = mechanism_rows s mechanism
 inner_rows s (Optimal value mechanism bound) = value_row value ∷ (mechanism_rows s mechanism ++ bound_rows (row_count s) bound)
 inner_rows s (Infeasible face) = face_rows (row_count s) face
 inner_rows s (Unbounded mechanism ray) = mechanism_rows s mechanism ++ ray_rows s ray
+inner_rows s (AuctionOptimal value interim masses cuts bound) = []
 inner_rows s (TooWide cuts first second) = wide_rows first ++ second_rows second
 
 -- an answer of two parts stands in the second version
@@ -26,6 +27,7 @@ version_in (Table mechanism) = One
 version_in (Optimal value mechanism bound) = One
 version_in (Infeasible face) = One
 version_in (Unbounded mechanism ray) = One
+version_in (AuctionOptimal value interim masses cuts bound) = One
 version_in (TooWide cuts first None) = One
 version_in (TooWide cuts first (Some second)) = Two
 
@@ -34,6 +36,7 @@ kind_in (Table mechanism) = kind.Table
 kind_in (Optimal value mechanism bound) = kind.Optimal
 kind_in (Infeasible face) = kind.Infeasible
 kind_in (Unbounded mechanism ray) = kind.Unbounded
+kind_in (AuctionOptimal value interim masses cuts bound) = kind.Optimal
 kind_in (TooWide cuts first second) = kind.TooWide
 
 abbrev pub answer_rows : GeneralSetting → Answer → List (List (List ℕ))

@@ -1,12 +1,18 @@
-//! Answers about general settings, interim odds and mass tables as texts of records.
+//! Answers about general settings and auctions, interim odds and mass tables as texts of records.
 #![tactic(auto)]
 
 mod answer;
+mod auction_kind;
+mod auction_reading;
+mod auction_writing;
+mod interim_records;
 mod kind;
+mod mass_reading;
 mod mass_records;
 mod odds_file;
 mod pivots_file;
 mod reading;
+mod reduced;
 mod writing;
 
 pub use answer::Answer;
@@ -17,6 +23,8 @@ pub use pivots_file::{Pivots, read_pivots};
 pub use reading::read_answer;
 pub use writing::write_answer;
 
+#[cfg(test)]
+mod auction_tests;
 #[cfg(test)]
 mod odds_tests;
 #[cfg(test)]

@@ -1,13 +1,15 @@
 //! Reading a whole answer.
 ghost use Rattle.std.specs.Prelude.{◌≡◌, ◌≢◌, Ok, Err, IfOk, MatchResult};
 ghost use Rattle.md_setting.specs.Setting.{GeneralSetting};
-ghost use Rattle.md_setting.specs.ByKind.{IsGeneral, WhereGeneral};
+ghost use Rattle.md_setting.specs.ByKind.{WhereGeneral, WhereAuction};
 ghost use Rattle.md_answer.specs.Kinds.{kind_of};
 ghost use Rattle.md_answer.specs.AnswerTo.{IsAnswerTo, HasPlaces};
+ghost use Rattle.md_answer.specs.AuctionAnswerTo.{IsAuctionAnswer};
+ghost use Rattle.md_answer.specs.AuctionAnswers.{auction_answer_of};
 ghost use Rattle.md_answer.specs.Answers.{table_answer, optimal_answer, infeasible_answer, unbounded_answer, too_wide_answer, answer_by, answer_of};
 
 use crate::kind::{Kind, answer_words};
-use crate::{Answer, AnswerRefusal};
+use crate::{Answer, AnswerRefusal, auction_reading};
 use md_lp::Sets;
 use md_parts::{
     Head, Reader, Version, read_bound, read_face, read_first, read_last, read_mechanism, read_pays,
@@ -139,23 +141,26 @@ fn read_about(alloc: Global, bytes: &[u8], setting: &Setting) -> Result<Answer, 
     Ok(answer)
 }
 
-/// Reads an answer about the general setting of a file.
+/// Reads an answer about the general setting or the auction of a file.
 ///
 /// # Errors
 /// The first record that may not stand there, has a wrong field or does not add to what it must, that no end stands
 /// among the records, or that memory ran out.
 pub fn read_answer(alloc: Global, bytes: &[u8], file: &SettingFile) -> Result<Answer, AnswerRefusal>
-    requires general { IsGeneral file.now }
     ensures reads { WhereGeneral (λ s. MatchResult result
         (λ answer. answer_of s bytes.now ≡ Ok answer)
         (λ refusal. refusal ≢ AnswerRefusal.Memory → answer_of s bytes.now ≡ Err refusal)) file.now }
+    ensures auction_reads { WhereAuction (λ a. MatchResult result
+        (λ answer. auction_answer_of a bytes.now ≡ Ok answer)
+        (λ refusal. refusal ≢ AnswerRefusal.Memory → auction_answer_of a bytes.now ≡ Err refusal)) file.now }
 
-    // What is read has the setting's sizes, and its numbers are in their ranges.
+    // What is read has the sizes of the setting or the auction, and its numbers are in their ranges.
     ensures accepted { WhereGeneral (λ s. IfOk result (IsAnswerTo s)) file.now }
+    ensures auction_accepted { WhereAuction (λ a. IfOk result (IsAuctionAnswer a)) file.now }
     ensures places { IfOk result HasPlaces }
 {
     match file {
         SettingFile::General(setting) => read_about(alloc, bytes, setting),
-        SettingFile::Auction(_) => unreachable!(),
+        SettingFile::Auction(auction) => auction_reading::read_about(alloc, bytes, auction),
     }
 }

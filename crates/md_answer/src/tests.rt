@@ -48,43 +48,10 @@ fn built(alloc: Global, raw: RawSetting) -> Result<SettingFile, Fail> {
     Ok(SettingFile::General(setting))
 }
 
-// The refusal of an answer, where it is refused.
-fn refused(alloc: Global, bytes: &[u8], file: &SettingFile) -> Result<Option<AnswerRefusal>, Fail> {
-    match file {
-        SettingFile::General(_) => Ok(read_answer(alloc, bytes, file).err()),
-        SettingFile::Auction(_) => Err("an auction")?,
-    }
-}
-
 // An answer that is read, and written again.
 fn rewritten(alloc: Global, bytes: &[u8], file: &SettingFile) -> Result<Vec<u8>, Fail> {
-    match file {
-        SettingFile::General(_) => {
-            let answer = read_answer(alloc, bytes, file)?;
-            Ok(write_answer(alloc, file, &answer)?)
-        }
-        SettingFile::Auction(_) => Err("an auction")?,
-    }
-}
-
-// The pivots of a file.
-fn listed(alloc: Global, bytes: &[u8], file: &SettingFile) -> Result<Pivots, Fail> {
-    match file {
-        SettingFile::General(_) => Ok(read_pivots(alloc, bytes, file)?),
-        SettingFile::Auction(_) => Err("an auction")?,
-    }
-}
-
-// The refusal of a file of pivots, where it is refused.
-fn refused_pivots(
-    alloc: Global,
-    bytes: &[u8],
-    file: &SettingFile,
-) -> Result<Option<AnswerRefusal>, Fail> {
-    match file {
-        SettingFile::General(_) => Ok(read_pivots(alloc, bytes, file).err()),
-        SettingFile::Auction(_) => Err("an auction")?,
-    }
+    let answer = read_answer(alloc, bytes, file)?;
+    Ok(write_answer(alloc, file, &answer)?)
 }
 
 const BUYER: usize = 0;
@@ -181,7 +148,7 @@ fn tells_where_a_file_ends_early(rt: HostRuntime) -> Result<(), Fail> {
             let front = &bytes[..place];
             if front.ends_with(b"\n") {
                 records = records.saturating_add(1);
-                let refusal = refused(alloc, front, setting)?;
+                let refusal = read_answer(alloc, front, setting).err();
                 assert!(rt;
                     refusal == Some(AnswerRefusal::End(records)),
                     "at {records} of {text}"
@@ -436,7 +403,7 @@ fn tells_the_first_reason_to_refuse(rt: HostRuntime) -> Result<(), Fail> {
         let Some(setting) = settings.get(*setting) else {
             return Err("no setting")?;
         };
-        let found = refused(alloc, text.as_bytes(), setting)?;
+        let found = read_answer(alloc, text.as_bytes(), setting).err();
         assert!(rt; found == Some(*refusal), "at {text}");
     }
     Ok(())
@@ -468,11 +435,11 @@ fn reads_the_pivots_of_a_file(rt: HostRuntime) -> Result<(), Fail> {
     let alloc = rt.alloc();
     let setting = built(alloc, lone(alloc)?)?;
     for (text, wanted) in &LISTED {
-        let pivots = listed(alloc, text.as_bytes(), &setting)?;
+        let pivots = read_pivots(alloc, text.as_bytes(), &setting)?;
         assert!(rt; pivots.path.as_slice() == wanted.as_slice(), "at {text}");
         assert!(rt; pivots.cuts.is_empty(), "at {text}");
     }
-    let none = listed(alloc, b"end\n", &setting)?;
+    let none = read_pivots(alloc, b"end\n", &setting)?;
     assert!(rt; none.path.is_empty());
     Ok(())
 }
@@ -502,7 +469,7 @@ fn tells_the_first_reason_to_refuse_pivots(rt: HostRuntime) -> Result<(), Fail> 
     let alloc = rt.alloc();
     let setting = built(alloc, lone(alloc)?)?;
     for (text, refusal) in &PIVOTS_REFUSED {
-        let found = refused_pivots(alloc, text.as_bytes(), &setting)?;
+        let found = read_pivots(alloc, text.as_bytes(), &setting).err();
         assert!(rt; found == Some(*refusal), "at {text}");
     }
     Ok(())

@@ -1,13 +1,16 @@
 //! Writing a whole answer.
 ghost use Rattle.std.specs.Prelude.{◌≡◌, ◌++◌, IfOk, OnOk, Ok};
-ghost use Rattle.md_setting.specs.ByKind.{IsGeneral, WhereGeneral};
+ghost use Rattle.md_setting.specs.ByKind.{WhereGeneral, WhereAuction};
 ghost use Rattle.md_answer.specs.declared.answer.Answer.{Answer};
 ghost use Rattle.md_answer.specs.AnswerTo.{IsAnswerTo, HasPlaces};
 ghost use Rattle.md_answer.specs.Answers.{answer_of};
+ghost use Rattle.md_answer.specs.AuctionAnswerTo.{IsAuctionAnswer};
+ghost use Rattle.md_answer.specs.AuctionAnswers.{auction_answer_of};
+ghost use Rattle.md_answer.specs.AuctionRows.{text_of_auction_answer};
 ghost use Rattle.md_answer.specs.Rows.{inner_rows, version_in, kind_in, answer_rows, text_of_answer};
 
-use crate::Answer;
 use crate::kind::Kind;
+use crate::{Answer, auction_writing};
 use md_num::NoMemory;
 use md_parts::{
     Version, push_bound, push_end, push_face, push_first, push_mechanism, push_pays, push_second,
@@ -17,8 +20,8 @@ use md_records::{Row, write_records};
 use md_setting::{Setting, SettingFile};
 use std::alloc::Global;
 
-// The version of the format in which an answer stands.
-fn version_of(answer: &Answer) -> Version
+/// The version of the format in which an answer stands.
+pub(crate) fn version_of(answer: &Answer) -> Version
     ensures { result ≡ version_in answer.now }
 {
     match answer {
@@ -36,7 +39,7 @@ fn kind_of(answer: &Answer) -> Kind
 {
     match answer {
         Answer::Table(_) => Kind::Table,
-        Answer::Optimal { .. } => Kind::Optimal,
+        Answer::Optimal { .. } | Answer::AuctionOptimal { .. } => Kind::Optimal,
         Answer::Infeasible { .. } => Kind::Infeasible,
         Answer::Unbounded { .. } => Kind::Unbounded,
         Answer::TooWide { .. } => Kind::TooWide,
@@ -70,6 +73,7 @@ fn push_inner(
             push_mechanism(alloc, rows, setting, mechanism)?;
             push_pays(alloc, rows, setting, "ray", ray)
         }
+        Answer::AuctionOptimal { .. } => unreachable!(),
         Answer::TooWide {
             cuts: _,
             first,
@@ -107,21 +111,24 @@ fn text_about(alloc: Global, setting: &Setting, answer: &Answer) -> Result<Vec<u
     write_records(alloc, &rows)
 }
 
-/// Writes an answer about the general setting of a file as its one text.
+/// Writes an answer about the general setting or the auction of a file as its one text.
 ///
 /// # Errors
 /// Want of memory.
 pub fn write_answer(alloc: Global, file: &SettingFile, answer: &Answer) -> Result<Vec<u8>, NoMemory>
-    requires general { IsGeneral file.now }
     requires fits { WhereGeneral (λ s. IsAnswerTo s answer.now) file.now }
+    requires auction_fits { WhereAuction (λ a. IsAuctionAnswer a answer.now) file.now }
     ensures text { WhereGeneral (λ s. IfOk result (λ text. text.items ≡ text_of_answer s answer.now)) file.now }
+    ensures auction_text { WhereAuction (λ a. IfOk result (λ text. text.items ≡ text_of_auction_answer a answer.now)) file.now }
 
     // What is written is read as the same answer.
     ensures reads_back { WhereGeneral (λ s. IfOk result (λ text. answer_of s text.items ≡ Ok answer.now)) file.now }
+    ensures auction_reads_back { WhereAuction (λ a. IfOk result (λ text. auction_answer_of a text.items ≡ Ok answer.now)) file.now }
     ensures law { (a : Answer) → WhereGeneral (λ s. IsAnswerTo s a → HasPlaces a → answer_of s (text_of_answer s a) ≡ Ok a) file.now }
+    ensures auction_law { (told : Answer) → WhereAuction (λ a. IsAuctionAnswer a told → HasPlaces told → auction_answer_of a (text_of_auction_answer a told) ≡ Ok told) file.now }
 {
     match file {
         SettingFile::General(setting) => text_about(alloc, setting, answer),
-        SettingFile::Auction(_) => unreachable!(),
+        SettingFile::Auction(auction) => auction_writing::text_about(alloc, auction, answer),
     }
 }

@@ -24,7 +24,7 @@ use Rattle.md_rows.proofs.OneProgram.{same_program}
 use Rattle.md_claims.specs.Laws.{IsProgramWithLaws}
 use Rattle.md_claims.proofs.SettingClaims.{optimal_mechanism, infeasible, grows_mechanism}
 use Rattle.md_answer.specs.declared.answer.Answer.{Answer}
-use Rattle.md_answer.specs.declared.answer.Answer.TheVariants.{Table, Optimal, Infeasible, Unbounded, TooWide}
+use Rattle.md_answer.specs.declared.answer.Answer.TheVariants.{Table, Optimal, Infeasible, Unbounded, AuctionOptimal, TooWide}
 use Rattle.md_check.specs.declared.verdict.Reject.{Reject}
 use Rattle.md_check.specs.declared.verdict.Reject.TheVariants.{Audit, Value, Pair, Column, FaceRight, MainRight, RayRow, RayGain}
 use Rattle.md_check.specs.declared.verdict.Verdict.{Verdict}
@@ -157,6 +157,7 @@ sound-valid s p (Table m) v is verdict h = absurd h
 sound-valid s p (Optimal value m bound) v is verdict h = optimal-sound s p value m bound v is verdict h
 sound-valid s p (Infeasible face) v is verdict h = infeasible-sound s p face v is verdict h
 sound-valid s p (Unbounded m ray) v is verdict h = unbounded-sound s p m ray v is verdict h
+sound-valid s p (AuctionOptimal value interim masses cuts bound) v is verdict h = absurd h
 sound-valid s p (TooWide cuts first second) v is verdict h = absurd h
 
 -- ---- undecided
@@ -181,6 +182,7 @@ undecided s (Table m) v is = (λ e. tt, λ n. is)
 undecided s (Optimal value m bound) v is = (λ e. absurd (optimal-decided s value m bound v is e), λ n. absurd n)
 undecided s (Infeasible face) v is = (λ e. absurd (decided s (certificate.Infeasible face) v is e), λ n. absurd n)
 undecided s (Unbounded m ray) v is = (λ e. absurd (unbounded-decided s m ray v is e), λ n. absurd n)
+undecided s (AuctionOptimal value interim masses cuts bound) v is = absurd is
 undecided s (TooWide cuts first second) v is = (λ e. tt, λ n. is)
 
 -- ---- the answer of a call

@@ -24,7 +24,7 @@ use Rattle.md_cert.specs.declared.bound.Bound.{Bound}
 use Rattle.md_cert.specs.declared.certificate.Certificate.TheVariants as certificate
 use Rattle.md_cert.specs.Certified.{Certified}
 use Rattle.md_answer.specs.declared.answer.Answer.{Answer}
-use Rattle.md_answer.specs.declared.answer.Answer.TheVariants.{Table, Optimal, Infeasible, Unbounded, TooWide}
+use Rattle.md_answer.specs.declared.answer.Answer.TheVariants.{Table, Optimal, Infeasible, Unbounded, AuctionOptimal, TooWide}
 use Rattle.md_check.specs.declared.verdict.Reject.TheVariants.{Audit, Value}
 use Rattle.md_check.specs.declared.verdict.Verdict.{Verdict}
 use Rattle.md_check.specs.declared.verdict.Verdict.TheVariants.{Undecided, Rejected}
@@ -48,12 +48,14 @@ abbrev pub IsUnboundedVerdict : GeneralSetting → Mechanism → List ℤ → Ve
 IsUnboundedVerdict s m ray (Rejected (Audit broken)) = IsFirstBroken s m (conditions_of s) 0 broken
 IsUnboundedVerdict s m ray verdict = IsAdmissible s m × IsJudged s (unbounded_certificate s m ray) verdict
 
--- a table, and an answer that is too wide, claim nothing that could be checked
+-- a table, and an answer that is too wide, claim nothing that could be checked; an answer about an auction is none about a
+-- general setting
 abbrev pub IsVerdict : GeneralSetting → Answer → Verdict → Type 0
 IsVerdict s (Table m) verdict = verdict ≡ Undecided
 IsVerdict s (Optimal value m bound) verdict = IsOptimalVerdict s value m bound verdict
 IsVerdict s (Infeasible face) verdict = IsJudged s (certificate.Infeasible face) verdict
 IsVerdict s (Unbounded m ray) verdict = IsUnboundedVerdict s m ray verdict
+IsVerdict s (AuctionOptimal value interim masses cuts bound) verdict = ⊥
 IsVerdict s (TooWide cuts first second) verdict = verdict ≡ Undecided
 
 abbrev pub ClaimsNothing : Answer → Type 0
@@ -77,6 +79,7 @@ IsSound s p (Table m) = ⊥
 IsSound s p (Optimal value m bound) = IsSoundOptimal s p value m bound
 IsSound s p (Infeasible face) = Certified p (certificate.Infeasible face)
 IsSound s p (Unbounded m ray) = IsSoundUnbounded s p m ray
+IsSound s p (AuctionOptimal value interim masses cuts bound) = ⊥
 IsSound s p (TooWide cuts first second) = ⊥
 
 -- ---- what is claimed
@@ -87,4 +90,5 @@ ClaimHolds s (Table m) = ⊥
 ClaimHolds s (Optimal value m bound) = IsOptimal s m × HasValue s m value
 ClaimHolds s (Infeasible face) = IsInfeasible s
 ClaimHolds s (Unbounded m ray) = Grows s m ray
+ClaimHolds s (AuctionOptimal value interim masses cuts bound) = ⊥
 ClaimHolds s (TooWide cuts first second) = ⊥

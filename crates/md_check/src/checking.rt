@@ -55,6 +55,7 @@ pub fn check(alloc: Global, file: &SettingFile, answer: &Answer) -> Result<Verdi
         } => check_optimal(alloc, setting, value, mechanism, bound),
         Answer::Infeasible { face } => check_infeasible(alloc, setting, face),
         Answer::Unbounded { mechanism, ray } => check_unbounded(alloc, setting, mechanism, ray),
+        Answer::AuctionOptimal { .. } => unreachable!(),
     }
 }
 

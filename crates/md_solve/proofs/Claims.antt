@@ -30,7 +30,7 @@ use Rattle.md_simplex.specs.declared.step.Step.{Step}
 use Rattle.md_simplex.specs.declared.step.Step.TheVariants as steps
 use Rattle.md_simplex.specs.Reading.{IsReading}
 use Rattle.md_answer.specs.declared.answer.Answer.{Answer}
-use Rattle.md_answer.specs.declared.answer.Answer.TheVariants.{Table, Optimal, Infeasible, Unbounded, TooWide}
+use Rattle.md_answer.specs.declared.answer.Answer.TheVariants.{Table, Optimal, Infeasible, Unbounded, AuctionOptimal, TooWide}
 use Rattle.md_solve.specs.Answered.{WhereOptimal, WhereInfeasible, WhereUnbounded, ClaimsOptimal, ClaimsInfeasible, ClaimsUnbounded, ClaimsEnd, IsMechanismAlone, IsTooWide}
 use Rattle.md_solve.specs.Bounds.{HasNoBound}
 use Rattle.md_solve.specs.Certifies.{IsCertifiedAnswer}
@@ -66,14 +66,17 @@ so s p (certificates.Unbounded den point ray) (Unbounded m pays) is c h =
 so s p (certificates.Optimal den point bound) (Table m) is c h = absurd h
 so s p (certificates.Optimal den point bound) (Infeasible face) is c h = absurd h
 so s p (certificates.Optimal den point bound) (Unbounded m ray) is c h = absurd h
+so s p (certificates.Optimal den point bound) (AuctionOptimal value interim masses cuts told) is c h = absurd h
 so s p (certificates.Optimal den point bound) (TooWide cuts first second) is c h = absurd h
 so s p (certificates.Infeasible face) (Table m) is c h = absurd h
 so s p (certificates.Infeasible face) (Optimal value m told) is c h = absurd h
 so s p (certificates.Infeasible face) (Unbounded m ray) is c h = absurd h
+so s p (certificates.Infeasible face) (AuctionOptimal value interim masses cuts bound) is c h = absurd h
 so s p (certificates.Infeasible face) (TooWide cuts first second) is c h = absurd h
 so s p (certificates.Unbounded den point ray) (Table m) is c h = absurd h
 so s p (certificates.Unbounded den point ray) (Optimal value m told) is c h = absurd h
 so s p (certificates.Unbounded den point ray) (Infeasible face) is c h = absurd h
+so s p (certificates.Unbounded den point ray) (AuctionOptimal value interim masses cuts bound) is c h = absurd h
 so s p (certificates.Unbounded den point ray) (TooWide cuts first second) is c h = absurd h
 
 pub so-optimal : (s : GeneralSetting) (answer : Answer) → IsSo s answer → WhereOptimal (λ value m bound. IsOptimal s m) answer
@@ -81,6 +84,7 @@ so-optimal s (Table m) h = tt
 so-optimal s (Optimal value m bound) h = h.0
 so-optimal s (Infeasible face) h = tt
 so-optimal s (Unbounded m ray) h = tt
+so-optimal s (AuctionOptimal value interim masses cuts bound) h = tt
 so-optimal s (TooWide cuts first second) h = tt
 
 pub so-value : (s : GeneralSetting) (answer : Answer) → IsSo s answer → WhereOptimal (λ value m bound. IsValueOf s m value) answer
@@ -88,6 +92,7 @@ so-value s (Table m) h = tt
 so-value s (Optimal value m bound) h = h.1
 so-value s (Infeasible face) h = tt
 so-value s (Unbounded m ray) h = tt
+so-value s (AuctionOptimal value interim masses cuts bound) h = tt
 so-value s (TooWide cuts first second) h = tt
 
 pub so-infeasible : (s : GeneralSetting) (answer : Answer) → IsSo s answer → WhereInfeasible (λ face. IsInfeasible s) answer
@@ -95,6 +100,7 @@ so-infeasible s (Table m) h = tt
 so-infeasible s (Optimal value m bound) h = tt
 so-infeasible s (Infeasible face) h = h
 so-infeasible s (Unbounded m ray) h = tt
+so-infeasible s (AuctionOptimal value interim masses cuts bound) h = tt
 so-infeasible s (TooWide cuts first second) h = tt
 
 pub so-unbounded : (s : GeneralSetting) (answer : Answer) → IsSo s answer → WhereUnbounded (λ m ray. Grows s m ray) answer
@@ -102,6 +108,7 @@ so-unbounded s (Table m) h = tt
 so-unbounded s (Optimal value m bound) h = tt
 so-unbounded s (Infeasible face) h = tt
 so-unbounded s (Unbounded m ray) h = h
+so-unbounded s (AuctionOptimal value interim masses cuts bound) h = tt
 so-unbounded s (TooWide cuts first second) h = tt
 
 -- no payment is changed where a ray is not added once
@@ -119,6 +126,7 @@ so-admissible s (Table m) h = tt
 so-admissible s (Optimal value m bound) h = tt
 so-admissible s (Infeasible face) h = tt
 so-admissible s (Unbounded m ray) h = subst (IsAdmissible s) (none-raised m ray) (h 0).0
+so-admissible s (AuctionOptimal value interim masses cuts bound) h = tt
 so-admissible s (TooWide cuts first second) h = tt
 
 pub so-claims : (s : GeneralSetting) (answer : Answer) → IsSo s answer → ¬ IsMechanismAlone answer
@@ -126,6 +134,7 @@ so-claims s (Table m) h alone = h
 so-claims s (Optimal value m bound) h alone = alone
 so-claims s (Infeasible face) h alone = alone
 so-claims s (Unbounded m ray) h alone = alone
+so-claims s (AuctionOptimal value interim masses cuts bound) h alone = h
 so-claims s (TooWide cuts first second) h alone = alone
 
 -- ---- claims are made wherever they are so
@@ -135,6 +144,7 @@ exactly_infeasible s (Table m) h not = absurd h
 exactly_infeasible s (Optimal value m bound) h not = (λ none. absurd none, λ none. none m h.0.admissible)
 exactly_infeasible s (Infeasible face) h not = (λ _. h, λ _. tt)
 exactly_infeasible s (Unbounded m ray) h not = (λ none. absurd none, λ none. none (raised m 0 ray) (h 0).0)
+exactly_infeasible s (AuctionOptimal value interim masses cuts bound) h not = absurd h
 exactly_infeasible s (TooWide cuts first second) h not = absurd (not tt)
 
 above-some : (z w v : ℤ) → (w +ℤ pos (unsigned_abs (z -ℤ w) + 1)) ≤ℤ v → z <ℤ v
@@ -180,6 +190,7 @@ exactly_unbounded s (Table m) total h not = absurd h
 exactly_unbounded s (Optimal value m bound) total h not = (λ none. absurd none, λ none. absurd (bounded s m total h.0 none))
 exactly_unbounded s (Infeasible face) total h not = (λ none. absurd none, λ none. absurd (h (none.above (pos 0)).mechanism (none.above (pos 0)).admissible))
 exactly_unbounded s (Unbounded m ray) total h not = (λ _. no-bound s m ray h, λ _. tt)
+exactly_unbounded s (AuctionOptimal value interim masses cuts bound) total h not = absurd h
 exactly_unbounded s (TooWide cuts first second) total h not = absurd (not tt)
 
 -- ---- the claim is that of the end of the path
@@ -189,6 +200,7 @@ tells-optimal s den point bound (Table m) h = absurd h
 tells-optimal s den point bound (Optimal value m told) h = tt
 tells-optimal s den point bound (Infeasible face) h = absurd h
 tells-optimal s den point bound (Unbounded m ray) h = absurd h
+tells-optimal s den point bound (AuctionOptimal value interim masses cuts told) h = absurd h
 tells-optimal s den point bound (TooWide cuts first second) h = absurd h
 
 tells-infeasible : (s : GeneralSetting) (face : List ℤ) (answer : Answer) → TellsCertificate s (certificates.Infeasible face) answer → ClaimsInfeasible answer
@@ -196,6 +208,7 @@ tells-infeasible s face (Table m) h = absurd h
 tells-infeasible s face (Optimal value m told) h = absurd h
 tells-infeasible s face (Infeasible told) h = tt
 tells-infeasible s face (Unbounded m ray) h = absurd h
+tells-infeasible s face (AuctionOptimal value interim masses cuts bound) h = absurd h
 tells-infeasible s face (TooWide cuts first second) h = absurd h
 
 tells-unbounded : (s : GeneralSetting) (den : ℤ) (point ray : List ℤ) (answer : Answer) → TellsCertificate s (certificates.Unbounded den point ray) answer → ClaimsUnbounded answer
@@ -203,6 +216,7 @@ tells-unbounded s den point ray (Table m) h = absurd h
 tells-unbounded s den point ray (Optimal value m told) h = absurd h
 tells-unbounded s den point ray (Infeasible face) h = absurd h
 tells-unbounded s den point ray (Unbounded m pays) h = tt
+tells-unbounded s den point ray (AuctionOptimal value interim masses cuts bound) h = absurd h
 tells-unbounded s den point ray (TooWide cuts first second) h = absurd h
 
 pub claims-end : (s : GeneralSetting) (p : Program) (basis : ℕ → ℕ) (den : ℤ) (e : ℕ → ℕ → ℤ) (step : Step) (c : Certificate) (answer : Answer) → IsReading p basis den e step c → TellsCertificate s c answer → ClaimsEnd step answer
@@ -232,14 +246,17 @@ certified s p (certificates.Unbounded den point ray) (Unbounded m pays) is c h =
 certified s p (certificates.Optimal den point bound) (Table m) is c h = tt
 certified s p (certificates.Optimal den point bound) (Infeasible face) is c h = absurd h
 certified s p (certificates.Optimal den point bound) (Unbounded m ray) is c h = absurd h
+certified s p (certificates.Optimal den point bound) (AuctionOptimal value interim masses cuts told) is c h = absurd h
 certified s p (certificates.Optimal den point bound) (TooWide cuts first second) is c h = tt
 certified s p (certificates.Infeasible face) (Table m) is c h = tt
 certified s p (certificates.Infeasible face) (Optimal value m told) is c h = absurd h
 certified s p (certificates.Infeasible face) (Unbounded m ray) is c h = absurd h
+certified s p (certificates.Infeasible face) (AuctionOptimal value interim masses cuts bound) is c h = absurd h
 certified s p (certificates.Infeasible face) (TooWide cuts first second) is c h = tt
 certified s p (certificates.Unbounded den point ray) (Table m) is c h = tt
 certified s p (certificates.Unbounded den point ray) (Optimal value m told) is c h = absurd h
 certified s p (certificates.Unbounded den point ray) (Infeasible face) is c h = absurd h
+certified s p (certificates.Unbounded den point ray) (AuctionOptimal value interim masses cuts bound) is c h = absurd h
 certified s p (certificates.Unbounded den point ray) (TooWide cuts first second) is c h = tt
 
 pub certified-every : (s : GeneralSetting) (p q : Program) (answer : Answer) → IsProgramOf s p → IsProgramOf s q → IsCertifiedAnswer s p answer → IsCertifiedAnswer s q answer
@@ -247,4 +264,5 @@ certified-every s p q (Table m) a b h = tt
 certified-every s p q (Optimal value m bound) a b h = certified-same p q (same_program s p q a b) (certificates.Optimal m.den (point_of s m) bound) h
 certified-every s p q (Infeasible face) a b h = certified-same p q (same_program s p q a b) (certificates.Infeasible face) h
 certified-every s p q (Unbounded m pays) a b h = certified-same p q (same_program s p q a b) (certificates.Unbounded m.den (point_of s m) (ray_of s pays)) h
+certified-every s p q (AuctionOptimal value interim masses cuts bound) a b h = h
 certified-every s p q (TooWide cuts first second) a b h = tt

@@ -24,7 +24,7 @@ use Rattle.md_simplex.specs.Runs.{IsFirstWideOf, IsRun}
 use Rattle.md_simplex.proofs.OneRun.{one_run}
 use Rattle.md_simplex.proofs.RunLaws.{one_first_wide, taken_not_left}
 use Rattle.md_answer.specs.declared.answer.Answer.{Answer}
-use Rattle.md_answer.specs.declared.answer.Answer.TheVariants.{Table, Optimal, Infeasible, Unbounded, TooWide}
+use Rattle.md_answer.specs.declared.answer.Answer.TheVariants.{Table, Optimal, Infeasible, Unbounded, AuctionOptimal, TooWide}
 use Rattle.md_solve.specs.Shown.{IsSo}
 use Rattle.md_mech.specs.Value.{IsValueOf}
 use Rattle.md_solve.specs.Solved.{IsSecondWide, IsSolvedBy, TellsCertificate, TellsRun}
@@ -59,6 +59,7 @@ told-optimal s den point bound (Optimal value m told) h = record {
 }
 told-optimal s den point bound (Infeasible face) h = absurd h
 told-optimal s den point bound (Unbounded m ray) h = absurd h
+told-optimal s den point bound (AuctionOptimal value interim masses cuts told) h = absurd h
 told-optimal s den point bound (TooWide cuts first second) h = absurd h
 
 told-infeasible : (s : GeneralSetting) (face : List ℤ) (answer : Answer) → TellsCertificate s (certificates.Infeasible face) answer → answer ≡ Infeasible face
@@ -66,6 +67,7 @@ told-infeasible s face (Table m) h = absurd h
 told-infeasible s face (Optimal value m told) h = absurd h
 told-infeasible s face (Infeasible told) h = ap Infeasible h
 told-infeasible s face (Unbounded m ray) h = absurd h
+told-infeasible s face (AuctionOptimal value interim masses cuts bound) h = absurd h
 told-infeasible s face (TooWide cuts first second) h = absurd h
 
 told-unbounded : (s : GeneralSetting) (den : ℤ) (point ray : List ℤ) (answer : Answer) → TellsCertificate s (certificates.Unbounded den point ray) answer
@@ -74,6 +76,7 @@ told-unbounded s den point ray (Table m) h = absurd h
 told-unbounded s den point ray (Optimal value m told) h = absurd h
 told-unbounded s den point ray (Infeasible face) h = absurd h
 told-unbounded s den point ray (Unbounded m pays) h = ap (λ k. Unbounded k pays) h.0 ∙ ap (λ r. Unbounded (mechanism_of s den (number_at point)) r) h.1
+told-unbounded s den point ray (AuctionOptimal value interim masses cuts bound) h = absurd h
 told-unbounded s den point ray (TooWide cuts first second) h = absurd h
 
 tells-one : (s : GeneralSetting) (c : Certificate) (a b : Answer) → pos 0 <ℤ total_of s → IsSo s a → TellsCertificate s c a → TellsCertificate s c b → a ≡ b
@@ -105,6 +108,7 @@ kinds s p width (Table m) h = inr h
 kinds s p width (Optimal value m bound) h = inr h
 kinds s p width (Infeasible face) h = inr h
 kinds s p width (Unbounded m ray) h = inr h
+kinds s p width (AuctionOptimal value interim masses cuts bound) h = inr h
 kinds s p width (TooWide cuts first second) h = inl (wide-answer p width cuts first second h.0 h.1 h.2)
 
 not-both : (s : GeneralSetting) (p : Program) (width : ℕ) (a b : Answer) → IsWideAnswer p width a → TellsRun s p width b → ⊥
@@ -137,4 +141,5 @@ run-solves s p width end (Table m) run h = record { end = end; run = run; tells 
 run-solves s p width end (Optimal value m bound) run h = record { end = end; run = run; tells = h }
 run-solves s p width end (Infeasible face) run h = record { end = end; run = run; tells = h }
 run-solves s p width end (Unbounded m ray) run h = record { end = end; run = run; tells = h }
+run-solves s p width end (AuctionOptimal value interim masses cuts bound) run h = record { end = end; run = run; tells = h }
 run-solves s p width end (TooWide cuts first second) run h = absurd (tells-no-width s end.certificate cuts first second h)

@@ -10,7 +10,7 @@ use Rattle.md_simplex.specs.declared.order.Order.TheVariants.{Forward, Backward}
 use Rattle.md_simplex.proofs.SamePaths.{first_wide-same}
 use Rattle.md_simplex.proofs.SameRuns.{run-same}
 use Rattle.md_answer.specs.declared.answer.Answer.{Answer}
-use Rattle.md_answer.specs.declared.answer.Answer.TheVariants.{Table, Optimal, Infeasible, Unbounded, TooWide}
+use Rattle.md_answer.specs.declared.answer.Answer.TheVariants.{Table, Optimal, Infeasible, Unbounded, AuctionOptimal, TooWide}
 use Rattle.md_solve.specs.Solved.{IsSecondWide, IsSolvedBy, TellsRun}
 
 module _ (p q : Program) (h : IsSameProgram p q) where
@@ -26,6 +26,7 @@ module _ (p q : Program) (h : IsSameProgram p q) where
   answer-same s width (Optimal value m bound) given = told-same s width (Optimal value m bound) given
   answer-same s width (Infeasible face) given = told-same s width (Infeasible face) given
   answer-same s width (Unbounded m ray) given = told-same s width (Unbounded m ray) given
+  answer-same s width (AuctionOptimal value interim masses cuts bound) given = told-same s width (AuctionOptimal value interim masses cuts bound) given
   answer-same s width (TooWide cuts first second) given = (given.0, first_wide-same p q h Forward width first.path first.entry given.1, second-same width second given.2)
 
 -- the answer that the paths of one program of the setting give is that of each

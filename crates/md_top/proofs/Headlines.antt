@@ -17,7 +17,7 @@ use Rattle.md_simplex.specs.declared.step.Step.TheVariants as steps
 use Rattle.md_simplex.specs.Runs.{IsTaken, MeetsWideBasis}
 use Rattle.md_answer.specs.Answers.{answer_of}
 use Rattle.md_answer.specs.declared.answer.Answer.{Answer}
-use Rattle.md_answer.specs.declared.answer.Answer.TheVariants.{Table, Optimal, Infeasible, Unbounded, TooWide}
+use Rattle.md_answer.specs.declared.answer.Answer.TheVariants.{Table, Optimal, Infeasible, Unbounded, AuctionOptimal, TooWide}
 use Rattle.md_check.specs.Verdicts.{IsVerdict}
 use Rattle.md_check.specs.declared.verdict.Verdict.TheVariants.{Valid}
 use Rattle.md_solve.specs.Certifies.{IsCertifiedAnswer}
@@ -53,6 +53,7 @@ valid s width (Optimal value m bound) h narrow = (
 )
 valid s width (Infeasible face) h narrow = record { program = h.solved.program; is_program = h.solved.is_program; judged = h.certified }
 valid s width (Unbounded m ray) h narrow = (h.admissible, record { program = h.solved.program; is_program = h.solved.is_program; judged = h.certified })
+valid s width (AuctionOptimal value interim masses cuts bound) h narrow = absurd (h.certified h.solved.program h.solved.is_program)
 valid s width (TooWide cuts first second) h narrow = absurd (narrow tt)
 
 -- the status tells the end of the path
@@ -161,6 +162,7 @@ module _ (s : GeneralSetting) (width status : ℕ) (text : List ℕ) where
   headline (Optimal value m bound) h is reads = of_optimal value m bound h is reads
   headline (Infeasible face) h is reads = of_infeasible face h is reads
   headline (Unbounded m ray) h is reads = of_unbounded m ray h is reads
+  headline (AuctionOptimal value interim masses cuts bound) h is reads = absurd (h.certified h.solved.program h.solved.is_program)
   headline (TooWide cuts first None) h is reads = absurd h.solved.solved.2
   headline (TooWide cuts first (Some second)) h is reads =
       let none : cuts ≡ [] = h.solved.solved.0 in

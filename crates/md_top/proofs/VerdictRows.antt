@@ -7,7 +7,7 @@ use Rattle.md_mech.specs.declared.broken.Broken.{Broken}
 use Rattle.md_mech.specs.declared.mechanism.Mechanism.{Mechanism}
 use Rattle.md_mech.specs.Rows.{IsFirstBroken, conditions_of}
 use Rattle.md_answer.specs.declared.answer.Answer.{Answer}
-use Rattle.md_answer.specs.declared.answer.Answer.TheVariants.{Table, Optimal, Infeasible, Unbounded, TooWide}
+use Rattle.md_answer.specs.declared.answer.Answer.TheVariants.{Table, Optimal, Infeasible, Unbounded, AuctionOptimal, TooWide}
 use Rattle.md_check.specs.declared.verdict.Reject.TheVariants.{Audit}
 use Rattle.md_check.specs.declared.verdict.Verdict.TheVariants.{Rejected}
 use Rattle.md_check.specs.Verdicts.{IsVerdict}
@@ -23,6 +23,7 @@ told-in s (Table m) broken h = absurd (let e = h in cc)
 told-in s (Optimal value m bound) broken h = first-in s m broken h
 told-in s (Infeasible face) broken h = absurd (h.judged h.program h.is_program)
 told-in s (Unbounded m ray) broken h = first-in s m broken h
+told-in s (AuctionOptimal value interim masses cuts bound) broken h = absurd h
 told-in s (TooWide cuts first second) broken h = absurd (let e = h in cc)
 
 -- the element at a place

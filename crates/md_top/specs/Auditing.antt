@@ -11,7 +11,7 @@ use Rattle.md_mech.specs.Admissible.{IsAdmissible}
 use Rattle.md_mech.specs.Rows.{IsFirstBroken, conditions_of}
 use Rattle.md_mech.specs.RowName.{name_of}
 use Rattle.md_answer.specs.declared.answer.Answer.{Answer}
-use Rattle.md_answer.specs.declared.answer.Answer.TheVariants.{Table, Optimal, Infeasible, Unbounded, TooWide}
+use Rattle.md_answer.specs.declared.answer.Answer.TheVariants.{Table, Optimal, Infeasible, Unbounded, AuctionOptimal, TooWide}
 use Rattle.md_parts.specs.declared.refusal.AnswerRefusal.{AnswerRefusal}
 use Rattle.md_answer.specs.Answers.{answer_of}
 use Rattle.md_top.specs.declared.refusal.Refusal.{Refusal}
@@ -24,6 +24,7 @@ mechanism_of (Table mechanism) = Ok mechanism
 mechanism_of (Optimal value mechanism bound) = Ok mechanism
 mechanism_of (Infeasible face) = Err refusal.NoTable
 mechanism_of (Unbounded mechanism ray) = Ok mechanism
+mechanism_of (AuctionOptimal value interim masses cuts bound) = Err refusal.NoTable
 mechanism_of (TooWide cuts first second) = Err refusal.NoTable
 
 abbrev pub mechanism_or_refusal : Result Answer AnswerRefusal → Result Mechanism Refusal

@@ -5,17 +5,19 @@ use Rattle.md_setting.specs.ByKind.{WhereGeneral}
 use Rattle.md_setting.specs.declared.file.SettingFile.{SettingFile}
 use Rattle.md_answer.specs.Rows.{text_of_answer}
 use Rattle.md_answer.specs.declared.answer.Answer.{Answer}
-use Rattle.md_answer.specs.declared.answer.Answer.TheVariants.{Table, Optimal, Infeasible, Unbounded, TooWide}
+use Rattle.md_answer.specs.declared.answer.Answer.TheVariants.{Table, Optimal, Infeasible, Unbounded, AuctionOptimal, TooWide}
 use Rattle.md_solve.specs.Solved.{IsSolved}
 use Rattle.md_top.specs.Headline.{IsHeadline}
 use Rattle.md_top.specs.Saying.{Saying}
 
--- the status of each kind of answer; a table is none that is given
+-- the status of each kind of answer; a table is none that is given, and an answer about an auction none to a general
+-- setting
 abbrev pub status_of_answer : Answer → ℕ
 status_of_answer (Table mechanism) = 0
 status_of_answer (Optimal value mechanism bound) = 0
 status_of_answer (Infeasible face) = 10
 status_of_answer (Unbounded mechanism ray) = 11
+status_of_answer (AuctionOptimal value interim masses cuts bound) = 0
 status_of_answer (TooWide cuts first second) = 12
 
 -- the one answer of a setting within a width, its status and its text, and what these show

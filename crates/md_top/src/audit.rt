@@ -73,6 +73,13 @@ fn mechanism_in(answer: Answer) -> Result<Mechanism, Refusal>
         } => Ok(mechanism),
         Answer::Unbounded { mechanism, ray: _ } => Ok(mechanism),
         Answer::Infeasible { face: _ } => Err(Refusal::NoTable),
+        Answer::AuctionOptimal {
+            value: _,
+            interim: _,
+            masses: _,
+            cuts: _,
+            bound: _,
+        } => Err(Refusal::NoTable),
         Answer::TooWide {
             cuts: _,
             first: _,

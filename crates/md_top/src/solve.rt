@@ -61,6 +61,7 @@ fn status(answer: &Answer) -> u8
         Answer::Optimal { .. } => 0,
         Answer::Infeasible { .. } => 10,
         Answer::Unbounded { .. } => 11,
+        Answer::AuctionOptimal { .. } => 0,
         Answer::TooWide { .. } => 12,
     }
 }

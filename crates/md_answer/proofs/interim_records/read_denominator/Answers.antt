@@ -4,7 +4,7 @@ use Rattle.std.specs.Prelude.{unsigned_abs}
 use mir.Syntax.{w128}
 use Rattle.md_math.proofs.Bits.{read_within}
 use Rattle.md_answer.proofs.OddsSteps.{den-read, den-fails, den-size}
-use Rattle.md_answer.proofs.odds_file.read_denominator.Goals as goal
+use Rattle.md_answer.proofs.interim_records.read_denominator.Goals as goal
 
 pub returns-in_err-den-clause-read : goal.returns-in_err-den-clause-read
 returns-in_err-den-clause-read c =

@@ -1,6 +1,6 @@
 use Rattle.std.proofs.lemmas.Result.{err_from_is_err_and}
 use Rattle.md_answer.proofs.OddsSteps.{odds-read, odds-fail}
-use Rattle.md_answer.proofs.odds_file.read_list.Goals as goal
+use Rattle.md_answer.proofs.interim_records.read_list.Goals as goal
 
 pub returns-in_err-numbers : goal.returns-in_err-numbers
 returns-in_err-numbers c =
