@@ -1,0 +1,114 @@
+-- The least of what agents get.
+use Rattle.std.proofs.Common.{◌≡◌, ◌⊎◌, ◌^◌, ℕ, zero, suc, ◌+◌, ◌<◌, ℤ, pos, ◌*ℤ◌, ◌≤ℤ◌, ◌<ℤ◌, refl, sym, ap, ◌∙◌, subst, arith, inl, inr}
+use lib.IntN.{*ℤ_comm}
+use Rattle.std.proofs.lemmas.Bool.{cases_lt}
+use Rattle.md_math.specs.Sizes.{IsWithin}
+use Rattle.md_math.proofs.Fractions.{same_from_IsLeastTerms}
+use Rattle.md_math.proofs.Order.{lt_or_le, le_from_lt, le_from_same, ≤ℤ_trans, ≤ℤ_antisymm, *ℤ_cancel}
+use Rattle.md_math.proofs.Ring.{*ℤ_assoc}
+use Rattle.md_num.specs.declared.frac.Frac.{Frac}
+use Rattle.md_setting.specs.Setting.{GeneralSetting}
+use Rattle.md_setting.specs.Meaning.{agent_count, total_of}
+use Rattle.md_mech.specs.declared.mechanism.Mechanism.{Mechanism}
+use Rattle.md_fair.specs.Least.{IsLeast, HasLeast, IsLeastValueOf}
+use Rattle.md_fair.specs.Mean.{mean_of}
+
+-- the least of what the first agents get
+pub record IsLeastBelow (s : GeneralSetting) (m : Mechanism) (count : ℕ) (least : ℤ) : Type 0 where
+  pub at_most : (i : ℕ) → i < count → least ≤ℤ mean_of s m i
+  pub agent : ℕ
+  pub inside : agent < count
+  pub reached : least ≡ mean_of s m agent
+
+pub least-first : (s : GeneralSetting) (m : Mechanism) (z : ℤ) → z ≡ mean_of s m 0 → IsLeastBelow s m 1 z
+least-first s m z e = record {
+  at_most = λ i l. (let first : i ≡ 0 = omega (arith, l) in le_from_same z (mean_of s m i) (e ∙ ap (mean_of s m) (sym first)));
+  agent = 0;
+  inside = omega arith;
+  reached = e;
+}
+
+-- one agent more, who gets less or not
+pub least-lower : (s : GeneralSetting) (m : Mechanism) (count : ℕ) (old new : ℤ) → IsLeastBelow s m count old → new ≡ mean_of s m count → new ≤ℤ old → IsLeastBelow s m (count + 1) new
+least-lower s m count old new h e below = record {
+  at_most = λ i l. elim (cases_lt i count) [
+    | inl before ↦ ≤ℤ_trans new old (mean_of s m i) below (h.at_most i before)
+    | inr last ↦ (let here : i ≡ count = omega (arith, l, last) in le_from_same new (mean_of s m i) (e ∙ ap (mean_of s m) (sym here)))
+  ];
+  agent = count;
+  inside = omega arith;
+  reached = e;
+}
+
+pub least-stays : (s : GeneralSetting) (m : Mechanism) (count : ℕ) (old next : ℤ) → IsLeastBelow s m count old → next ≡ mean_of s m count → old ≤ℤ next → IsLeastBelow s m (count + 1) old
+least-stays s m count old next h e above = record {
+  at_most = λ i l. elim (cases_lt i count) [
+    | inl before ↦ h.at_most i before
+    | inr last ↦ (let here : i ≡ count = omega (arith, l, last) in subst (λ z. old ≤ℤ z) (e ∙ ap (mean_of s m) (sym here)) above)
+  ];
+  agent = h.agent;
+  inside = omega (arith, h.inside);
+  reached = h.reached;
+}
+
+-- the lesser of the two
+pub least-step : (s : GeneralSetting) (m : Mechanism) (count : ℕ) (old next new : ℤ) → IsLeastBelow s m count old × IsWithin (2 ^ 120) old → next ≡ mean_of s m count → IsWithin (2 ^ 120) next
+    → ((new ≡ old) × (old ≤ℤ next)) ⊎ ((new ≡ next) × (next ≤ℤ old)) → IsLeastBelow s m (count + 1) new × IsWithin (2 ^ 120) new
+least-step s m count old next new h e size (inl kept) = rw kept.0 (least-stays s m count old next h.0 e kept.1, h.1)
+least-step s m count old next new h e size (inr lower) = rw lower.0 (least-lower s m count old next h.0 e lower.1, size)
+
+pub least-all : (s : GeneralSetting) (m : Mechanism) (count : ℕ) (z : ℤ) → count ≡ agent_count s → IsLeastBelow s m count z → IsLeast s m z
+least-all s m count z e h = record {
+  at_most = λ i l. h.at_most i (omega (arith, l, e));
+  agent = h.agent;
+  inside = omega (arith, e, h.inside);
+  reached = h.reached;
+}
+
+record HasLeastBelow (s : GeneralSetting) (m : Mechanism) (count : ℕ) : Type 0 where
+  least : ℤ
+  is : IsLeastBelow s m count least
+
+least-below : (s : GeneralSetting) (m : Mechanism) (n : ℕ) → HasLeastBelow s m (n + 1)
+least-below s m zero = record { least = mean_of s m 0; is = least-first s m (mean_of s m 0) refl }
+least-below s m (suc n) =
+    let h = least-below s m n in
+    let next : suc n + 1 ≡ (n + 1) + 1 = omega arith in
+    let here : mean_of s m (n + 1) ≡ mean_of s m (n + 1) = refl in
+    subst (HasLeastBelow s m) (sym next)
+    (elim (lt_or_le (mean_of s m (n + 1)) h.least) [
+      | inl lower ↦ record { least = mean_of s m (n + 1); is = least-lower s m (n + 1) h.least (mean_of s m (n + 1)) h.is here (le_from_lt (mean_of s m (n + 1)) h.least lower) }
+      | inr above ↦ record { least = h.least; is = least-stays s m (n + 1) h.least (mean_of s m (n + 1)) h.is here above }
+    ])
+
+-- where there is an agent, there is a least
+pub has-least : (s : GeneralSetting) (m : Mechanism) → 0 < agent_count s → HasLeast s m
+has-least s m some = at (agent_count s) some refl
+  where
+    at : (n : ℕ) → 0 < n → n ≡ agent_count s → HasLeast s m
+    at zero none e = absurd (omega (arith, none))
+    at (suc n) above e =
+        let h = least-below s m n in
+        record { least = h.least; is = least-all s m (n + 1) h.least (omega (arith, e)) h.is }
+
+-- there is one least
+pub one-least : (s : GeneralSetting) (m : Mechanism) (a b : ℤ) → IsLeast s m a → IsLeast s m b → a ≡ b
+one-least s m a b h k =
+    ≤ℤ_antisymm a b (subst (λ z. a ≤ℤ z) (sym k.reached) (h.at_most k.agent k.inside)) (subst (λ z. b ≤ℤ z) (sym h.reached) (k.at_most h.agent h.inside))
+
+-- what is at most what each agent gets is at most the least
+pub below-least : (s : GeneralSetting) (m : Mechanism) (level least : ℤ) → ((i : ℕ) → i < agent_count s → level ≤ℤ mean_of s m i) → IsLeast s m least → level ≤ℤ least
+below-least s m level least h k = subst (λ z. level ≤ℤ z) (sym k.reached) (h k.agent k.inside)
+
+-- it has one value
+pub one-value : (s : GeneralSetting) (m : Mechanism) (v w : Frac) → pos 0 <ℤ (m.den *ℤ total_of s) → IsLeastValueOf s m v → IsLeastValueOf s m w → v ≡ w
+one-value s m v w above a b =
+    let whole = m.den *ℤ total_of s in
+    let left : whole *ℤ (v.num *ℤ w.den) ≡ a.least *ℤ (v.den *ℤ w.den) =
+    sym (*ℤ_assoc whole v.num w.den) ∙ ap (λ z. z *ℤ w.den) (*ℤ_comm whole v.num ∙ a.is_value) ∙ *ℤ_assoc a.least v.den w.den in
+    let right : whole *ℤ (w.num *ℤ v.den) ≡ b.least *ℤ (w.den *ℤ v.den) =
+    sym (*ℤ_assoc whole w.num v.den) ∙ ap (λ z. z *ℤ v.den) (*ℤ_comm whole w.num ∙ b.is_value) ∙ *ℤ_assoc b.least w.den v.den in
+    let turned : a.least *ℤ (v.den *ℤ w.den) ≡ b.least *ℤ (w.den *ℤ v.den) =
+    ap (λ z. z *ℤ (v.den *ℤ w.den)) (one-least s m a.least b.least a.is b.is) ∙ ap (λ z. b.least *ℤ z) (*ℤ_comm v.den w.den) in
+    let same = same_from_IsLeastTerms v.num v.den w.num w.den a.least_terms b.least_terms (*ℤ_cancel whole (v.num *ℤ w.den) (w.num *ℤ v.den) above (left ∙ turned ∙ sym right)) in
+    ap (λ n. record { num = n; den = v.den }) same.0 ∙ ap (λ d. record { num = w.num; den = d }) same.1

@@ -1,0 +1,10 @@
+pub mod OwnProgram
+pub mod SameNumbers
+pub mod PointLaws
+pub mod LeastLaws
+pub mod Claims
+pub mod OneAnswer
+pub mod TermForms
+pub mod CostLaws
+pub mod Sizes
+pub mod Fits

@@ -1,0 +1,13 @@
+pub mod Mean
+pub mod Least
+pub mod Fairest
+pub mod FairProgram
+pub mod FairPoints
+pub mod Law
+pub mod Terms
+pub mod Costs
+pub mod Answered
+pub mod Certifies
+pub mod Shown
+pub mod Solved
+pub mod AnswerTo
