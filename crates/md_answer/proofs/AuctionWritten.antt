@@ -10,17 +10,17 @@ use Rattle.md_num.specs.WholeText.{text_of}
 use Rattle.md_setting.specs.Auction.{SymmetricAuction, value_count}
 use Rattle.md_setting.specs.AuctionShaped.{IsAuction}
 use Rattle.md_mech.specs.Accepted.{number_limit}
+use Rattle.md_lp.specs.Cuts.{AreCuts}
 use Rattle.md_lp.specs.declared.pivot.Pivot.{Pivot}
 use Rattle.md_lp.specs.declared.wide.Wide.{Wide}
 use Rattle.md_border.specs.declared.interim.Interim.{Interim}
 use Rattle.md_border.specs.Odds.{IsInterim}
 use Rattle.md_reduced.proofs.ConditionLaws.{conditions-few}
-use Rattle.md_border.specs.Cuts.{AreCuts as AreReducedCuts}
 use Rattle.md_cert.specs.declared.bound.Bound.{Bound}
 use Rattle.md_records.specs.Written.{IsReadBack}
 use Rattle.md_records.proofs.RecordTexts.{records_of-text}
 use Rattle.md_parts.specs.declared.first_record.Head.{Head}
-use Rattle.md_parts.specs.Cuts.{AreCuts, cuts_of}
+use Rattle.md_parts.specs.Cuts.{cuts_of}
 use Rattle.md_parts.specs.Fields.{Field, number_field, any_number, denominator_field, is_place}
 use Rattle.md_parts.specs.FirstRecord.{word_among, stands_in, first_of}
 use Rattle.md_parts.specs.Repeated.{comes_next}
@@ -104,12 +104,8 @@ interim-written a interim others h =
 
 -- ---- what stands between the first record and the last
 
--- sets are cuts of the reduced program
-pub cuts-reduced : (kinds : ℕ) (sets : List ℕ) → AreCuts kinds sets → AreReducedCuts kinds sets
-cuts-reduced kinds sets h = record { some = h.some; inside = h.inside; distinct = h.distinct }
-
 pub rows-few : (a : SymmetricAuction) (cuts : List ℕ) → IsAuction a → AreCuts (value_count a) cuts → reduced_rows a cuts ≤ 2 ^ 32
-rows-few a cuts h are = let few = conditions-few (value_count a) cuts h.few_values (cuts-reduced (value_count a) cuts are) in omega (arith, few)
+rows-few a cuts h are = let few = conditions-few (value_count a) cuts h.few_values are in omega (arith, few)
 
 abbrev the_end : Rows
 the_end = end_row ∷ []

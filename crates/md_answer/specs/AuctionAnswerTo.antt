@@ -1,9 +1,9 @@
 -- What is known of an answer that was read for an auction, and what an answer must be to be written.
 use Rattle.std.specs.Prelude.{◌≡◌, IfSome}
 use Rattle.md_setting.specs.Auction.{SymmetricAuction, value_count}
+use Rattle.md_lp.specs.Cuts.{AreCuts}
 use Rattle.md_border.specs.Odds.{IsInterim}
 use Rattle.md_expost.specs.Masses.{AreMasses}
-use Rattle.md_parts.specs.Cuts.{AreCuts}
 use Rattle.md_parts.specs.Fitting.{IsFraction, IsBoundOver, HasFraction}
 use Rattle.md_answer.specs.declared.answer.Answer.{Answer}
 use Rattle.md_answer.specs.declared.answer.Answer.TheVariants.{AuctionOptimal, TooWide}

@@ -1,7 +1,7 @@
 //! The rows of an auction's reduced program with the cuts of an answer.
 ghost use Rattle.std.specs.Prelude.{◌≡◌};
 ghost use Rattle.md_setting.specs.Auction.{value_count};
-ghost use Rattle.md_parts.specs.Cuts.{AreCuts};
+ghost use Rattle.md_lp.specs.Cuts.{AreCuts};
 ghost use Rattle.md_answer.specs.ReducedRows.{reduced_rows};
 
 use md_lp::Sets;

@@ -3,7 +3,7 @@ use Rattle.std.proofs.Common.{◌≡◌, ℕ, suc, ◌<◌, ◌≤◌, ◌^◌, 
 use Rattle.std.specs.Prelude.{slice_index}
 use Rattle.std.proofs.Math.Nat.{pow-le-pow_right, pow-suc}
 use Rattle.md_math.proofs.Builders.{length-list_to, get_or-list_to}
-use Rattle.md_border.specs.Cuts.{AreCuts, singles_of}
+use Rattle.md_lp.specs.Cuts.{AreCuts, singles_of}
 
 abbrev power : ℕ → ℕ
 power place = 2 ^ place

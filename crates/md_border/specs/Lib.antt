@@ -1,5 +1,4 @@
 pub mod Sets
-pub mod Cuts
 pub mod Sides
 pub mod Odds
 pub mod Worth

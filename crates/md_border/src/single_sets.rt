@@ -1,6 +1,6 @@
 //! The sets of one kind each.
 ghost use Rattle.std.specs.Prelude.{◌≡◌, ◌≤◌, ◌<◌, ◌^◌, IfOk};
-ghost use Rattle.md_border.specs.Cuts.{AreCuts, singles_of};
+ghost use Rattle.md_lp.specs.Cuts.{AreCuts, singles_of};
 
 use md_lp::Sets;
 use md_num::NoMemory;

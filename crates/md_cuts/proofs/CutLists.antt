@@ -5,7 +5,7 @@ use Rattle.std.proofs.lemmas.Bool.Decides.{eqb_tells}
 use Rattle.std.proofs.lemmas.List.{length_push}
 use Rattle.std.proofs.Math.ListN.{get_or-append}
 use Rattle.std.proofs.Math.Seq.{get_or-append_seam}
-use Rattle.md_border.specs.Cuts.{AreCuts}
+use Rattle.md_lp.specs.Cuts.{AreCuts}
 
 -- ---- one more at the end
 

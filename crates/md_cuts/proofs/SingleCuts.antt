@@ -3,7 +3,7 @@ use Rattle.std.proofs.Common.{◌≡◌, ℕ, ◌<◌, ◌≤◌, ◌^◌, List,
 use Rattle.std.specs.Prelude.{slice_index, slice_get}
 use Rattle.std.proofs.lemmas.List.{get_or-take, length-take}
 use Rattle.std.proofs.lemmas.Option.{slice_get-get_or}
-use Rattle.md_border.specs.Cuts.{HasSingles}
+use Rattle.md_lp.specs.Cuts.{HasSingles}
 use Rattle.md_border.proofs.SingleCuts.{single-at, singles-length}
 use Rattle.md_cuts.specs.Cutting.{Cutting}
 use Rattle.md_cuts.specs.CutRuns.{IsCutRun}

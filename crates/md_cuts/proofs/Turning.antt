@@ -16,7 +16,7 @@ use Rattle.md_cert.specs.declared.certificate.Certificate.TheVariants as certifi
 use Rattle.md_cert.proofs.Duality.{infeasible-claim, unbounded-claim}
 use Rattle.md_simplex.specs.declared.end.End.{End}
 use Rattle.md_simplex.specs.Runs.{IsRun}
-use Rattle.md_border.specs.Cuts.{AreCuts, HasSingles, singles_of}
+use Rattle.md_lp.specs.Cuts.{AreCuts, HasSingles, singles_of}
 use Rattle.md_border.proofs.SingleCuts.{singles-length}
 use Rattle.md_cuts.specs.declared.optimum.Optimum.{Optimum}
 use Rattle.md_cuts.specs.Cutting.{Cutting, IsCutPoint, IsCutting}

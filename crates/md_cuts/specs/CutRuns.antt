@@ -13,7 +13,7 @@ use Rattle.md_simplex.specs.Runs.{IsFirstWideOf, IsRun}
 use Rattle.md_cuts.specs.declared.optimum.Optimum.{Optimum}
 use Rattle.md_cuts.specs.declared.cuts_error.CutsError.{CutsError}
 use Rattle.md_cuts.specs.declared.cuts_error.CutsError.TheVariants as errors
-use Rattle.md_border.specs.Cuts.{singles_of}
+use Rattle.md_lp.specs.Cuts.{singles_of}
 use Rattle.md_cuts.specs.Cutting.{Cutting}
 use Rattle.md_cuts.specs.Worst.{IsWorst, NoneOver}
 

@@ -11,7 +11,7 @@ use Rattle.md_cert.specs.declared.certificate.Certificate.{Certificate}
 use Rattle.md_simplex.specs.declared.end.End.{End}
 use Rattle.md_simplex.specs.declared.order.Order.{Order}
 use Rattle.md_simplex.specs.Runs.{IsFirstWideOf, IsRun}
-use Rattle.md_border.specs.Cuts.{HasSingles}
+use Rattle.md_lp.specs.Cuts.{HasSingles}
 
 -- Sets of so many places; which programs are those of a list of cuts; and by how much a set is over at numbers over a
 -- denominator.

@@ -3,7 +3,7 @@ use Rattle.std.specs.Prelude.{ℕ, ℤ, List, [], ◌∷◌, ◌++◌}
 use Rattle.md_math.specs.Lists.{number_at}
 use Rattle.md_simplex.specs.declared.simplex_error.SimplexError.{SimplexError}
 use Rattle.md_simplex.specs.declared.simplex_error.SimplexError.TheVariants as simplex
-use Rattle.md_border.specs.Cuts.{AreCuts}
+use Rattle.md_lp.specs.Cuts.{AreCuts}
 use Rattle.md_cuts.specs.declared.optimum.Optimum.{Optimum}
 use Rattle.md_cuts.specs.declared.turn.Turn.{Turn}
 use Rattle.md_cuts.specs.declared.turn.Turn.TheVariants.{Adds, Ends, TooWide}

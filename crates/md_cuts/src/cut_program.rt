@@ -1,7 +1,7 @@
 //! What a cut run goes over.
 ghost use Rattle.std.specs.Prelude.{◌≡◌, ℕ, ℤ, IfOk};
 ghost use Rattle.md_math.specs.Lists.{number_at};
-ghost use Rattle.md_border.specs.Cuts.{AreCuts};
+ghost use Rattle.md_lp.specs.Cuts.{AreCuts};
 ghost use Rattle.md_cuts.specs.Cutting.{Cutting, IsCutPoint, IsCutting};
 ghost use Rattle.md_cuts.specs.Worst.{IsWorst, NoneOver, WhereTable, WhereViolated};
 

@@ -2,7 +2,7 @@
 ghost use Rattle.std.specs.Prelude.{◌≡◌, ◌<◌, ◌^◌, List, ℕ, IfErr, IfOk, MatchResult, length};
 ghost use Rattle.md_math.specs.Lists.{number_at};
 ghost use Rattle.md_lp.specs.declared.wide.Wide.{Wide};
-ghost use Rattle.md_border.specs.Cuts.{AreCuts};
+ghost use Rattle.md_lp.specs.Cuts.{AreCuts};
 ghost use Rattle.md_cuts.specs.declared.optimum.Optimum.{Optimum};
 ghost use Rattle.md_cuts.specs.CutRuns.{EndsSettled, EndsWide, IsLeftAt, IsShownBy, TellsWide, WhereWide};
 

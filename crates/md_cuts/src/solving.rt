@@ -4,7 +4,7 @@ ghost use Rattle.md_setting.specs.Auction.{value_count};
 ghost use Rattle.md_setting.specs.General.{general_of};
 ghost use Rattle.md_lp.specs.declared.wide.Wide.{Wide};
 ghost use Rattle.md_mech.specs.Optimal.{IsOptimal};
-ghost use Rattle.md_border.specs.Cuts.{AreCuts};
+ghost use Rattle.md_lp.specs.Cuts.{AreCuts};
 ghost use Rattle.md_border.specs.Odds.{HasOdds, HasPays, IsInterim};
 ghost use Rattle.md_expost.specs.Implementing.{Implements};
 ghost use Rattle.md_expost.specs.Masses.{AreMasses};

@@ -1,6 +1,6 @@
 //! One turn of a cut run.
 ghost use Rattle.std.specs.Prelude.{IfErr, IfOk};
-ghost use Rattle.md_border.specs.Cuts.{AreCuts, HasSingles};
+ghost use Rattle.md_lp.specs.Cuts.{AreCuts, HasSingles};
 ghost use Rattle.md_cuts.specs.Cutting.{IsCutting};
 ghost use Rattle.md_cuts.specs.Turns.{IsFound, IsNotFound, IsTurn};
 

@@ -6,3 +6,4 @@ pub mod Stored
 pub mod Search
 pub mod Runs
 pub mod Affine
+pub mod Cuts

@@ -13,7 +13,8 @@ use Rattle.md_parts.specs.Reading.{Rest, read_record}
 use Rattle.md_parts.specs.Records.{record_with}
 use Rattle.md_parts.specs.FieldsRead.{Reads, FailsIn}
 use Rattle.md_parts.specs.Repeated.{comes_next}
-use Rattle.md_parts.specs.Cuts.{cut_fields, set_of, with_cut, cuts_of, AreCuts}
+use Rattle.md_lp.specs.Cuts.{AreCuts}
+use Rattle.md_parts.specs.Cuts.{cut_fields, set_of, with_cut, cuts_of}
 use Rattle.md_parts.proofs.RecordSteps.{record-read, record-fails, record-missing}
 use Rattle.md_parts.proofs.Repeats.{IsSoFar, so_far-none, so_far-more, so_far-fails, so_far-all}
 

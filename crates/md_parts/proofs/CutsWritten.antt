@@ -10,7 +10,8 @@ use Rattle.std.proofs.lemmas.List.{length-map}
 use Rattle.md_num.specs.WholeText.{text_of}
 use Rattle.md_parts.specs.Fields.{is_place, is_free_place, free_place_field}
 use Rattle.md_parts.specs.Repeated.{comes_next, repeated}
-use Rattle.md_parts.specs.Cuts.{cut_fields, set_of, with_cut, cuts_of, AreCuts}
+use Rattle.md_lp.specs.Cuts.{AreCuts}
+use Rattle.md_parts.specs.Cuts.{cut_fields, set_of, with_cut, cuts_of}
 use Rattle.md_parts.specs.Rows.{number_row, cut_row, cut_rows}
 use Rattle.md_parts.specs.Written.{Holds, IsWrittenBefore}
 use Rattle.md_parts.proofs.WrittenRecords.{holds-none, holds-cons, number_field-holds}

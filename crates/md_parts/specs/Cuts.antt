@@ -1,5 +1,5 @@
 -- The records of cuts: sets of the kinds of values, each a number whose bit j stands for kind j.
-use Rattle.std.specs.Prelude.{◌≢◌, ℕ, ◌<◌, ◌≤◌, ◌^◌, ℤ, List, [], ◌∷◌, ◌++◌, map, length, slice_index, codes, unsigned_abs}
+use Rattle.std.specs.Prelude.{ℕ, ◌^◌, ℤ, List, [], ◌∷◌, ◌++◌, map, codes, unsigned_abs}
 use Rattle.md_math.specs.Lists.{number_at}
 use Rattle.md_parts.specs.Fields.{Field, free_place_field}
 use Rattle.md_parts.specs.Reading.{Reading, ◌>>=◌, nothing_more}
@@ -21,9 +21,3 @@ abbrev pub cuts_of : ℕ → Reading (List ℕ)
 cuts_of kinds = do
   records ← repeated (codes "cut") (cut_fields kinds) with_cut []
   nothing_more (map set_of records)
-
--- sets of so many kinds, none of them empty, and no two the same
-pub record AreCuts (kinds : ℕ) (sets : List ℕ) : Type 0 where
-  pub some : (k : ℕ) → k < length sets → 1 ≤ slice_index sets k
-  pub inside : (k : ℕ) → k < length sets → slice_index sets k < 2 ^ kinds
-  pub distinct : (j k : ℕ) → j < k → k < length sets → slice_index sets j ≢ slice_index sets k

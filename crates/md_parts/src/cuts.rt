@@ -1,9 +1,10 @@
 //! The records of cuts, read and written.
 ghost use Rattle.std.specs.Prelude.{◌≡◌, ◌≢◌, ◌<◌, ◌≤◌, ◌^◌, ◌++◌, ◌∷◌, ℕ, pos, List, [], true, false, Ok, Err, codes, IfOk, OnOk, MatchResult};
+ghost use Rattle.md_lp.specs.Cuts.{AreCuts};
 ghost use Rattle.md_parts.specs.Fields.{is_free_place};
 ghost use Rattle.md_parts.specs.Reading.{read_record};
 ghost use Rattle.md_parts.specs.Repeated.{comes_next};
-ghost use Rattle.md_parts.specs.Cuts.{cut_fields, cuts_of, AreCuts};
+ghost use Rattle.md_parts.specs.Cuts.{cut_fields, cuts_of};
 ghost use Rattle.md_parts.specs.Rows.{cut_rows};
 ghost use Rattle.md_parts.specs.Written.{IsWrittenBefore};
 

@@ -18,7 +18,7 @@ use Rattle.md_lp.specs.Point.{Meets, cost_sum}
 use Rattle.md_lp.specs.Divided.{IsDivisorFor}
 use Rattle.md_cert.specs.Claims.{along}
 use Rattle.md_forms.specs.Forms.{Holds, unit}
-use Rattle.md_border.specs.Cuts.{HasSingles}
+use Rattle.md_lp.specs.Cuts.{HasSingles}
 use Rattle.md_border.specs.Odds.{weight_given}
 use Rattle.md_border.specs.Sets.{sum_in}
 use Rattle.md_border.specs.Sides.{right_by_counts}

@@ -13,7 +13,7 @@ use Rattle.md_forms.proofs.BuiltLaws as forms
 use Rattle.md_forms.proofs.PointLaws.{meets-hold, hold-meets}
 use Rattle.md_reduced.specs.declared.condition.ReducedCondition.{ReducedCondition}
 use Rattle.md_reduced.specs.Conditions.{conditions_of}
-use Rattle.md_border.specs.Cuts.{AreCuts}
+use Rattle.md_lp.specs.Cuts.{AreCuts}
 use Rattle.md_reduced.specs.Sides.{cost_of}
 use Rattle.md_reduced.specs.ProgramOf.{column_count, form_of, forms_of, IsReducedProgram, HasEachRow, MeetsByConditions, CostsPoints}
 use Rattle.md_reduced.proofs.ConditionLaws.{conditions-few}

@@ -13,7 +13,7 @@ use Rattle.md_mech.proofs.CountLaws.{before-true, length-by_report}
 use Rattle.md_reduced.specs.declared.condition.ReducedCondition.{ReducedCondition}
 use Rattle.md_reduced.specs.declared.condition.ReducedCondition.TheVariants.{Truth, Rational, Cut}
 use Rattle.md_reduced.specs.Conditions.{truths_at, truths, rationals, conditions_of, IsAt}
-use Rattle.md_border.specs.Cuts.{AreCuts}
+use Rattle.md_lp.specs.Cuts.{AreCuts}
 use Rattle.md_reduced.proofs.CutLaws.{cuts-at_most}
 
 -- ---- how many

@@ -6,7 +6,7 @@ use Rattle.std.proofs.lemmas.Bool.{cases_Bool}
 use Rattle.std.proofs.lemmas.Bool.Decides.{nat_tests}
 use Rattle.std.proofs.lemmas.Map.Steps.{length-le_from_distinct_below}
 use Rattle.std.proofs.Math.Nat.{pow-le-pow_right}
-use Rattle.md_border.specs.Cuts.{AreCuts}
+use Rattle.md_lp.specs.Cuts.{AreCuts}
 
 others-differ : (x : ℕ) (xs : List ℕ) → ((k : ℕ) → k < length xs → x ≢ slice_index xs k) → AllByRecursion (λ y. eqb x y ≡ false) xs
 others-differ x [] h = tt

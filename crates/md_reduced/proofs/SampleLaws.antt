@@ -11,7 +11,7 @@ use Rattle.md_border.proofs.SideLaws.{right_of-counts, right_of-power}
 use Rattle.md_reduced.specs.declared.condition.ReducedCondition.{ReducedCondition}
 use Rattle.md_reduced.specs.declared.condition.ReducedCondition.TheVariants.{Cut}
 use Rattle.md_reduced.specs.Conditions.{conditions_of}
-use Rattle.md_border.specs.Cuts.{HasSet}
+use Rattle.md_lp.specs.Cuts.{HasSet}
 use Rattle.md_reduced.specs.Points.{MeetsReduced}
 use Rattle.md_reduced.specs.ProgramOf.{form_of, IsReducedProgram}
 use Rattle.md_reduced.proofs.BuiltLaws.{meets-conditions}

@@ -5,7 +5,7 @@ use Rattle.md_setting.specs.Auction.{SymmetricAuction, value_count}
 use Rattle.md_border.specs.declared.interim.Interim.{Interim}
 use Rattle.md_lp.specs.Program.{Program}
 use Rattle.md_lp.specs.Point.{Meets}
-use Rattle.md_border.specs.Cuts.{HasSingles}
+use Rattle.md_lp.specs.Cuts.{HasSingles}
 use Rattle.md_reduced.specs.ProgramOf.{IsReducedProgram}
 use Rattle.md_reduced.specs.Sides.{pay_in}
 

@@ -3,7 +3,7 @@ ghost use Rattle.std.specs.Prelude.{◌≡◌, ◌*◌, ◌-◌, ◌<◌, length
 ghost use Rattle.md_setting.specs.Auction.{value_count};
 ghost use Rattle.md_mech.specs.Conditions.{IsFalseReport};
 ghost use Rattle.md_reduced.specs.Conditions.{conditions_of, truths, IsAt};
-ghost use Rattle.md_border.specs.Cuts.{AreCuts};
+ghost use Rattle.md_lp.specs.Cuts.{AreCuts};
 
 use md_lp::Sets;
 use md_setting::Auction;

@@ -5,7 +5,7 @@ ghost use Rattle.md_num.specs.WholeText.{text_of};
 ghost use Rattle.md_mech.specs.RowName.{path};
 ghost use Rattle.md_setting.specs.Auction.{value_count};
 ghost use Rattle.md_reduced.specs.Conditions.{conditions_of, IsInside};
-ghost use Rattle.md_border.specs.Cuts.{AreCuts};
+ghost use Rattle.md_lp.specs.Cuts.{AreCuts};
 ghost use Rattle.md_reduced.specs.declared.condition.ReducedCondition.TheVariants.{Truth, Rational};
 ghost use Rattle.md_reduced.specs.Names.{name_of};
 

@@ -7,7 +7,7 @@ ghost use Rattle.md_lp.specs.Point.{Meets};
 ghost use Rattle.md_forms.specs.Built.{HasRoom, Extends};
 ghost use Rattle.md_forms.specs.ProgramOf.{HasCostOf};
 ghost use Rattle.md_reduced.specs.Conditions.{conditions_of};
-ghost use Rattle.md_border.specs.Cuts.{AreCuts, HasSingles};
+ghost use Rattle.md_lp.specs.Cuts.{AreCuts, HasSingles};
 ghost use Rattle.md_reduced.specs.Mechanisms.{AdmitsPoints, HoldsAdmissible, IsBounded, MakesOptimal};
 ghost use Rattle.md_reduced.specs.ProgramOf.{IsReducedProgram, HasEachRow, MeetsByConditions, CostsPoints, column_count, forms_of};
 ghost use Rattle.md_reduced.specs.Sides.{cost_of};

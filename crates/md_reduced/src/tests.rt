@@ -3,7 +3,7 @@ ghost use Rattle.std.specs.Prelude.{◌≡◌, [], ◌∷◌, pos, length, IfOk}
 ghost use Rattle.md_setting.specs.Auction.{SymmetricAuction, auction_of, written_auction, value_count};
 ghost use Rattle.md_lp.specs.Program.{row_count};
 ghost use Rattle.md_reduced.specs.Conditions.{conditions_of};
-ghost use Rattle.md_border.specs.Cuts.{AreCuts};
+ghost use Rattle.md_lp.specs.Cuts.{AreCuts};
 
 use super::*;
 use md_lp::{Lp, RowKind, Sets};

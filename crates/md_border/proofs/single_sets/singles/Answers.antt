@@ -1,5 +1,5 @@
 use Rattle.std.proofs.Common.{◌≡◌, sym, ap, ◌∙◌, subst, arith}
-use Rattle.md_border.specs.Cuts.{AreCuts, singles_of}
+use Rattle.md_lp.specs.Cuts.{AreCuts, singles_of}
 use Rattle.md_border.proofs.SingleCuts.{AreCuts-singles}
 use Rattle.md_border.proofs.single_sets.singles.Goals as goal
 

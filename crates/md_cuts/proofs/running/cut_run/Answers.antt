@@ -1,7 +1,7 @@
 use Rattle.std.proofs.Common.{◌≡◌, ◌+◌, ◌-◌, ◌<◌, ◌^◌, List, [], ◌∷◌, ◌++◌, length, ℕ, sym, ap, ◌∙◌, subst, arith}
 use Rattle.std.proofs.lemmas.List.{length_push}
-use Rattle.md_border.specs.Cuts.{AreCuts}
-use Rattle.md_border.specs.Cuts.{singles_of}
+use Rattle.md_lp.specs.Cuts.{AreCuts}
+use Rattle.md_lp.specs.Cuts.{singles_of}
 use Rattle.md_cuts.specs.CutRuns.{EndsSettled, EndsWide, IsCutRun}
 use Rattle.md_cuts.specs.Turns.{IsAdded, IsEnded, IsTurn}
 use Rattle.md_cuts.specs.CutRuns.{AreWide}

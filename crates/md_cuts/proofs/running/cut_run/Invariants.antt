@@ -1,5 +1,5 @@
 use Rattle.std.proofs.Common.{◌^◌, ◌-◌, length}
-use Rattle.md_border.specs.Cuts.{AreCuts}
+use Rattle.md_lp.specs.Cuts.{AreCuts}
 use Rattle.md_cuts.specs.CutRuns.{IsCutRun}
 use Rattle.md_cuts.proofs.running.cut_run.Given as goal
 

@@ -1,4 +1,4 @@
--- Lists of sets of an auction's values, each of which cuts off some odds.
+-- Lists of sets of places, such as the values of an auction, each of which cuts off some points of a program.
 use Rattle.std.specs.Prelude.{◌≡◌, ◌≢◌, ℕ, ◌<◌, ◌≤◌, ◌^◌, List, length, slice_index, slice_get, Some}
 use Rattle.md_math.specs.Lists.{list_to}
 
