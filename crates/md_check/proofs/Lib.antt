@@ -2,3 +2,4 @@ pub mod ValueLaws
 pub mod SameVerdict
 pub mod VerdictLaws
 pub mod FitLaws
+pub mod AuctionLaws

@@ -1,17 +1,17 @@
 -- Programs that say the same are judged alike.
-use Rattle.std.proofs.Common.{◌≡◌, ℕ, ◌<◌, ℤ, sym, ◌∙◌, arith}
+use Rattle.std.proofs.Common.{◌≡◌, ℕ, ◌<◌, ℤ, ◌*ℤ◌, sym, ap, ◌∙◌, subst, arith}
 use Rattle.md_math.specs.FirstFailure.{HoldsBelow, IsFirstFailure}
 use Rattle.md_math.specs.Lists.{number_at}
 use Rattle.md_lp.specs.Program.{Program, row_count}
-use Rattle.md_lp.specs.Point.{MeetsRow}
+use Rattle.md_lp.specs.Point.{Meets, MeetsRow}
 use Rattle.md_lp.proofs.SamePrograms.{IsSameProgram, IsSameProgram-sym, row_sum-same, right_sum-same, cost_sum-same, column_sum-same}
 use Rattle.md_cert.specs.declared.certificate.Certificate.{Certificate}
 use Rattle.md_cert.specs.declared.certificate.Certificate.TheVariants.{Optimal, Infeasible, Unbounded}
 use Rattle.md_cert.specs.Certified.{PairHolds, ColumnHolds, FaceHolds, FaceSumHolds, RayHolds}
-use Rattle.md_cert.specs.Fault.{BreaksPair, BreaksFace, BreaksColumn, BreaksFaceSum, BreaksRay, MeetsRows, HasPairs, HasColumns, HasFaces, HasFaceSums, HasRays}
+use Rattle.md_cert.specs.Fault.{BreaksRow, BreaksPair, BreaksFace, BreaksColumn, BreaksFaceSum, BreaksRay, MeetsRows, HasPairs, HasColumns, HasFaces, HasFaceSums, HasRays}
 use Rattle.md_cert.proofs.SameCertificates.{certified-same}
 use Rattle.md_check.specs.declared.verdict.Reject.{Reject}
-use Rattle.md_check.specs.declared.verdict.Reject.TheVariants.{Audit, Value, Pair, Column, FaceRight, MainRight, RayRow, RayGain}
+use Rattle.md_check.specs.declared.verdict.Reject.TheVariants.{Audit, Value, Pair, Column, FaceRight, MainRight, RayRow, RayGain, Masses, Reduced}
 use Rattle.md_check.specs.declared.verdict.Verdict.{Verdict}
 use Rattle.md_check.specs.declared.verdict.Verdict.TheVariants.{Valid, Undecided, Rejected}
 use Rattle.md_check.specs.Certificates.{TellsFault, Judges}
@@ -34,6 +34,9 @@ first m n C D k same to back h =
 
 row-to : (p q : Program) (den : ℤ) (x : ℕ → ℤ) (r : ℕ) → IsSameProgram q p → MeetsRow p den x r → MeetsRow q den x r
 row-to p q den x r h m = rw (h.kinds r, row_sum-same q p h x r, h.rights r) m
+
+row-back : (p q : Program) (den : ℤ) (x : ℕ → ℤ) (r : ℕ) → IsSameProgram q p → MeetsRow q den x r → MeetsRow p den x r
+row-back p q den x r h m = rw (h.kinds r, row_sum-same q p h x r, h.rights r) at m
 
 pair-to : (p q : Program) (face main : ℕ → ℤ) (r : ℕ) → IsSameProgram q p → PairHolds p face main r → PairHolds q face main r
 pair-to p q face main r h m = rw (h.kinds r) m
@@ -86,7 +89,20 @@ face_sums-to p q face h = each p.columns q.columns (FaceSumHolds p face) (FaceSu
 rays-to : (p q : Program) (ray : ℕ → ℤ) → IsSameProgram q p → HasRays p ray → HasRays q ray
 rays-to p q ray h = each (row_count p) (row_count q) (RayHolds p ray) (RayHolds q ray) (sym h.rows) (λ r b. ray-to p q ray r h)
 
+pub meets-to : (p q : Program) (den : ℤ) (x : ℕ → ℤ) → IsSameProgram q p → Meets p den x → Meets q den x
+meets-to p q den x h m = record {
+  point = record { positive = m.point.positive; nonneg = λ j l. m.point.nonneg j (subst (λ n. j < n) h.columns l) };
+  rows = meets_rows-to p q den x h m.rows;
+}
+
 -- ---- the first that fails
+
+pub row-first : (p q : Program) (den : ℤ) (x : ℕ → ℤ) (row : ℕ) (left right : ℤ) → IsSameProgram q p → BreaksRow p den x row left right → BreaksRow q den x row left right
+row-first p q den x row left right h b = record {
+  first = first (row_count p) (row_count q) (MeetsRow p den x) (MeetsRow q den x) row (sym h.rows) (λ r l. row-to p q den x r h) (λ r l. row-back p q den x r h) b.first;
+  left_is = b.left_is ∙ sym (row_sum-same q p h x row);
+  right_is = b.right_is ∙ ap (λ z. den *ℤ z) (sym (h.rights row));
+}
 
 pair-first : (p q : Program) (face main : ℕ → ℤ) (row : ℕ) (f m : ℤ) → IsSameProgram q p → BreaksPair p face main row f m → BreaksPair q face main row f m
 pair-first p q face main row f m h b = record {
@@ -172,6 +188,8 @@ told-to p q (Unbounded den point ray) (FaceRight sum) h t = absurd t
 told-to p q (Unbounded den point ray) (MainRight limit cost) h t = absurd t
 told-to p q c (Audit broken) h t = absurd t
 told-to p q c (Value right) h t = absurd t
+told-to p q c (Masses kind sum demand) h t = absurd t
+told-to p q c (Reduced row left right) h t = absurd t
 
 pub judges-to : (p q : Program) (c : Certificate) (v : Verdict) → IsSameProgram q p → Judges p c v → Judges q c v
 judges-to p q c Valid h j = certified-same p q (IsSameProgram-sym q p h) c j

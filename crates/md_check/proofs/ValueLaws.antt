@@ -1,5 +1,7 @@
 -- A fraction is a mechanism's value exactly where it is the value in least terms.
-use Rattle.std.proofs.Common.{◌≡◌, ℤ, pos, ◌*ℤ◌, ◌<ℤ◌, sym, ap, ◌∙◌}
+use Rattle.std.proofs.Common.{◌≡◌, ℕ, ◌<◌, false, ℤ, pos, ◌*ℤ◌, ◌<ℤ◌, sym, ap, ◌∙◌, arith}
+use Rattle.std.proofs.lemmas.Int.{ints}
+use lib.Signed.{lt_z}
 use Rattle.md_math.proofs.Ring.{ring}
 use Rattle.md_math.proofs.Order.{*ℤ_cancel}
 
@@ -32,3 +34,7 @@ same_least a b n d w t above value same =
 
 pub same_parts : (a b p q n d : ℤ) → a *ℤ d ≡ n *ℤ b → (a ≡ p) × (b ≡ q) → p *ℤ d ≡ n *ℤ q
 same_parts a b p q n d value same = ap (λ z. z *ℤ d) (sym same.0) ∙ value ∙ ap (λ z. n *ℤ z) same.1
+
+-- a positive number is above 0
+pub never_below : (n : ℕ) → 0 < n → lt_z (pos 0) (pos n) ≡ false → ⊥
+never_below n above off = grind (arith, ints)

@@ -26,7 +26,7 @@ use Rattle.md_claims.proofs.SettingClaims.{optimal_mechanism, infeasible, grows_
 use Rattle.md_answer.specs.declared.answer.Answer.{Answer}
 use Rattle.md_answer.specs.declared.answer.Answer.TheVariants.{Table, Optimal, Infeasible, Unbounded, AuctionOptimal, TooWide}
 use Rattle.md_check.specs.declared.verdict.Reject.{Reject}
-use Rattle.md_check.specs.declared.verdict.Reject.TheVariants.{Audit, Value, Pair, Column, FaceRight, MainRight, RayRow, RayGain}
+use Rattle.md_check.specs.declared.verdict.Reject.TheVariants.{Audit, Value, Pair, Column, FaceRight, MainRight, RayRow, RayGain, Masses, Reduced}
 use Rattle.md_check.specs.declared.verdict.Verdict.{Verdict}
 use Rattle.md_check.specs.declared.verdict.Verdict.TheVariants.{Valid, Undecided, Rejected}
 use Rattle.md_claims.specs.Certificates.{optimal_certificate, unbounded_certificate}
@@ -37,7 +37,7 @@ use Rattle.md_check.proofs.SameVerdict.{judges-to}
 -- ---- the program of the setting is one
 
 pub judged-on_all : (s : GeneralSetting) (p : Program) (c : Certificate) (v : Verdict) → IsProgramOf s p → Judges p c v → IsJudged s c v
-judged-on_all s p c v here j = record { program = p; is_program = here; judged = λ q there. judges-to p q c v (same_program s q p there here) j }
+judged-on_all s p c v here j = record { program = p; is_program = here; holds = λ q there. judges-to p q c v (same_program s q p there here) j }
 
 -- ---- what is claimed
 
@@ -61,27 +61,29 @@ unbounded-judged s p m ray v is mechanism j valid =
 -- ---- conditions in their order
 
 never : (s : GeneralSetting) (c : Certificate) (v : Verdict) → IsJudged s c v → ((p : Program) → Judges p c v → ⊥) → ⊥
-never s c v j none = none j.program (j.judged j.program j.is_program)
+never s c v j none = none j.program (j.holds j.program j.is_program)
 
 -- the verdict on a mechanism whose first two conditions hold
 pub optimal-verdict : (s : GeneralSetting) (value : Frac) (m : Mechanism) (bound : Bound) (v : Verdict) → IsAdmissible s m → HasValue s m value
     → IsJudged s (optimal_certificate s m bound) v → IsOptimalVerdict s value m bound v
 optimal-verdict s value m bound Valid a w j = (record { admissible = a; value = w }, j)
 optimal-verdict s value m bound Undecided a w j = (record { admissible = a; value = w }, j)
-optimal-verdict s value m bound (Rejected (Audit broken)) a w j = absurd (never s _ _ j (λ p h. h))
-optimal-verdict s value m bound (Rejected (Value right)) a w j = absurd (never s _ _ j (λ p h. h))
+optimal-verdict s value m bound (Rejected (Audit broken)) a w j = absurd (never s (optimal_certificate s m bound) (Rejected (Audit broken)) j (λ p h. h))
+optimal-verdict s value m bound (Rejected (Value right)) a w j = absurd (never s (optimal_certificate s m bound) (Rejected (Value right)) j (λ p h. h))
 optimal-verdict s value m bound (Rejected (Pair row f n)) a w j = (record { admissible = a; value = w }, j)
 optimal-verdict s value m bound (Rejected (Column column f n)) a w j = (record { admissible = a; value = w }, j)
 optimal-verdict s value m bound (Rejected (FaceRight sum)) a w j = (record { admissible = a; value = w }, j)
 optimal-verdict s value m bound (Rejected (MainRight limit cost)) a w j = (record { admissible = a; value = w }, j)
 optimal-verdict s value m bound (Rejected (RayRow row sum)) a w j = (record { admissible = a; value = w }, j)
 optimal-verdict s value m bound (Rejected (RayGain sum)) a w j = (record { admissible = a; value = w }, j)
+optimal-verdict s value m bound (Rejected (Masses kind sum demand)) a w j = (record { admissible = a; value = w }, j)
+optimal-verdict s value m bound (Rejected (Reduced row left right)) a w j = (record { admissible = a; value = w }, j)
 
 pub unbounded-verdict : (s : GeneralSetting) (m : Mechanism) (ray : List ℤ) (v : Verdict) → IsAdmissible s m
     → IsJudged s (unbounded_certificate s m ray) v → IsUnboundedVerdict s m ray v
 unbounded-verdict s m ray Valid a j = (a, j)
 unbounded-verdict s m ray Undecided a j = (a, j)
-unbounded-verdict s m ray (Rejected (Audit broken)) a j = absurd (never s _ _ j (λ p h. h))
+unbounded-verdict s m ray (Rejected (Audit broken)) a j = absurd (never s (unbounded_certificate s m ray) (Rejected (Audit broken)) j (λ p h. h))
 unbounded-verdict s m ray (Rejected (Value right)) a j = (a, j)
 unbounded-verdict s m ray (Rejected (Pair row f n)) a j = (a, j)
 unbounded-verdict s m ray (Rejected (Column column f n)) a j = (a, j)
@@ -89,6 +91,8 @@ unbounded-verdict s m ray (Rejected (FaceRight sum)) a j = (a, j)
 unbounded-verdict s m ray (Rejected (MainRight limit cost)) a j = (a, j)
 unbounded-verdict s m ray (Rejected (RayRow row sum)) a j = (a, j)
 unbounded-verdict s m ray (Rejected (RayGain sum)) a j = (a, j)
+unbounded-verdict s m ray (Rejected (Masses kind sum demand)) a j = (a, j)
+unbounded-verdict s m ray (Rejected (Reduced row left right)) a j = (a, j)
 
 -- ---- what is certified has no fault
 
@@ -98,9 +102,11 @@ negative-not sum right same above below = omega (arith, linear)
 positive-not : (sum gain : ℤ) → sum ≡ gain → sum ≤ℤ pos 0 → pos 0 <ℤ gain → ⊥
 positive-not sum gain same below above = omega (arith, linear)
 
-certified-no_fault : (p : Program) (c : Certificate) (reject : Reject) → Certified p c → TellsFault p c reject → ⊥
+pub certified-no_fault : (p : Program) (c : Certificate) (reject : Reject) → Certified p c → TellsFault p c reject → ⊥
 certified-no_fault p c (Audit broken) h t = t
 certified-no_fault p c (Value right) h t = t
+certified-no_fault p c (Masses kind sum demand) h t = t
+certified-no_fault p c (Reduced row left right) h t = t
 certified-no_fault p (certificate.Optimal den point bound) (Pair row f m) h t =
     HoldsBelow-no_failure (PairHolds p (number_at bound.face) (number_at bound.main)) (row_count p) row h.pairs t.1.first
 certified-no_fault p (certificate.Optimal den point bound) (Column column f m) h t =
@@ -125,32 +131,36 @@ certified-no_fault p (certificate.Unbounded den point ray) (MainRight limit cost
 -- where all conditions hold the verdict is valid
 optimal-sound : (s : GeneralSetting) (p : Program) (value : Frac) (m : Mechanism) (bound : Bound) (v : Verdict) → IsProgramOf s p → IsOptimalVerdict s value m bound v → IsSoundOptimal s p value m bound → v ≡ Valid
 optimal-sound s p value m bound Valid is v h = refl
-optimal-sound s p value m bound Undecided is v h = absurd (v.1.judged p is)
+optimal-sound s p value m bound Undecided is v h = absurd (v.1.holds p is)
 optimal-sound s p value m bound (Rejected (Audit broken)) is v h = absurd (broken-not_admissible s m 0 broken v h.admissible)
 optimal-sound s p value m bound (Rejected (Value right)) is v h = absurd (v.1.other h.value)
-optimal-sound s p value m bound (Rejected (Pair row f n)) is v h = absurd (certified-no_fault p (optimal_certificate s m bound) (Pair row f n) h.certified (v.1.judged p is))
-optimal-sound s p value m bound (Rejected (Column column f n)) is v h = absurd (certified-no_fault p (optimal_certificate s m bound) (Column column f n) h.certified (v.1.judged p is))
-optimal-sound s p value m bound (Rejected (FaceRight sum)) is v h = absurd (certified-no_fault p (optimal_certificate s m bound) (FaceRight sum) h.certified (v.1.judged p is))
-optimal-sound s p value m bound (Rejected (MainRight limit cost)) is v h = absurd (certified-no_fault p (optimal_certificate s m bound) (MainRight limit cost) h.certified (v.1.judged p is))
-optimal-sound s p value m bound (Rejected (RayRow row sum)) is v h = absurd (certified-no_fault p (optimal_certificate s m bound) (RayRow row sum) h.certified (v.1.judged p is))
-optimal-sound s p value m bound (Rejected (RayGain sum)) is v h = absurd (certified-no_fault p (optimal_certificate s m bound) (RayGain sum) h.certified (v.1.judged p is))
+optimal-sound s p value m bound (Rejected (Pair row f n)) is v h = absurd (certified-no_fault p (optimal_certificate s m bound) (Pair row f n) h.certified (v.1.holds p is))
+optimal-sound s p value m bound (Rejected (Column column f n)) is v h = absurd (certified-no_fault p (optimal_certificate s m bound) (Column column f n) h.certified (v.1.holds p is))
+optimal-sound s p value m bound (Rejected (FaceRight sum)) is v h = absurd (certified-no_fault p (optimal_certificate s m bound) (FaceRight sum) h.certified (v.1.holds p is))
+optimal-sound s p value m bound (Rejected (MainRight limit cost)) is v h = absurd (certified-no_fault p (optimal_certificate s m bound) (MainRight limit cost) h.certified (v.1.holds p is))
+optimal-sound s p value m bound (Rejected (RayRow row sum)) is v h = absurd (certified-no_fault p (optimal_certificate s m bound) (RayRow row sum) h.certified (v.1.holds p is))
+optimal-sound s p value m bound (Rejected (RayGain sum)) is v h = absurd (certified-no_fault p (optimal_certificate s m bound) (RayGain sum) h.certified (v.1.holds p is))
+optimal-sound s p value m bound (Rejected (Masses kind sum demand)) is v h = absurd (certified-no_fault p (optimal_certificate s m bound) (Masses kind sum demand) h.certified (v.1.holds p is))
+optimal-sound s p value m bound (Rejected (Reduced row left right)) is v h = absurd (certified-no_fault p (optimal_certificate s m bound) (Reduced row left right) h.certified (v.1.holds p is))
 
 unbounded-sound : (s : GeneralSetting) (p : Program) (m : Mechanism) (ray : List ℤ) (v : Verdict) → IsProgramOf s p → IsUnboundedVerdict s m ray v → IsSoundUnbounded s p m ray → v ≡ Valid
 unbounded-sound s p m ray Valid is v h = refl
-unbounded-sound s p m ray Undecided is v h = absurd (v.1.judged p is)
+unbounded-sound s p m ray Undecided is v h = absurd (v.1.holds p is)
 unbounded-sound s p m ray (Rejected (Audit broken)) is v h = absurd (broken-not_admissible s m 0 broken v h.admissible)
-unbounded-sound s p m ray (Rejected (Value right)) is v h = absurd (certified-no_fault p (unbounded_certificate s m ray) (Value right) h.certified (v.1.judged p is))
-unbounded-sound s p m ray (Rejected (Pair row f n)) is v h = absurd (certified-no_fault p (unbounded_certificate s m ray) (Pair row f n) h.certified (v.1.judged p is))
-unbounded-sound s p m ray (Rejected (Column column f n)) is v h = absurd (certified-no_fault p (unbounded_certificate s m ray) (Column column f n) h.certified (v.1.judged p is))
-unbounded-sound s p m ray (Rejected (FaceRight sum)) is v h = absurd (certified-no_fault p (unbounded_certificate s m ray) (FaceRight sum) h.certified (v.1.judged p is))
-unbounded-sound s p m ray (Rejected (MainRight limit cost)) is v h = absurd (certified-no_fault p (unbounded_certificate s m ray) (MainRight limit cost) h.certified (v.1.judged p is))
-unbounded-sound s p m ray (Rejected (RayRow row sum)) is v h = absurd (certified-no_fault p (unbounded_certificate s m ray) (RayRow row sum) h.certified (v.1.judged p is))
-unbounded-sound s p m ray (Rejected (RayGain sum)) is v h = absurd (certified-no_fault p (unbounded_certificate s m ray) (RayGain sum) h.certified (v.1.judged p is))
+unbounded-sound s p m ray (Rejected (Value right)) is v h = absurd (certified-no_fault p (unbounded_certificate s m ray) (Value right) h.certified (v.1.holds p is))
+unbounded-sound s p m ray (Rejected (Pair row f n)) is v h = absurd (certified-no_fault p (unbounded_certificate s m ray) (Pair row f n) h.certified (v.1.holds p is))
+unbounded-sound s p m ray (Rejected (Column column f n)) is v h = absurd (certified-no_fault p (unbounded_certificate s m ray) (Column column f n) h.certified (v.1.holds p is))
+unbounded-sound s p m ray (Rejected (FaceRight sum)) is v h = absurd (certified-no_fault p (unbounded_certificate s m ray) (FaceRight sum) h.certified (v.1.holds p is))
+unbounded-sound s p m ray (Rejected (MainRight limit cost)) is v h = absurd (certified-no_fault p (unbounded_certificate s m ray) (MainRight limit cost) h.certified (v.1.holds p is))
+unbounded-sound s p m ray (Rejected (RayRow row sum)) is v h = absurd (certified-no_fault p (unbounded_certificate s m ray) (RayRow row sum) h.certified (v.1.holds p is))
+unbounded-sound s p m ray (Rejected (RayGain sum)) is v h = absurd (certified-no_fault p (unbounded_certificate s m ray) (RayGain sum) h.certified (v.1.holds p is))
+unbounded-sound s p m ray (Rejected (Masses kind sum demand)) is v h = absurd (certified-no_fault p (unbounded_certificate s m ray) (Masses kind sum demand) h.certified (v.1.holds p is))
+unbounded-sound s p m ray (Rejected (Reduced row left right)) is v h = absurd (certified-no_fault p (unbounded_certificate s m ray) (Reduced row left right) h.certified (v.1.holds p is))
 
 infeasible-sound : (s : GeneralSetting) (p : Program) (face : List ℤ) (v : Verdict) → IsProgramOf s p → IsJudged s (certificate.Infeasible face) v → Certified p (certificate.Infeasible face) → v ≡ Valid
 infeasible-sound s p face Valid is v h = refl
-infeasible-sound s p face Undecided is v h = absurd (v.judged p is)
-infeasible-sound s p face (Rejected reject) is v h = absurd (certified-no_fault p (certificate.Infeasible face) reject h (v.judged p is))
+infeasible-sound s p face Undecided is v h = absurd (v.holds p is)
+infeasible-sound s p face (Rejected reject) is v h = absurd (certified-no_fault p (certificate.Infeasible face) reject h (v.holds p is))
 
 pub sound-valid : (s : GeneralSetting) (p : Program) (answer : Answer) (v : Verdict) → IsProgramOf s p → IsVerdict s answer v → IsSound s p answer → v ≡ Valid
 sound-valid s p (Table m) v is verdict h = absurd h
@@ -169,12 +179,12 @@ decided s c (Rejected reject) j = λ e. cc
 
 optimal-decided : (s : GeneralSetting) (value : Frac) (m : Mechanism) (bound : Bound) (v : Verdict) → IsOptimalVerdict s value m bound v → v ≢ Undecided
 optimal-decided s value m bound Valid v = λ e. cc
-optimal-decided s value m bound Undecided v = absurd (never s _ Undecided v.1 (λ p h. h))
+optimal-decided s value m bound Undecided v = absurd (never s (optimal_certificate s m bound) Undecided v.1 (λ p h. h))
 optimal-decided s value m bound (Rejected reject) v = λ e. cc
 
 unbounded-decided : (s : GeneralSetting) (m : Mechanism) (ray : List ℤ) (v : Verdict) → IsUnboundedVerdict s m ray v → v ≢ Undecided
 unbounded-decided s m ray Valid v = λ e. cc
-unbounded-decided s m ray Undecided v = absurd (never s _ Undecided v.1 (λ p h. h))
+unbounded-decided s m ray Undecided v = absurd (never s (unbounded_certificate s m ray) Undecided v.1 (λ p h. h))
 unbounded-decided s m ray (Rejected reject) v = λ e. cc
 
 undecided : (s : GeneralSetting) (answer : Answer) (v : Verdict) → IsVerdict s answer v → (v ≡ Undecided) ↔ ClaimsNothing answer

@@ -11,9 +11,10 @@ use Rattle.md_cert.specs.Certified.{Certified}
 use Rattle.md_cert.specs.Fault.{IsFirstFault}
 use Rattle.md_rows.specs.ProgramOf.{IsProgramOf}
 use Rattle.md_check.specs.declared.verdict.Reject.{Reject}
-use Rattle.md_check.specs.declared.verdict.Reject.TheVariants.{Audit, Value, Pair, Column, FaceRight, MainRight, RayRow, RayGain}
+use Rattle.md_check.specs.declared.verdict.Reject.TheVariants.{Audit, Value, Pair, Column, FaceRight, MainRight, RayRow, RayGain, Masses, Reduced}
 use Rattle.md_check.specs.declared.verdict.Verdict.{Verdict}
 use Rattle.md_check.specs.declared.verdict.Verdict.TheVariants.{Valid, Undecided, Rejected}
+use Rattle.md_check.specs.Programs.{OfProgram}
 
 -- the point of the certificate, if it has one, meets the program
 abbrev pub HasMetPoint : Program → Certificate → Type 0
@@ -36,6 +37,8 @@ TellsFault p c (FaceRight sum) = IsFirstFault p c (fault.FaceRight sum)
 TellsFault p c (MainRight bound cost) = IsFirstFault p c (fault.MainRight bound cost)
 TellsFault p c (RayRow row sum) = IsFirstFault p c (fault.RayRow row sum)
 TellsFault p c (RayGain sum) = IsFirstFault p c (fault.RayGain sum)
+TellsFault p c (Masses kind sum demand) = ⊥
+TellsFault p c (Reduced row left right) = ⊥
 
 -- valid where the certificate is certified, else rejected with the first condition that fails
 abbrev pub Judges : Program → Certificate → Verdict → Type 0
@@ -43,8 +46,6 @@ Judges p c Valid = Certified p c
 Judges p c Undecided = ⊥
 Judges p c (Rejected reject) = TellsFault p c reject
 
--- the setting's program judges so, whichever way it is written down
-pub record IsJudged (s : GeneralSetting) (c : Certificate) (verdict : Verdict) : Type 0 where
-  pub program : Program
-  pub is_program : IsProgramOf s program
-  pub judged : (p : Program) → IsProgramOf s p → Judges p c verdict
+-- the setting's program judges so
+abbrev pub IsJudged : GeneralSetting → Certificate → Verdict → Type 0
+IsJudged s c verdict = OfProgram (IsProgramOf s) (λ p. Judges p c verdict)

@@ -1,3 +1,5 @@
 pub mod Values
+pub mod Programs
 pub mod Certificates
 pub mod Verdicts
+pub mod AuctionVerdicts

@@ -1,29 +1,32 @@
 //! The verdict on an answer.
 ghost use Rattle.std.specs.Prelude.{◌≡◌, ◌↔◌, IfOk};
-ghost use Rattle.md_setting.specs.ByKind.{IsGeneral, WhereGeneral};
+ghost use Rattle.md_setting.specs.ByKind.{WhereGeneral, WhereAuction};
 ghost use Rattle.md_lp.specs.Program.{Program};
 ghost use Rattle.md_mech.specs.Accepted.{IsAccepted};
 ghost use Rattle.md_mech.specs.Admissible.{IsAdmissible};
 ghost use Rattle.md_mech.specs.Optimal.{IsOptimal, IsInfeasible, Grows};
 ghost use Rattle.md_cert.specs.declared.certificate.Certificate.{Certificate};
 ghost use Rattle.md_cert.specs.declared.certificate.Certificate.TheVariants as certificate;
-ghost use Rattle.md_cert.specs.Fault.{IsFirstFault};
 ghost use Rattle.md_cert.specs.Fitting.{Fits};
 ghost use Rattle.md_rows.specs.ProgramOf.{IsProgramOf};
 ghost use Rattle.md_answer.specs.declared.answer.Answer.TheVariants.{Optimal, Infeasible, Unbounded};
 ghost use Rattle.md_answer.specs.AnswerTo.{IsAnswerTo, IsBoundFor};
+ghost use Rattle.md_answer.specs.AuctionAnswerTo.{IsAuctionAnswer};
 ghost use Rattle.md_parts.specs.Fitting.{IsFraction, AreMultipliers, IsRayFor};
 ghost use Rattle.md_setting.specs.Rows.{row_count};
 ghost use Rattle.md_check.specs.declared.verdict.Verdict.TheVariants.{Valid, Undecided};
 ghost use Rattle.md_claims.specs.Certificates.{optimal_certificate, unbounded_certificate};
-ghost use Rattle.md_check.specs.Certificates.{HasMetPoint, IsBehindPoint, TellsFault, Judges, IsJudged};
+ghost use Rattle.md_check.specs.Certificates.{HasMetPoint, Judges, IsJudged};
+ghost use Rattle.md_check.specs.AuctionVerdicts.{IsAuctionVerdict, IsSoundAuction, AuctionClaimHolds};
 ghost use Rattle.md_check.specs.Verdicts.{IsVerdict, IsSound, ClaimsNothing, ClaimHolds};
 
+use crate::auction::check_auction;
 use crate::certificates::{infeasible_certificate, optimal_certificate, unbounded_certificate};
+use crate::faults::verdict_by;
 use crate::value::other_value;
 use crate::verdict::{Reject, Verdict};
 use md_answer::Answer;
-use md_cert::{Bound, CertFault, Certificate, check_lp};
+use md_cert::{Bound, Certificate, check_lp};
 use md_lp::Lp;
 use md_mech::{Mechanism, audit};
 use md_num::{Frac, NoMemory, Nums};
@@ -31,21 +34,33 @@ use md_rows::rows_of;
 use md_setting::{Setting, SettingFile};
 use std::alloc::Global;
 
-/// The verdict on an answer to the setting: valid where all its conditions hold, undecided where it claims nothing, and
-/// else rejected with the first condition that fails.
+/// The verdict on an answer about the setting or the auction of a file: valid where all its conditions hold, undecided where
+/// it claims nothing, and else rejected with the first condition that fails. Nothing but want of memory is an error.
 pub fn check(alloc: Global, file: &SettingFile, answer: &Answer) -> Result<Verdict, NoMemory>
-    requires general { IsGeneral file.now }
     requires answer { WhereGeneral (λ s. IsAnswerTo s answer.now) file.now }
+    requires auction_answer { WhereAuction (λ a. IsAuctionAnswer a answer.now) file.now }
     ensures verdict { WhereGeneral (λ s. IfOk result (IsVerdict s answer.now)) file.now }
+    ensures auction_verdict { WhereAuction (λ a. IfOk result (IsAuctionVerdict a answer.now)) file.now }
     ensures undecided { IfOk result (λ verdict. (verdict ≡ Undecided) ↔ ClaimsNothing answer.now) }
 
     // Where all conditions hold nothing else is answered, and what the answer claims is so.
     ensures sound { WhereGeneral (λ s. IfOk result (λ verdict. (p : Program) → IsProgramOf s p → IsSound s p answer.now → verdict ≡ Valid)) file.now }
+    ensures auction_sound { WhereAuction (λ a. IfOk result (λ verdict. (p : Program) → IsSoundAuction a p answer.now → verdict ≡ Valid)) file.now }
     ensures claim { WhereGeneral (λ s. IfOk result (λ verdict. verdict ≡ Valid → ClaimHolds s answer.now)) file.now }
+    ensures auction_claim { WhereAuction (λ a. IfOk result (λ verdict. verdict ≡ Valid → AuctionClaimHolds a answer.now)) file.now }
 {
-    let SettingFile::General(setting) = file else {
-        unreachable!()
-    };
+    match file {
+        SettingFile::General(setting) => check_general(alloc, setting, answer),
+        SettingFile::Auction(auction) => check_auction(alloc, auction, answer),
+    }
+}
+
+// The verdict on an answer to a general setting.
+fn check_general(alloc: Global, setting: &Setting, answer: &Answer) -> Result<Verdict, NoMemory>
+    requires { IsAnswerTo setting.now answer.now }
+    ensures verdict { IfOk result (IsVerdict setting.now answer.now) }
+    ensures claim { IfOk result (λ verdict. verdict ≡ Valid → ClaimHolds setting.now answer.now) }
+{
     match answer {
         Answer::Table(_) | Answer::TooWide { .. } => Ok(Verdict::Undecided),
         Answer::Optimal {
@@ -153,24 +168,5 @@ fn judge(lp: &Lp, certificate: &Certificate) -> Verdict
     requires met { HasMetPoint lp.now certificate.now }
     ensures { Judges lp.now certificate.now result }
 {
-    match check_lp(lp, certificate) {
-        None => Verdict::Valid,
-        Some(fault) => Verdict::Rejected(reject_of(fault)),
-    }
-}
-
-// What is told of a certificate's fault.
-fn reject_of(fault: CertFault) -> Reject
-    requires { IsBehindPoint fault }
-    ensures { (p : Program) (c : Certificate) → IsFirstFault p c fault → TellsFault p c result }
-{
-    match fault {
-        CertFault::Point { .. } => unreachable!(),
-        CertFault::Pair { row, face, main } => Reject::Pair { row, face, main },
-        CertFault::Column { column, face, main } => Reject::Column { column, face, main },
-        CertFault::FaceRight { sum } => Reject::FaceRight { sum },
-        CertFault::MainRight { bound, cost } => Reject::MainRight { bound, cost },
-        CertFault::RayRow { row, sum } => Reject::RayRow { row, sum },
-        CertFault::RayGain { sum } => Reject::RayGain { sum },
-    }
+    verdict_by(check_lp(lp, certificate))
 }

@@ -1,15 +1,20 @@
-//! The check of an answer about a general setting: by the setting's conditions and by the rules of certificates, and by
-//! nothing that the solver does.
+//! The check of an answer about a general setting or an auction: by their conditions and by the rules of certificates, and
+//! by nothing that the solver does.
 #![tactic(auto)]
 
+mod auction;
 mod certificates;
 mod checking;
+mod faults;
 mod lists;
+mod points;
 mod value;
 mod verdict;
 
 pub use checking::check;
 pub use verdict::{Reject, Verdict};
 
+#[cfg(test)]
+mod auction_tests;
 #[cfg(test)]
 mod tests;

@@ -9,22 +9,31 @@ use std::alloc::Global;
 use std::process::Abort;
 use std::test::Fail;
 
-// An answer as its text, and the verdict that is wanted.
-struct Case {
-    text: &'static str,
-    verdict: Verdict,
+/// An answer as its text, and the verdict that is wanted.
+pub(crate) struct Case {
+    pub(crate) text: &'static str,
+    pub(crate) verdict: Verdict,
+}
+
+/// Reads and checks the answers to a setting file.
+pub(crate) fn judge_file(
+    rt: &impl Abort,
+    alloc: Global,
+    file: &SettingFile,
+    cases: &[Case],
+) -> Result<(), Fail> {
+    for case in cases {
+        let answer = read_answer(alloc, case.text.as_bytes(), file)?;
+        assert_eq!(rt; check(alloc, file, &answer)?, case.verdict);
+    }
+    Ok(())
 }
 
 fn judge(rt: &impl Abort, alloc: Global, raw: RawSetting, cases: &[Case]) -> Result<(), Fail> {
     let Ok(setting) = Setting::new(alloc, raw) else {
         return Err("no setting")?;
     };
-    let file = SettingFile::General(setting);
-    for case in cases {
-        let answer = read_answer(alloc, case.text.as_bytes(), &file)?;
-        assert_eq!(rt; check(alloc, &file, &answer)?, case.verdict);
-    }
-    Ok(())
+    judge_file(rt, alloc, &SettingFile::General(setting), cases)
 }
 
 const SALE: [Case; 8] = [

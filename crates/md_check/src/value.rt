@@ -5,11 +5,15 @@ ghost use Rattle.md_mech.specs.Accepted.{IsAccepted};
 ghost use Rattle.md_setting.specs.Meaning.{total_of};
 ghost use Rattle.md_parts.specs.Fitting.{IsFraction};
 ghost use Rattle.md_mech.specs.Value.{HasValue};
+ghost use Rattle.md_border.specs.Odds.{IsInterim};
+ghost use Rattle.md_border.specs.Worth.{HasWorth};
 ghost use Rattle.md_check.specs.Values.{IsOtherValue};
+ghost use Rattle.md_check.specs.AuctionVerdicts.{IsOtherWorth};
 
+use md_border::{Interim, auction_worth};
 use md_mech::{Mechanism, worth};
 use md_num::Frac;
-use md_setting::Setting;
+use md_setting::{Auction, Setting};
 
 /// The value of the mechanism in least terms, where the printed value is another number.
 pub(crate) fn other_value(setting: &Setting, mechanism: &Mechanism, printed: &Frac) -> Option<Frac>
@@ -24,6 +28,22 @@ pub(crate) fn other_value(setting: &Setting, mechanism: &Mechanism, printed: &Fr
         None
     } else {
         Some(right)
+    }
+}
+
+/// The value of the odds and payments in least terms, where the printed value is another number.
+pub(crate) fn other_worth(auction: &Auction, interim: &Interim, printed: &Frac) -> Option<Frac>
+    requires interim { IsInterim auction.now interim.now }
+    requires fraction { IsFraction printed.now.num printed.now.den }
+    ensures { MatchOption result (HasWorth auction.now interim.now printed.now) (IsOtherWorth auction.now interim.now printed.now) }
+{
+    let weight = auction.total();
+    prove!(weight > 0);
+    let found = auction_worth(auction, interim);
+    if is_same_number(printed, &found) {
+        None
+    } else {
+        Some(found)
     }
 }
 

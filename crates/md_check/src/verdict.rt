@@ -14,12 +14,12 @@ pub enum Verdict {
 }
 
 /// The first condition that an answer breaks, with its numbers. Rows and columns are those of the setting's program,
-/// numbered from 0; fractions are in least terms.
+/// or of the auction's reduced program with the answer's cuts, numbered from 0; fractions are in least terms.
 #[derive(Clone, Copy, Debug, PartialEq, Eq)]
 pub enum Reject {
     /// The mechanism breaks a condition of the setting.
     Audit { broken: Broken },
-    /// The mechanism has another value than the answer says: this one.
+    /// The mechanism, or the odds and payments, have another value than the answer says: this one.
     Value { right: Frac },
     /// The multipliers of this row are negative: the face multiplier, or it is 0 and the main multiplier is.
     /// Where no mechanism is said to be, the main multiplier is 0.
@@ -35,4 +35,9 @@ pub enum Reject {
     RayRow { row: u32, sum: i128 },
     /// The ray gains nothing: its cost.
     RayGain { sum: i128 },
+    /// The masses of the value at this place do not add to its demand, which is what the odds ask for.
+    Masses { kind: u32, sum: i128, demand: i128 },
+    /// The odds and payments break this row of the auction's reduced program with the answer's cuts: the row's sum, and
+    /// the denominator times its right side.
+    Reduced { row: u32, left: i128, right: i128 },
 }

@@ -1,2 +1,4 @@
 pub mod RayLaws
 pub mod SettingClaims
+pub mod AuctionPoints
+pub mod AuctionCertificates

@@ -1,3 +1,5 @@
 pub mod Certificates
 pub mod Laws
 pub mod Rays
+pub mod AuctionCertificates
+pub mod AuctionClaims

@@ -1,0 +1,296 @@
+-- What a verdict on an answer about an auction says, and what it shows.
+use Rattle.std.proofs.Common.{◌≡◌, ◌≢◌, ◌↔◌, Result, Ok, Err, IfOk, Option, Some, None, IfSome, IsNone, ℕ, ℤ, pos, ◌*ℤ◌, ◌≤ℤ◌, ◌<ℤ◌, List, refl, sym, ap, ◌∙◌, subst, arith}
+use Rattle.std.proofs.lemmas.Int.{ints}
+use Rattle.std.proofs.lemmas.List.Elements.{All-get_or}
+use Rattle.md_math.specs.Lists.{number_at}
+use Rattle.md_math.proofs.FirstFailures.{HoldsBelow-no_failure}
+use Rattle.md_math.proofs.Order.{*ℤ_cancel}
+use Rattle.md_math.proofs.Ring.{ring}
+use Rattle.md_num.specs.declared.frac.Frac.{Frac}
+use Rattle.md_num.specs.declared.no_memory.NoMemory.{NoMemory}
+use Rattle.md_setting.specs.Meaning.{total_of}
+use Rattle.md_setting.specs.Auction.{SymmetricAuction, value_count, total_weight}
+use Rattle.md_setting.specs.AuctionShaped.{IsAuction}
+use Rattle.md_setting.specs.General.{general_of}
+use Rattle.md_setting.proofs.GeneralLaws.{total_of-general}
+use Rattle.md_mech.specs.declared.mechanism.Mechanism.{Mechanism}
+use Rattle.md_mech.specs.Mechanism.{IsMechanism}
+use Rattle.md_mech.specs.Optimal.{worth_of as mechanism_worth}
+use Rattle.md_mech.specs.Value.{HasValue}
+use Rattle.md_lp.specs.Program.{Program, row_count}
+use Rattle.md_lp.specs.Point.{IsPoint, Meets, MeetsRow}
+use Rattle.md_lp.proofs.SamePrograms.{IsSameProgram}
+use Rattle.md_border.specs.declared.interim.Interim.{Interim}
+use Rattle.md_border.specs.Odds.{IsInterim, HasOdds, HasPays}
+use Rattle.md_border.specs.Worth.{HasWorth, worth_of}
+use Rattle.md_border.proofs.DemandLaws.{den-within}
+use Rattle.md_border.proofs.MechanismWorth.{others, power-of_all, worth-of_odds}
+use Rattle.md_expost.specs.declared.masses.Masses.{Masses}
+use Rattle.md_expost.specs.Masses.{AreMasses}
+use Rattle.md_expost.specs.Implementing.{Implements}
+use Rattle.md_expost.proofs.MechanismLaws.{mechanism-of_masses, odds-of_masses, pays-of_masses}
+use Rattle.md_cert.specs.declared.bound.Bound.{Bound}
+use Rattle.md_cert.specs.declared.cert_fault.CertFault.{CertFault}
+use Rattle.md_cert.specs.declared.cert_fault.CertFault.TheVariants as fault
+use Rattle.md_cert.specs.declared.certificate.Certificate.{Certificate}
+use Rattle.md_cert.specs.Certified.{Certified}
+use Rattle.md_cert.specs.Claims.{IsOptimalPoint}
+use Rattle.md_cert.specs.Fault.{BreaksRow, IsFirstFault}
+use Rattle.md_cert.specs.Fitting.{FitsColumns, FitsRows, IsDenominator, Fits}
+use Rattle.md_cert.proofs.Duality.{optimal-claim}
+use Rattle.md_forms.proofs.OneProgram as forms
+use Rattle.md_reduced.specs.Conditions.{conditions_of}
+use Rattle.md_reduced.specs.Points.{interim_in}
+use Rattle.md_reduced.specs.ProgramOf.{IsReducedProgram, column_count, forms_of}
+use Rattle.md_reduced.specs.Sides.{cost_of}
+use Rattle.md_reduced.proofs.BuiltLaws.{rows-count}
+use Rattle.md_reduced.proofs.OptimalLaws.{makes-optimal}
+use Rattle.md_parts.specs.Fitting.{AreMultipliers, IsBoundOver}
+use Rattle.md_answer.specs.declared.answer.Answer.{Answer}
+use Rattle.md_answer.specs.declared.answer.Answer.TheVariants.{Table, Optimal, Infeasible, Unbounded, AuctionOptimal, TooWide}
+use Rattle.md_answer.specs.ReducedRows.{reduced_rows}
+use Rattle.md_claims.specs.AuctionCertificates.{auction_certificate, point_of}
+use Rattle.md_claims.specs.AuctionClaims.{IsOptimalRule, mechanism_in}
+use Rattle.md_claims.proofs.AuctionPoints.{point-length, point-nonneg, point-within, interim-back}
+use Rattle.md_check.specs.declared.verdict.Reject.TheVariants.{Audit, Value, Pair, Column, FaceRight, MainRight, RayRow, RayGain, Masses as OtherMass, Reduced}
+use Rattle.md_check.specs.declared.verdict.Verdict.{Verdict}
+use Rattle.md_check.specs.declared.verdict.Verdict.TheVariants.{Valid, Undecided, Rejected}
+use Rattle.md_check.specs.Certificates.{IsBehindPoint, Judges}
+use Rattle.md_check.specs.Verdicts.{ClaimsNothing}
+use Rattle.md_check.specs.AuctionVerdicts.{HasMass, AddUp, OfReduced, IsOtherWorth, IsRightlyAuction, IsAuctionOptimalVerdict, IsAuctionVerdict, IsSoundAuctionOptimal, IsSoundAuction, AuctionClaimHolds}
+use Rattle.md_check.proofs.SameVerdict.{meets-to, row-first, judges-to}
+use Rattle.md_check.proofs.VerdictLaws.{certified-no_fault}
+
+-- ---- the program of some cuts is one
+
+one-program : (a : SymmetricAuction) (cuts : List ℕ) (p q : Program) → IsReducedProgram a 1 cuts p → IsReducedProgram a 1 cuts q → IsSameProgram p q
+one-program a cuts p q = forms.same_program (column_count a) (forms_of a 1 (conditions_of (value_count a) cuts)) (cost_of a) p q
+
+meets-all : (a : SymmetricAuction) (cuts : List ℕ) (p : Program) (den : ℤ) (x : ℕ → ℤ) → IsReducedProgram a 1 cuts p → Meets p den x → OfReduced a cuts (λ q. Meets q den x)
+meets-all a cuts p den x is m = record { program = p; is_program = is; holds = λ q there. meets-to p q den x (one-program a cuts q p there is) m }
+
+breaks-all : (a : SymmetricAuction) (cuts : List ℕ) (p : Program) (den : ℤ) (x : ℕ → ℤ) (row : ℕ) (left right : ℤ) → IsReducedProgram a 1 cuts p → BreaksRow p den x row left right
+    → OfReduced a cuts (λ q. BreaksRow q den x row left right)
+breaks-all a cuts p den x row left right is b = record {
+  program = p;
+  is_program = is;
+  holds = λ q there. row-first p q den x row left right (one-program a cuts q p there is) b;
+}
+
+judged-all : (a : SymmetricAuction) (cuts : List ℕ) (p : Program) (c : Certificate) (v : Verdict) → IsReducedProgram a 1 cuts p → Judges p c v → OfReduced a cuts (λ q. Judges q c v)
+judged-all a cuts p c v is j = record { program = p; is_program = is; holds = λ q there. judges-to p q c v (one-program a cuts q p there is) j }
+
+never : (a : SymmetricAuction) (cuts : List ℕ) (Has : Program → Type 0) → OfReduced a cuts Has → ((p : Program) → Has p → ⊥) → ⊥
+never a cuts Has j none = none j.program (j.holds j.program j.is_program)
+
+-- ---- sizes
+
+fits-den : (a : SymmetricAuction) (interim : Interim) → IsInterim a interim → IsDenominator interim.den
+fits-den a interim h = record { positive = (let one : pos 1 ≤ℤ interim.den = h.den_positive in omega (arith, ints)); size = den-within a interim h }
+
+fits-point : (a : SymmetricAuction) (cuts : List ℕ) (p : Program) (interim : Interim) → IsReducedProgram a 1 cuts p → IsInterim a interim → FitsColumns p (point_of interim)
+fits-point a cuts p interim is h = record {
+  one_each = point-length a interim h ∙ sym is.columns;
+  sizes = point-within a interim h;
+  nonneg = λ j b. All-get_or (λ z. pos 0 ≤ℤ z) (point_of interim) j (pos 0) (omega (arith, b, point-length a interim h, is.columns)) (point-nonneg a interim h);
+}
+
+fits-rows : (a : SymmetricAuction) (cuts : List ℕ) (p : Program) (numbers : List ℤ) → IsReducedProgram a 1 cuts p → AreMultipliers (reduced_rows a cuts) numbers → FitsRows p numbers
+fits-rows a cuts p numbers is h = record { one_each = h.one_each ∙ sym (rows-count a 1 cuts p is); sizes = h.sizes }
+
+pub fits-auction : (a : SymmetricAuction) (cuts : List ℕ) (p : Program) (interim : Interim) (bound : Bound) → IsReducedProgram a 1 cuts p → IsInterim a interim
+    → IsBoundOver (reduced_rows a cuts) bound → Fits p (auction_certificate interim bound)
+fits-auction a cuts p interim bound is h b = (
+  fits-den a interim h,
+  fits-point a cuts p interim is h,
+  record { den = b.den; main = fits-rows a cuts p bound.main is b.main; face = fits-rows a cuts p bound.face is b.face },
+)
+
+-- ---- the point
+
+point-is : (a : SymmetricAuction) (cuts : List ℕ) (p : Program) (interim : Interim) → IsReducedProgram a 1 cuts p → IsInterim a interim → IsPoint p interim.den (number_at (point_of interim))
+point-is a cuts p interim is h = record { positive = (fits-den a interim h).positive; nonneg = (fits-point a cuts p interim is h).nonneg }
+
+-- where the first fault is none of the point, the point meets the program
+met : (a : SymmetricAuction) (cuts : List ℕ) (p : Program) (interim : Interim) (bound : Bound) (found : Option CertFault) → IsReducedProgram a 1 cuts p → IsInterim a interim
+    → IfSome found IsBehindPoint → (IsNone found ↔ Certified p (auction_certificate interim bound)) → IfSome found (IsFirstFault p (auction_certificate interim bound))
+    → Meets p interim.den (number_at (point_of interim))
+met a cuts p interim bound None is h behind certified told = (certified.0 refl).meets
+met a cuts p interim bound (Some (fault.Point row left right)) is h behind certified told = absurd behind
+met a cuts p interim bound (Some (fault.Pair row f m)) is h behind certified told = record { point = point-is a cuts p interim is h; rows = told.0 }
+met a cuts p interim bound (Some (fault.Column column f m)) is h behind certified told = record { point = point-is a cuts p interim is h; rows = told.0 }
+met a cuts p interim bound (Some (fault.FaceRight sum)) is h behind certified told = record { point = point-is a cuts p interim is h; rows = told.0 }
+met a cuts p interim bound (Some (fault.MainRight limit cost)) is h behind certified told = record { point = point-is a cuts p interim is h; rows = told.0 }
+met a cuts p interim bound (Some (fault.RayRow row sum)) is h behind certified told = record { point = point-is a cuts p interim is h; rows = told.0 }
+met a cuts p interim bound (Some (fault.RayGain sum)) is h behind certified told = record { point = point-is a cuts p interim is h; rows = told.0 }
+
+-- ---- the conditions in their order
+
+-- the verdict on odds and payments whose masses, rows and value are right
+rightly-verdict : (a : SymmetricAuction) (value : Frac) (interim : Interim) (masses : Masses) (cuts : List ℕ) (bound : Bound) (v : Verdict) → IsRightlyAuction a value interim masses cuts
+    → OfReduced a cuts (λ p. Judges p (auction_certificate interim bound) v) → IsAuctionOptimalVerdict a value interim masses cuts bound v
+rightly-verdict a value interim masses cuts bound Valid r j = (r, j)
+rightly-verdict a value interim masses cuts bound Undecided r j = (r, j)
+rightly-verdict a value interim masses cuts bound (Rejected (Audit broken)) r j = (r, j)
+rightly-verdict a value interim masses cuts bound (Rejected (Value right)) r j = absurd (never a cuts (λ p. ⊥) j (λ p h. h))
+rightly-verdict a value interim masses cuts bound (Rejected (Pair row f m)) r j = (r, j)
+rightly-verdict a value interim masses cuts bound (Rejected (Column column f m)) r j = (r, j)
+rightly-verdict a value interim masses cuts bound (Rejected (FaceRight sum)) r j = (r, j)
+rightly-verdict a value interim masses cuts bound (Rejected (MainRight limit cost)) r j = (r, j)
+rightly-verdict a value interim masses cuts bound (Rejected (RayRow row sum)) r j = (r, j)
+rightly-verdict a value interim masses cuts bound (Rejected (RayGain sum)) r j = (r, j)
+rightly-verdict a value interim masses cuts bound (Rejected (OtherMass kind sum demand)) r j = absurd (never a cuts (λ p. ⊥) j (λ p h. h))
+rightly-verdict a value interim masses cuts bound (Rejected (Reduced row left right)) r j = absurd (never a cuts (λ p. ⊥) j (λ p h. h))
+
+pub told-row : (a : SymmetricAuction) (value : Frac) (interim : Interim) (masses : Masses) (cuts : List ℕ) (bound : Bound) (p : Program) (row : ℕ) (left right : ℤ) → IsReducedProgram a 1 cuts p
+    → AddUp a interim masses → IsFirstFault p (auction_certificate interim bound) (fault.Point row left right) → IsAuctionOptimalVerdict a value interim masses cuts bound (Rejected (Reduced row left right))
+told-row a value interim masses cuts bound p row left right is add_up told = (add_up, breaks-all a cuts p interim.den (number_at (point_of interim)) row left right is told)
+
+pub told-value : (a : SymmetricAuction) (value right : Frac) (interim : Interim) (masses : Masses) (cuts : List ℕ) (bound : Bound) (p : Program) (found : Option CertFault) → IsReducedProgram a 1 cuts p
+    → IsInterim a interim → AddUp a interim masses → IfSome found IsBehindPoint → (IsNone found ↔ Certified p (auction_certificate interim bound)) → IfSome found (IsFirstFault p (auction_certificate interim bound))
+    → IsOtherWorth a interim value right → IsAuctionOptimalVerdict a value interim masses cuts bound (Rejected (Value right))
+told-value a value right interim masses cuts bound p found is h add_up behind certified told other =
+    (add_up, meets-all a cuts p interim.den (number_at (point_of interim)) is (met a cuts p interim bound found is h behind certified told), other)
+
+pub told-fault : (a : SymmetricAuction) (value : Frac) (interim : Interim) (masses : Masses) (cuts : List ℕ) (bound : Bound) (p : Program) (found : Option CertFault) (v : Verdict)
+    → IsReducedProgram a 1 cuts p → IsInterim a interim → AddUp a interim masses → IfSome found IsBehindPoint → (IsNone found ↔ Certified p (auction_certificate interim bound))
+    → IfSome found (IsFirstFault p (auction_certificate interim bound)) → HasWorth a interim value → Judges p (auction_certificate interim bound) v → IsAuctionOptimalVerdict a value interim masses cuts bound v
+told-fault a value interim masses cuts bound p found v is h add_up behind certified told worth j =
+    rightly-verdict a value interim masses cuts bound v
+    (record {
+      add_up = add_up;
+      meets = meets-all a cuts p interim.den (number_at (point_of interim)) is (met a cuts p interim bound found is h behind certified told);
+      worth = worth;
+    })
+    (judged-all a cuts p (auction_certificate interim bound) v is j)
+
+-- ---- where all conditions hold the verdict is valid
+
+optimal-sound : (a : SymmetricAuction) (p : Program) (value : Frac) (interim : Interim) (masses : Masses) (cuts : List ℕ) (bound : Bound) (v : Verdict)
+    → IsAuctionOptimalVerdict a value interim masses cuts bound v → IsSoundAuctionOptimal a p value interim masses cuts bound → v ≡ Valid
+optimal-sound a p value interim masses cuts bound Valid v h = refl
+optimal-sound a p value interim masses cuts bound Undecided v h = absurd (v.1.holds p h.is_program)
+optimal-sound a p value interim masses cuts bound (Rejected (OtherMass kind sum demand)) v h = absurd (HoldsBelow-no_failure (HasMass a interim masses) (value_count a) kind h.add_up v.first)
+optimal-sound a p value interim masses cuts bound (Rejected (Reduced row left right)) v h =
+    absurd (HoldsBelow-no_failure (MeetsRow p interim.den (number_at (point_of interim))) (row_count p) row h.certified.meets.rows (v.1.holds p h.is_program).first)
+optimal-sound a p value interim masses cuts bound (Rejected (Value right)) v h = absurd (v.2.other h.worth)
+optimal-sound a p value interim masses cuts bound (Rejected (Audit broken)) v h = absurd (certified-no_fault p (auction_certificate interim bound) (Audit broken) h.certified (v.1.holds p h.is_program))
+optimal-sound a p value interim masses cuts bound (Rejected (Pair row f m)) v h = absurd (certified-no_fault p (auction_certificate interim bound) (Pair row f m) h.certified (v.1.holds p h.is_program))
+optimal-sound a p value interim masses cuts bound (Rejected (Column column f m)) v h = absurd (certified-no_fault p (auction_certificate interim bound) (Column column f m) h.certified (v.1.holds p h.is_program))
+optimal-sound a p value interim masses cuts bound (Rejected (FaceRight sum)) v h = absurd (certified-no_fault p (auction_certificate interim bound) (FaceRight sum) h.certified (v.1.holds p h.is_program))
+optimal-sound a p value interim masses cuts bound (Rejected (MainRight limit cost)) v h = absurd (certified-no_fault p (auction_certificate interim bound) (MainRight limit cost) h.certified (v.1.holds p h.is_program))
+optimal-sound a p value interim masses cuts bound (Rejected (RayRow row sum)) v h = absurd (certified-no_fault p (auction_certificate interim bound) (RayRow row sum) h.certified (v.1.holds p h.is_program))
+optimal-sound a p value interim masses cuts bound (Rejected (RayGain sum)) v h = absurd (certified-no_fault p (auction_certificate interim bound) (RayGain sum) h.certified (v.1.holds p h.is_program))
+
+sound : (a : SymmetricAuction) (p : Program) (answer : Answer) (v : Verdict) → IsAuctionVerdict a answer v → IsSoundAuction a p answer → v ≡ Valid
+sound a p (AuctionOptimal value interim masses cuts bound) v is h = optimal-sound a p value interim masses cuts bound v is h
+sound a p (TooWide cuts first second) v is h = absurd h
+sound a p (Table m) v is h = absurd h
+sound a p (Optimal value m bound) v is h = absurd h
+sound a p (Infeasible face) v is h = absurd h
+sound a p (Unbounded m ray) v is h = absurd h
+
+-- ---- undecided
+
+optimal-decided : (a : SymmetricAuction) (value : Frac) (interim : Interim) (masses : Masses) (cuts : List ℕ) (bound : Bound) (v : Verdict)
+    → IsAuctionOptimalVerdict a value interim masses cuts bound v → v ≢ Undecided
+optimal-decided a value interim masses cuts bound Valid v = λ e. cc
+optimal-decided a value interim masses cuts bound Undecided v = absurd (never a cuts (λ p. ⊥) v.1 (λ p h. h))
+optimal-decided a value interim masses cuts bound (Rejected reject) v = λ e. cc
+
+undecided : (a : SymmetricAuction) (answer : Answer) (v : Verdict) → IsAuctionVerdict a answer v → (v ≡ Undecided) ↔ ClaimsNothing answer
+undecided a (AuctionOptimal value interim masses cuts bound) v is = (λ e. absurd (optimal-decided a value interim masses cuts bound v is e), λ n. absurd n)
+undecided a (TooWide cuts first second) v is = (λ e. tt, λ n. is)
+undecided a (Table m) v is = absurd is
+undecided a (Optimal value m bound) v is = absurd is
+undecided a (Infeasible face) v is = absurd is
+undecided a (Unbounded m ray) v is = absurd is
+
+-- ---- what is claimed
+
+-- a fraction that the odds and payments are worth is the value of each mechanism with them
+value-of_mechanism : (a : SymmetricAuction) (m : Mechanism) (interim : Interim) (value : Frac) → IsAuction a → pos 1 ≤ℤ interim.den → IsMechanism (general_of a) m
+    → HasOdds a m interim.den interim.odds → HasPays a m interim.den interim.pays → HasWorth a interim value → HasValue (general_of a) m value
+value-of_mechanism a m interim value shaped positive mechanism odds pays is =
+    let s = general_of a in
+    let d = interim.den in
+    let f = pos (total_weight a.weights) in
+    *ℤ_cancel d (value.num *ℤ (m.den *ℤ total_of s)) (mechanism_worth s m *ℤ value.den) (some d positive)
+    (ap (λ z. d *ℤ (value.num *ℤ (m.den *ℤ z))) (total_of-general a shaped.one_each ∙ power-of_all a shaped.some_bidder)
+    ∙ first d value.num m.den f (others a)
+    ∙ ap (λ z. (m.den *ℤ others a) *ℤ z) is
+    ∙ second (m.den *ℤ others a) (worth_of a interim) value.den
+    ∙ ap (λ z. z *ℤ value.den) (sym (worth-of_odds a m interim shaped mechanism odds pays))
+    ∙ third d (mechanism_worth s m) value.den)
+  where
+    some : (z : ℤ) → pos 1 ≤ℤ z → pos 0 <ℤ z
+    some z l = omega (arith, ints)
+
+    first : (d x m f o : ℤ) → d *ℤ (x *ℤ (m *ℤ (f *ℤ o))) ≡ (m *ℤ o) *ℤ (x *ℤ (f *ℤ d))
+    first d x m f o = simp ring
+
+    second : (c w e : ℤ) → c *ℤ (w *ℤ e) ≡ (c *ℤ w) *ℤ e
+    second c w e = simp ring
+
+    third : (d w e : ℤ) → (d *ℤ w) *ℤ e ≡ d *ℤ (w *ℤ e)
+    third d w e = simp ring
+
+valid-claim : (a : SymmetricAuction) (value : Frac) (interim : Interim) (masses : Masses) (cuts : List ℕ) (bound : Bound) → IsAuction a → IsInterim a interim → AreMasses a masses
+    → masses.den ≡ interim.den → IsAuctionOptimalVerdict a value interim masses cuts bound Valid → IsOptimalRule a interim masses × HasValue (general_of a) (mechanism_in a interim masses) value
+valid-claim a value interim masses cuts bound shaped h are same_den v = (
+  record { optimal = makes-optimal a cuts p shaped v.1.is_program m interim.den x greatest mechanism (subst (λ i. HasOdds a m interim.den i.odds) (sym back) odds) (subst (λ i. HasPays a m interim.den i.pays) (sym back) pays); odds = odds; pays = pays },
+  value-of_mechanism a m interim value shaped h.den_positive mechanism odds pays v.0.worth,
+)
+  where
+    p : Program
+    p = v.1.program
+
+    x : ℕ → ℤ
+    x = number_at (point_of interim)
+
+    m : Mechanism
+    m = mechanism_in a interim masses
+
+    greatest : IsOptimalPoint p interim.den x
+    greatest = optimal-claim p interim.den bound.den x (number_at bound.main) (number_at bound.face) (v.1.holds p v.1.is_program)
+
+    mechanism : IsMechanism (general_of a) m
+    mechanism = mechanism-of_masses a masses interim.pays shaped are
+
+    exact : Implements a interim masses
+    exact = record { same_den = same_den; exact = λ k l. v.0.add_up.holds k l }
+
+    odds : HasOdds a m interim.den interim.odds
+    odds = odds-of_masses a interim masses interim.pays shaped are exact
+
+    pays : HasPays a m interim.den interim.pays
+    pays = subst (λ d. HasPays a m d interim.pays) same_den (pays-of_masses a masses interim.pays shaped)
+
+    back : interim_in a interim.den x ≡ interim
+    back = interim-back a interim h
+
+claimed : (a : SymmetricAuction) (value : Frac) (interim : Interim) (masses : Masses) (cuts : List ℕ) (bound : Bound) (v : Verdict) → IsAuction a → IsInterim a interim → AreMasses a masses
+    → masses.den ≡ interim.den → IsAuctionOptimalVerdict a value interim masses cuts bound v → v ≡ Valid → IsOptimalRule a interim masses × HasValue (general_of a) (mechanism_in a interim masses) value
+claimed a value interim masses cuts bound v shaped h are same_den is valid =
+    valid-claim a value interim masses cuts bound shaped h are same_den (subst (IsAuctionOptimalVerdict a value interim masses cuts bound) valid is)
+
+-- ---- the answer of a call
+
+pub if_add_up : (a : SymmetricAuction) (value : Frac) (interim : Interim) (masses : Masses) (cuts : List ℕ) (bound : Bound) (r : Result Verdict NoMemory) → AddUp a interim masses
+    → IfOk r (λ v. (y : Masses) → AddUp a interim y → IsAuctionOptimalVerdict a value interim y cuts bound v) → IfOk r (IsAuctionOptimalVerdict a value interim masses cuts bound)
+if_add_up a value interim masses cuts bound (Ok v) add_up is = is masses add_up
+if_add_up a value interim masses cuts bound (Err e) add_up is = tt
+
+pub if_claimed : (a : SymmetricAuction) (value : Frac) (interim : Interim) (masses : Masses) (cuts : List ℕ) (bound : Bound) (r : Result Verdict NoMemory) → IsAuction a → IsInterim a interim
+    → AreMasses a masses → masses.den ≡ interim.den → IfOk r (IsAuctionOptimalVerdict a value interim masses cuts bound)
+    → IfOk r (λ v. v ≡ Valid → AuctionClaimHolds a (AuctionOptimal value interim masses cuts bound))
+if_claimed a value interim masses cuts bound (Ok v) shaped h are same_den is = claimed a value interim masses cuts bound v shaped h are same_den is
+if_claimed a value interim masses cuts bound (Err e) shaped h are same_den is = tt
+
+pub if_sound_auction : (a : SymmetricAuction) (answer : Answer) (r : Result Verdict NoMemory) → IfOk r (IsAuctionVerdict a answer) → IfOk r (λ v. (p : Program) → IsSoundAuction a p answer → v ≡ Valid)
+if_sound_auction a answer (Ok v) is = λ p h. sound a p answer v is h
+if_sound_auction a answer (Err e) is = tt
+
+pub if_undecided_auction : (a : SymmetricAuction) (answer : Answer) (r : Result Verdict NoMemory) → IfOk r (IsAuctionVerdict a answer) → IfOk r (λ v. (v ≡ Undecided) ↔ ClaimsNothing answer)
+if_undecided_auction a answer (Ok v) is = undecided a answer v is
+if_undecided_auction a answer (Err e) is = tt

@@ -1,0 +1,146 @@
+//! The verdict on an answer about an auction.
+ghost use Rattle.std.specs.Prelude.{◌≡◌, ◌↔◌, IsNone, IfSome, IfNone, IfOk, List, ℕ};
+ghost use Rattle.md_num.specs.declared.frac.Frac.{Frac};
+ghost use Rattle.md_setting.specs.Auction.{value_count};
+ghost use Rattle.md_setting.specs.AuctionShaped.{IsAuction};
+ghost use Rattle.md_lp.specs.Cuts.{AreCuts};
+ghost use Rattle.md_lp.specs.Program.{Program};
+ghost use Rattle.md_border.specs.Odds.{IsInterim};
+ghost use Rattle.md_expost.specs.declared.masses.Masses.{Masses};
+ghost use Rattle.md_expost.specs.Masses.{AreMasses};
+ghost use Rattle.md_cert.specs.declared.bound.Bound.{Bound};
+ghost use Rattle.md_cert.specs.Certified.{Certified};
+ghost use Rattle.md_cert.specs.Fault.{IsFirstFault};
+ghost use Rattle.md_reduced.specs.ProgramOf.{IsReducedProgram};
+ghost use Rattle.md_parts.specs.Fitting.{IsFraction, IsBoundOver};
+ghost use Rattle.md_answer.specs.declared.answer.Answer.TheVariants.{AuctionOptimal};
+ghost use Rattle.md_answer.specs.AuctionAnswerTo.{IsAuctionAnswer};
+ghost use Rattle.md_answer.specs.ReducedRows.{reduced_rows};
+ghost use Rattle.md_claims.specs.AuctionCertificates.{auction_certificate};
+ghost use Rattle.md_check.specs.declared.verdict.Verdict.TheVariants.{Valid, Rejected};
+ghost use Rattle.md_check.specs.AuctionVerdicts.{AddUp, IsAuctionOptimalVerdict, IsAuctionVerdict, AuctionClaimHolds};
+
+use crate::faults::verdict_by;
+use crate::points::auction_certificate;
+use crate::value::other_worth;
+use crate::verdict::{Reject, Verdict};
+use md_answer::Answer;
+use md_border::{Interim, demand};
+use md_cert::{Bound, CertFault, check_lp};
+use md_expost::{Masses, mass_sum};
+use md_lp::Sets;
+use md_num::{Frac, NoMemory};
+use md_reduced::program;
+use md_setting::Auction;
+use std::alloc::Global;
+
+/// The verdict on an answer to the auction.
+pub(crate) fn check_auction(
+    alloc: Global,
+    auction: &Auction,
+    answer: &Answer,
+) -> Result<Verdict, NoMemory>
+    requires { IsAuctionAnswer auction.now answer.now }
+    ensures verdict { IfOk result (IsAuctionVerdict auction.now answer.now) }
+    ensures claim { IfOk result (λ verdict. verdict ≡ Valid → AuctionClaimHolds auction.now answer.now) }
+{
+    match answer {
+        Answer::AuctionOptimal {
+            value,
+            interim,
+            masses,
+            cuts,
+            bound,
+        } => check_optimal(alloc, auction, value, interim, masses, cuts, bound),
+        Answer::TooWide { .. } => Ok(Verdict::Undecided),
+        Answer::Table(_)
+        | Answer::Optimal { .. }
+        | Answer::Infeasible { .. }
+        | Answer::Unbounded { .. } => unreachable!(),
+    }
+}
+
+// The verdict on odds and payments with their value, masses, cuts and multipliers.
+fn check_optimal(
+    alloc: Global,
+    auction: &Auction,
+    value: &Frac,
+    interim: &Interim,
+    masses: &Masses,
+    cuts: &Sets,
+    bound: &Bound,
+) -> Result<Verdict, NoMemory>
+    requires fraction { IsFraction value.now.num value.now.den }
+    requires interim { IsInterim auction.now interim.now }
+    requires masses { AreMasses auction.now masses.now }
+    requires same_den { masses.now.den ≡ interim.now.den }
+    requires cuts { AreCuts (value_count auction.now) cuts.now }
+    requires bound { IsBoundOver (reduced_rows auction.now cuts.now) bound.now }
+    ensures verdict { IfOk result (IsAuctionOptimalVerdict auction.now value.now interim.now masses.now cuts.now bound.now) }
+    ensures claim { IfOk result (λ verdict. verdict ≡ Valid → AuctionClaimHolds auction.now (AuctionOptimal value.now interim.now masses.now cuts.now bound.now)) }
+{
+    if let Some(reject) = other_mass(auction, interim, masses) {
+        return Ok(Verdict::Rejected(reject));
+    }
+    judge_odds(alloc, auction, value, interim, cuts, bound)
+}
+
+// The first value whose masses are more or less than its demand, with both.
+fn other_mass(auction: &Auction, interim: &Interim, masses: &Masses) -> Option<Reject>
+    requires interim { IsInterim auction.now interim.now }
+    requires masses { AreMasses auction.now masses.now }
+    ensures none { IfNone result (AddUp auction.now interim.now masses.now) }
+    ensures some { IfSome result (λ reject. (value : Frac) (cuts : List ℕ) (bound : Bound) → IsAuctionOptimalVerdict auction.now value interim.now masses.now cuts bound (Rejected reject)) }
+    ensures shaped { IsAuction auction.now }
+{
+    for kind in 0..auction.kinds() {
+        let sum = mass_sum(auction, masses, kind);
+        let demand = demand(auction, interim, kind);
+        if sum != demand {
+            return Some(Reject::Masses { kind, sum, demand });
+        }
+    }
+    None
+}
+
+// The verdict on odds and payments whose masses add up, by the reduced program with the cuts.
+fn judge_odds(
+    alloc: Global,
+    auction: &Auction,
+    value: &Frac,
+    interim: &Interim,
+    cuts: &Sets,
+    bound: &Bound,
+) -> Result<Verdict, NoMemory>
+    requires fraction { IsFraction value.now.num value.now.den }
+    requires interim { IsInterim auction.now interim.now }
+    requires cuts { AreCuts (value_count auction.now) cuts.now }
+    requires bound { IsBoundOver (reduced_rows auction.now cuts.now) bound.now }
+    ensures { IfOk result (λ verdict. (masses : Masses) → AddUp auction.now interim.now masses → IsAuctionOptimalVerdict auction.now value.now interim.now masses cuts.now bound.now verdict) }
+{
+    let lp = program(alloc, auction, cuts)?;
+    let certificate = auction_certificate(alloc, interim, bound)?;
+    let fault = check_lp(&lp, &certificate);
+    Ok(judge_fault(auction, value, interim, fault))
+}
+
+// The verdict on odds and payments by the first fault of their point with its multipliers: a row that the point breaks comes
+// before the value, and any other fault after it.
+fn judge_fault(
+    auction: &Auction,
+    value: &Frac,
+    interim: &Interim,
+    fault: Option<CertFault>,
+) -> Verdict
+    requires fraction { IsFraction value.now.num value.now.den }
+    requires interim { IsInterim auction.now interim.now }
+    ensures { (p : Program) (masses : Masses) (cuts : List ℕ) (bound : Bound) → IsReducedProgram auction.now 1 cuts p → AddUp auction.now interim.now masses → (IsNone fault ↔ Certified p (auction_certificate interim.now bound)) → IfSome fault (IsFirstFault p (auction_certificate interim.now bound)) → IsAuctionOptimalVerdict auction.now value.now interim.now masses cuts bound result }
+{
+    if let Some(CertFault::Point { row, left, right }) = fault {
+        return Verdict::Rejected(Reject::Reduced { row, left, right });
+    }
+    if let Some(right) = other_worth(auction, interim, value) {
+        return Verdict::Rejected(Reject::Value { right });
+    }
+    verdict_by(fault)
+}
