@@ -6,3 +6,5 @@ pub mod BoundFits
 pub mod SameAnswers
 pub mod OneAnswer
 pub mod WideFits
+pub mod OneFraction
+pub mod AuctionAnswers

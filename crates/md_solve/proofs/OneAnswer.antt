@@ -1,11 +1,8 @@
 -- A setting and a width have one answer.
 use Rattle.std.proofs.Common.{◌≡◌, ◌⊎◌, ℕ, ℤ, pos, ◌*ℤ◌, ◌<ℤ◌, List, [], Option, None, Some, sym, ap, ◌∙◌, subst, arith, inl, inr}
-use lib.IntN.{*ℤ_comm}
 use Rattle.std.proofs.lemmas.Int.{ints}
 use Rattle.md_math.specs.Lists.{number_at}
-use Rattle.md_math.proofs.Fractions.{same_from_IsLeastTerms}
-use Rattle.md_math.proofs.Order.{*ℤ_cancel, positive-*ℤ}
-use Rattle.md_math.proofs.Ring.{*ℤ_assoc}
+use Rattle.md_math.proofs.Order.{positive-*ℤ}
 use Rattle.md_num.specs.declared.frac.Frac.{Frac}
 use Rattle.md_setting.specs.Setting.{GeneralSetting}
 use Rattle.md_setting.specs.Meaning.{total_of}
@@ -28,20 +25,13 @@ use Rattle.md_answer.specs.declared.answer.Answer.TheVariants.{Table, Optimal, I
 use Rattle.md_solve.specs.Shown.{IsSo}
 use Rattle.md_mech.specs.Value.{IsValueOf}
 use Rattle.md_solve.specs.Solved.{IsSecondWide, IsSolvedBy, TellsCertificate, TellsRun}
+use Rattle.md_solve.proofs.OneFraction.{one_fraction}
 
 -- ---- one value
 
 value-one : (s : GeneralSetting) (m : Mechanism) (v w : Frac) → pos 0 <ℤ (m.den *ℤ total_of s) → IsValueOf s m v → IsValueOf s m w → v ≡ w
 value-one s m v w above a b =
-    let whole = m.den *ℤ total_of s in
-    let left : whole *ℤ (v.num *ℤ w.den) ≡ worth_of s m *ℤ (v.den *ℤ w.den) =
-    sym (*ℤ_assoc whole v.num w.den) ∙ ap (λ z. z *ℤ w.den) (*ℤ_comm whole v.num ∙ a.is_value) ∙ *ℤ_assoc (worth_of s m) v.den w.den in
-    let right : whole *ℤ (w.num *ℤ v.den) ≡ worth_of s m *ℤ (w.den *ℤ v.den) =
-    sym (*ℤ_assoc whole w.num v.den) ∙ ap (λ z. z *ℤ v.den) (*ℤ_comm whole w.num ∙ b.is_value) ∙ *ℤ_assoc (worth_of s m) w.den v.den in
-    let cross : v.num *ℤ w.den ≡ w.num *ℤ v.den =
-    *ℤ_cancel whole (v.num *ℤ w.den) (w.num *ℤ v.den) above (left ∙ ap (λ z. worth_of s m *ℤ z) (*ℤ_comm v.den w.den) ∙ sym right) in
-    let same = same_from_IsLeastTerms v.num v.den w.num w.den a.least b.least cross in
-    ap (λ n. record { num = n; den = v.den }) same.0 ∙ ap (λ d. record { num = w.num; den = d }) same.1
+    one_fraction (worth_of s m) (m.den *ℤ total_of s) v w above (record { same = a.is_value; least = a.least }) (record { same = b.is_value; least = b.least })
 
 -- ---- one answer of a certificate
 

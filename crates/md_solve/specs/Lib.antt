@@ -3,3 +3,4 @@ pub mod Bounds
 pub mod Certifies
 pub mod Shown
 pub mod Solved
+pub mod AuctionSolved

@@ -1,10 +1,14 @@
-//! General settings solved: an optimal mechanism with its value and bound, or why there is none.
+//! General settings and auctions solved: an optimal mechanism with its value and bound, or why there is none.
 #![tactic(auto)]
 
 mod answers;
+mod auctions;
+mod general;
 mod solving;
 
 pub use solving::solve;
 
+#[cfg(test)]
+mod auction_tests;
 #[cfg(test)]
 mod tests;

@@ -1,8 +1,9 @@
-//! The paths of a setting's program, and what is told of their ends.
-ghost use Rattle.std.specs.Prelude.{◌≡◌, ◌↔◌, List, IfOk};
-ghost use Rattle.md_setting.specs.ByKind.{IsGeneral, WhereGeneral};
+//! Settings and auctions solved.
+ghost use Rattle.std.specs.Prelude.{◌≡◌, ◌↔◌, ℕ, List, Some, IfOk};
+ghost use Rattle.md_setting.specs.ByKind.{WhereAuction, WhereGeneral};
 ghost use Rattle.md_lp.specs.Program.{Program};
 ghost use Rattle.md_lp.specs.declared.pivot.Pivot.{Pivot};
+ghost use Rattle.md_lp.specs.declared.wide.Wide.{Wide};
 ghost use Rattle.md_mech.specs.Admissible.{IsAdmissible};
 ghost use Rattle.md_mech.specs.Optimal.{Grows, IsInfeasible, IsOptimal};
 ghost use Rattle.md_mech.specs.Value.{IsValueOf};
@@ -10,21 +11,23 @@ ghost use Rattle.md_rows.specs.ProgramOf.{IsProgramOf};
 ghost use Rattle.md_simplex.specs.declared.order.Order.{Order};
 ghost use Rattle.md_simplex.specs.declared.step.Step.{Step};
 ghost use Rattle.md_simplex.specs.Runs.{IsTaken, MeetsWideBasis};
+ghost use Rattle.md_cuts.specs.declared.optimum.Optimum.{Optimum};
+ghost use Rattle.md_cuts.specs.AuctionCuts.{auction_cutting};
+ghost use Rattle.md_cuts.specs.CutRuns.{EndsSettled, EndsWide};
 ghost use Rattle.md_answer.specs.AnswerTo.{IsAnswerTo};
+ghost use Rattle.md_answer.specs.AuctionAnswerTo.{IsAuctionAnswer};
 ghost use Rattle.md_answer.specs.declared.answer.Answer.{Answer};
 ghost use Rattle.md_solve.specs.Answered.{ClaimsEnd, ClaimsInfeasible, ClaimsUnbounded, IsMechanismAlone, IsTooWide, WhereInfeasible, WhereOptimal, WhereUnbounded};
+ghost use Rattle.md_solve.specs.AuctionSolved.{ClaimsAuctionOptimal, IsAuctionSo, IsAuctionSolved, IsCertifiedAuction, IsSameButMasses, WhereAuctionOptimal};
 ghost use Rattle.md_solve.specs.Bounds.{HasNoBound};
 ghost use Rattle.md_solve.specs.Certifies.{IsCertifiedAnswer};
-ghost use Rattle.md_solve.specs.Shown.{IsSo};
 ghost use Rattle.md_solve.specs.Solved.{IsSolved, IsSolvedBy};
 
-use crate::answers::told;
+use crate::auctions::solve_by_cuts;
+use crate::general::solve_general;
 use md_answer::Answer;
-use md_lp::{Lp, Sets};
 use md_num::{NoMemory, Width};
-use md_rows::rows_of;
-use md_setting::{Setting, SettingFile};
-use md_simplex::{SimplexError, run};
+use md_setting::SettingFile;
 use std::alloc::Global;
 
 /// Solves a setting: a path of its linear program is followed to its end, and what is read off there is told.
@@ -33,8 +36,11 @@ use std::alloc::Global;
 /// and again with a gain each time. There are two paths, one of each order of columns; the backward one is taken where the
 /// forward one has a basis with an entry that is too wide. Where both have one, the pivots to the first such basis and its
 /// first such entry are told instead, for each path.
+///
+/// Of an auction the programs of its cut run are solved so, one after the other, each with one more of Border's conditions.
+/// The answer is a mass table whose mechanism is optimal, with its odds and payments, its value and multipliers of the last
+/// program; or the cuts and both first wide bases of that program.
 pub fn solve(alloc: Global, file: &SettingFile, width: Width) -> Result<Answer, NoMemory>
-    requires general { IsGeneral file.now }
     ensures solved { WhereGeneral (λ s. IfOk result (IsSolved s width)) file.now }
 
     // A setting and a width have one answer.
@@ -64,34 +70,23 @@ pub fn solve(alloc: Global, file: &SettingFile, width: Width) -> Result<Answer, 
 
     // The answer can be written, and what is written is read as the same answer.
     ensures writable { WhereGeneral (λ s. IfOk result (IsAnswerTo s)) file.now }
-{
-    let SettingFile::General(setting) = file else {
-        unreachable!()
-    };
-    let _shaped = setting.space();
-    let lp = rows_of(alloc, setting)?;
-    answer(alloc, setting, &lp, width)
-}
 
-// What is told of the paths of the setting's program.
-fn answer(alloc: Global, setting: &Setting, lp: &Lp, width: Width) -> Result<Answer, NoMemory>
-    requires { IsProgramOf setting.now lp.now }
-    ensures solved { IfOk result (IsSolvedBy setting.now lp.now width) }
-    ensures so { IfOk result (IsSo setting.now) }
-    ensures taken { (order : Order) (pivots : List Pivot) (step : Step) → IsTaken order lp.now width pivots step → IfOk result (ClaimsEnd step) }
-    ensures wide { MeetsWideBasis Order.Forward lp.now width → MeetsWideBasis Order.Backward lp.now width → IfOk result IsTooWide }
-    ensures certified { IfOk result (IsCertifiedAnswer setting.now lp.now) }
-    ensures writable { IfOk result (IsAnswerTo setting.now) }
+    // Of an auction the cuts are those of the cut run, what is read off its last program is told, and nothing but the mass
+    // table may be another one.
+    ensures auction_solved { WhereAuction (λ a. IfOk result (IsAuctionSolved a width)) file.now }
+    ensures auction_only { WhereAuction (λ a. (other : Answer) → IsAuctionSolved a width other → IfOk result (λ answer. IsSameButMasses answer other)) file.now }
+
+    // Its mechanism is optimal over all mechanisms of the auction, has exactly the odds and payments, and has the value.
+    ensures auction_optimal { WhereAuction (λ a. IfOk result (WhereAuctionOptimal (IsAuctionSo a))) file.now }
+    ensures auction_certified { WhereAuction (λ a. (p : Program) → IfOk result (IsCertifiedAuction a p)) file.now }
+
+    // Where the run comes to its end there is such an answer, and where its last program has no taken path this is told.
+    ensures auction_settled { WhereAuction (λ a. (cuts : List ℕ) (optimum : Optimum) → EndsSettled (auction_cutting a) width cuts optimum → IfOk result ClaimsAuctionOptimal) file.now }
+    ensures auction_wide { WhereAuction (λ a. (cuts : List ℕ) (first second : Wide) → EndsWide (auction_cutting a) width cuts first second → IfOk result (λ answer. answer ≡ Answer.TooWide cuts first (Some second))) file.now }
+    ensures auction_writable { WhereAuction (λ a. IfOk result (IsAuctionAnswer a)) file.now }
 {
-    let _shaped = lp.rows();
-    let _range = width.limit();
-    match run(alloc, lp, width) {
-        Ok(end) => told(alloc, setting, lp, end.certificate),
-        Err(SimplexError::TooWide { first, second }) => Ok(Answer::TooWide {
-            cuts: Sets::new(alloc),
-            first,
-            second: Some(second),
-        }),
-        Err(SimplexError::Memory) => Err(NoMemory),
+    match file {
+        SettingFile::General(setting) => solve_general(alloc, setting, width),
+        SettingFile::Auction(auction) => solve_by_cuts(alloc, auction, width),
     }
 }

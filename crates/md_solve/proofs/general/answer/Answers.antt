@@ -11,7 +11,7 @@ use Rattle.md_solve.specs.Solved.{IsSolvedBy, TellsCertificate}
 use Rattle.md_solve.proofs.Claims.{not-memory, so, certified, claims-end}
 use Rattle.md_solve.proofs.OneAnswer.{run-solves}
 use Rattle.md_solve.proofs.WideFits.{wide-fits}
-use Rattle.md_solve.proofs.solving.answer.Goals as goal
+use Rattle.md_solve.proofs.general.answer.Goals as goal
 
 pub returns-in-Ok-clause-solved : goal.returns-in-Ok-clause-solved
 returns-in-Ok-clause-solved c =
