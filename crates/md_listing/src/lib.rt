@@ -3,5 +3,7 @@
 
 mod listing;
 mod pairs;
+mod reduced;
 
 pub use listing::{list_program, list_rows};
+pub use reduced::list_reduced;
