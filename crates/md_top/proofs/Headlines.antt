@@ -49,10 +49,10 @@ valid : (s : GeneralSetting) (width : ℕ) (answer : Answer) → IsShownBy s wid
 valid s width (Table m) h narrow = absurd (h.claims tt)
 valid s width (Optimal value m bound) h narrow = (
   record { admissible = h.optimal.admissible; value = h.value.is_value },
-  record { program = h.solved.program; is_program = h.solved.is_program; judged = h.certified },
+  record { program = h.solved.program; is_program = h.solved.is_program; holds = h.certified },
 )
-valid s width (Infeasible face) h narrow = record { program = h.solved.program; is_program = h.solved.is_program; judged = h.certified }
-valid s width (Unbounded m ray) h narrow = (h.admissible, record { program = h.solved.program; is_program = h.solved.is_program; judged = h.certified })
+valid s width (Infeasible face) h narrow = record { program = h.solved.program; is_program = h.solved.is_program; holds = h.certified }
+valid s width (Unbounded m ray) h narrow = (h.admissible, record { program = h.solved.program; is_program = h.solved.is_program; holds = h.certified })
 valid s width (AuctionOptimal value interim masses cuts bound) h narrow = absurd (h.certified h.solved.program h.solved.is_program)
 valid s width (TooWide cuts first second) h narrow = absurd (narrow tt)
 

@@ -1,5 +1,6 @@
 pub mod Files
 pub mod Headlines
+pub mod AuctionHeadlines
 pub mod Limits
 pub mod Outcomes
 pub mod Works

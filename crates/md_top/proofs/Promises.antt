@@ -9,19 +9,16 @@ use Rattle.md_words.specs.Commands.{command_in}
 use Rattle.md_words.specs.Words.{Order, command_of}
 use Rattle.md_words.specs.declared.command.Command.{Command}
 use Rattle.md_words.specs.declared.command.Command.TheVariants.{Audit, Rows, Check, Solve, Replay, Realise}
-use Rattle.md_setting.specs.Setting.{GeneralSetting}
-use Rattle.md_setting.specs.ByKind.{WhereGeneral}
 use Rattle.md_setting.specs.declared.file.SettingFile.{SettingFile}
 use Rattle.md_setting.specs.declared.file.SettingFile.TheVariants.{General, Auction}
 use Rattle.md_top.specs.declared.refusal.Refusal.{Refusal}
 use Rattle.md_top.specs.declared.refusal.Refusal.TheVariants as refusal
-use Rattle.md_top.specs.Headline.{IsHeadline}
 use Rattle.md_top.specs.Promises.{IsComplete, IsFaultless, IsHeadlineBy, IsHeadlineOf, IsPrinted, IsReplied}
 use Rattle.md_top.specs.Refused.{refused, status_of}
-use Rattle.md_top.specs.Reading.{is_general, setting_in}
+use Rattle.md_top.specs.Reading.{is_any, setting_in}
 use Rattle.md_top.specs.Reply.{IsReply, IsSaid, IsSaidBy, IsSaidOfOrder}
 use Rattle.md_top.specs.Works.{IsSaidOf}
-use Rattle.md_top.specs.Solving.{IsSolve, IsSolving}
+use Rattle.md_top.specs.Solving.{IsShownBy, IsSolve}
 use Rattle.md_top.specs.Saying.{IsDelivered, IsSent, Saying, SinkChange, is_answer, write_fault}
 
 below_test : (status : ℕ) → status < 64 → nat_lt status 64 ≡ true
@@ -72,27 +69,26 @@ refused-above e saying status out err is delivered =
 -- ---- the headline
 
 module _ (width : ℕ) (saying : Saying) (status : ℕ) (out err : SinkChange) (delivered : IsDelivered saying status out err) where
-  printed : (s : GeneralSetting) → IsSolving s width saying → status < 64
-      → ForSome out.before (λ old. ForSome out.after (λ new. IsPrinted s width status old new))
-  printed s h low = λ old before new after.
+  printed : (file : SettingFile) → IsShownBy file width saying.status saying.text → status < 64
+      → ForSome out.before (λ old. ForSome out.after (λ new. IsPrinted file width status old new))
+  printed file h low = λ old before new after.
       ⊎_elim
       (λ answer.
       let sent = ((delivered.answer answer.0).0).whole (λ e. omega (arith, low, e)) in
-      record { text = saying.text; grew = sent.1.0 old before new after; shows = subst (λ n. IsHeadline s width n saying.text) (sym sent.0) h.headline })
+      record { text = saying.text; grew = sent.1.0 old before new after; shows = subst (λ n. IsShownBy file width n saying.text) (sym sent.0) h })
       (λ high. absurd (⊎_elim (λ same. omega (arith, same, low, high.1)) (λ part. omega (arith, part.0, low)) (status-of saying status out err delivered)))
       (answer_or_not saying)
 
   shown : (r : Result SettingFile Refusal) → IsSaidOf (IsSolve width) r saying
-      → MatchResult r (WhereGeneral (λ s. status < 64 → ForSome out.before (λ old. ForSome out.after (λ new. IsPrinted s width status old new)))) (λ e. 64 ≤ status)
-  shown (Ok (General s)) h = printed s h
-  shown (Ok (Auction a)) h = tt
+      → MatchResult r (λ file. status < 64 → ForSome out.before (λ old. ForSome out.after (λ new. IsPrinted file width status old new))) (λ e. 64 ≤ status)
+  shown (Ok (General s)) h = printed (General s) h.headline
+  shown (Ok (Auction a)) h = printed (Auction a) h.headline
   shown (Err e) h = refused-above e saying status out err h delivered
 
   -- where a refusal was told, nothing was printed
   not_shown : (r : Result SettingFile Refusal) → 64 ≤ status
-      → MatchResult r (WhereGeneral (λ s. status < 64 → ForSome out.before (λ old. ForSome out.after (λ new. IsPrinted s width status old new)))) (λ e. 64 ≤ status)
-  not_shown (Ok (General s)) high = λ low. absurd (omega (arith, high, low))
-  not_shown (Ok (Auction a)) high = tt
+      → MatchResult r (λ file. status < 64 → ForSome out.before (λ old. ForSome out.after (λ new. IsPrinted file width status old new))) (λ e. 64 ≤ status)
+  not_shown (Ok file) high = λ low. absurd (omega (arith, high, low))
   not_shown (Err e) high = high
 
 headline-of_command : (command : Command) (setting second : List ℕ) (width : ℕ) (content : List ℕ → Option (List ℕ)) (before after : List ℕ → ℕ) (saying : Saying) (status : ℕ) (out err : SinkChange)
@@ -102,11 +98,11 @@ headline-of_command Audit setting second width content before after saying statu
 headline-of_command Rows setting second width content before after saying status out err said delivered = tt
 headline-of_command Check setting second width content before after saying status out err said delivered = tt
 headline-of_command Solve setting second width content before after saying status out err (inl reply) delivered =
-    λ bytes told. shown width saying status out err delivered (setting_in is_general bytes) (reply.0.said_of bytes told)
+    λ bytes told. shown width saying status out err delivered (setting_in is_any bytes) (reply.0.said_of bytes told)
 headline-of_command Solve setting second width content before after saying status out err (inr (inl fault)) delivered =
-    λ bytes told. not_shown width saying status out err delivered (setting_in is_general bytes) (refused-above refusal.ReadFault saying status out err fault.0 delivered)
+    λ bytes told. not_shown width saying status out err delivered (setting_in is_any bytes) (refused-above refusal.ReadFault saying status out err fault.0 delivered)
 headline-of_command Solve setting second width content before after saying status out err (inr (inr memory)) delivered =
-    λ bytes told. not_shown width saying status out err delivered (setting_in is_general bytes) (refused-above refusal.Memory saying status out err memory.0 delivered)
+    λ bytes told. not_shown width saying status out err delivered (setting_in is_any bytes) (refused-above refusal.Memory saying status out err memory.0 delivered)
 headline-of_command Replay setting second width content before after saying status out err said delivered = tt
 headline-of_command Realise setting second width content before after saying status out err said delivered = tt
 

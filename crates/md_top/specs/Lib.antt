@@ -5,6 +5,7 @@ pub mod Reading
 pub mod Works
 pub mod Verdicts
 pub mod Headline
+pub mod AuctionHeadline
 pub mod Auditing
 pub mod Listing
 pub mod Checking

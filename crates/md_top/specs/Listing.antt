@@ -1,18 +1,19 @@
--- What `rows` says of a setting: its linear program.
-use Rattle.std.specs.Prelude.{◌≡◌, ℕ}
-use Rattle.md_setting.specs.Setting.{GeneralSetting}
-use Rattle.md_setting.specs.ByKind.{WhereGeneral}
+-- What `rows` says of a setting: its linear program, for an auction its reduced program with a cut for each value alone.
+use Rattle.std.specs.Prelude.{◌≡◌, ℕ, List}
 use Rattle.md_setting.specs.declared.file.SettingFile.{SettingFile}
+use Rattle.md_setting.specs.declared.file.SettingFile.TheVariants.{General, Auction}
 use Rattle.md_listing.specs.Listing.{IsListing}
+use Rattle.md_listing.specs.Reduced.{IsReducedListing}
 use Rattle.md_top.specs.Saying.{Saying}
 
--- the program of a general setting
-pub record IsListed (s : GeneralSetting) (saying : Saying) : Type 0 where
-  pub status : saying.status ≡ 0
-  pub text : IsListing s saying.text
+-- the text lists the program
+abbrev pub IsListingOf : SettingFile → List ℕ → Type 0
+IsListingOf (General s) text = IsListing s text
+IsListingOf (Auction a) text = IsReducedListing a text
 
-abbrev pub IsRows : SettingFile → Saying → Type 0
-IsRows file saying = WhereGeneral (λ s. IsListed s saying) file
+pub record IsRows (file : SettingFile) (saying : Saying) : Type 0 where
+  pub status : saying.status ≡ 0
+  pub text : IsListingOf file saying.text
 
 -- the status of what is answered
 abbrev pub IsRowsStatus : ℕ → Type 0

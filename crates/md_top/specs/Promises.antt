@@ -5,27 +5,26 @@ use Rattle.md_ports.specs.Faults.{Rose}
 use Rattle.md_words.specs.declared.command.Command.{Command}
 use Rattle.md_words.specs.declared.command.Command.TheVariants.{Audit, Rows, Check, Solve, Replay, Realise}
 use Rattle.md_words.specs.Words.{Order}
-use Rattle.md_setting.specs.Setting.{GeneralSetting}
-use Rattle.md_setting.specs.ByKind.{WhereGeneral}
-use Rattle.md_top.specs.Headline.{IsHeadline}
-use Rattle.md_top.specs.Reading.{setting_in, is_general}
+use Rattle.md_setting.specs.declared.file.SettingFile.{SettingFile}
+use Rattle.md_top.specs.Reading.{is_any, setting_in}
 use Rattle.md_top.specs.Reply.{HasFaulted, IsReply}
 use Rattle.md_top.specs.Saying.{IsDelivered, SinkChange}
+use Rattle.md_top.specs.Solving.{IsShownBy}
 
 -- ---- the headline
 
 -- the text that was printed, and what it shows
-pub record IsPrinted (s : GeneralSetting) (width status : ℕ) (old new : List ℕ) : Type 0 where
+pub record IsPrinted (file : SettingFile) (width status : ℕ) (old new : List ℕ) : Type 0 where
   pub text : List ℕ
   pub grew : new ≡ old ++ text
-  pub shows : IsHeadline s width status text
+  pub shows : IsShownBy file width status text
 
 -- Where a setting is to be solved: whatever its file holds, an answer is printed only of a setting, and shows what the
 -- headline says.
 abbrev pub IsHeadlineBy : Command → List ℕ → ℕ → (List ℕ → Option (List ℕ)) → ℕ → SinkChange → Type 0
 IsHeadlineBy Solve setting width content status out =
-    ForSome (content setting) (λ bytes. MatchResult (setting_in is_general bytes)
-    (WhereGeneral (λ s. status < 64 → ForSome out.before (λ old. ForSome out.after (λ new. IsPrinted s width status old new))))
+    ForSome (content setting) (λ bytes. MatchResult (setting_in is_any bytes)
+    (λ file. status < 64 → ForSome out.before (λ old. ForSome out.after (λ new. IsPrinted file width status old new)))
     (λ e. 64 ≤ status))
 IsHeadlineBy Audit setting width content status out = Unit {0}
 IsHeadlineBy Rows setting width content status out = Unit {0}

@@ -50,6 +50,10 @@ abbrev pub is_auction : SettingFile → Bool
 is_auction (General s) = false
 is_auction (Auction a) = true
 
+-- all of them
+abbrev pub is_any : SettingFile → Bool
+is_any file = true
+
 -- what a second file says, or the first reason to refuse it
 abbrev pub second_in : {T : Type 0} → (List ℕ → Result T Refusal) → List ℕ → Result T Refusal
 second_in reading bytes = and_then (file_of answer_limit refusal.AnswerTooLong bytes) reading

@@ -10,7 +10,7 @@ use Rattle.md_answer.specs.declared.answer.Answer.{Answer}
 use Rattle.md_answer.specs.declared.pivots_file.Pivots.{Pivots}
 use Rattle.md_top.specs.declared.refusal.Refusal.TheVariants as refusal
 use Rattle.md_top.specs.Saying.{Saying}
-use Rattle.md_top.specs.Reading.{is_general, is_auction}
+use Rattle.md_top.specs.Reading.{is_any, is_auction, is_general}
 use Rattle.md_top.specs.Refused.{refused}
 use Rattle.md_top.specs.Works.{Work, one_file, two_files, IsReplyTo, HasFaultedIn}
 use Rattle.md_top.specs.Headline.{IsSolveStatus}
@@ -24,10 +24,10 @@ use Rattle.md_top.specs.Realising.{odds_in, IsRealise, IsRealiseStatus}
 -- the commands: the files of each, what it says of them, and its statuses
 abbrev pub work_by : Command → ℕ → Work
 work_by Audit width = two_files Mechanism is_general mechanism_in IsAudit IsAuditStatus
-work_by Rows width = one_file is_general IsRows IsRowsStatus
-work_by Check width = two_files Answer is_general answer_in IsCheck IsCheckStatus
-work_by Solve width = one_file is_general (IsSolve width) IsSolveStatus
-work_by Replay width = two_files Pivots is_general pivots_in (IsReplay width) IsReplayStatus
+work_by Rows width = one_file is_any IsRows IsRowsStatus
+work_by Check width = two_files Answer is_any answer_in IsCheck IsCheckStatus
+work_by Solve width = one_file is_any (IsSolve width) IsSolveStatus
+work_by Replay width = two_files Pivots is_any pivots_in (IsReplay width) IsReplayStatus
 work_by Realise width = two_files Interim is_auction odds_in IsRealise IsRealiseStatus
 
 abbrev pub work_of : Order → Work

@@ -1,20 +1,22 @@
 //! The command `check`: whether what an answer claims of a setting is so.
 ghost use Rattle.std.specs.Prelude.{◌≡◌, ◌<◌, ◌∷◌, [], IfOk, length, codes};
 ghost use Rattle.md_num.specs.WholeText.{text_of};
-ghost use Rattle.md_setting.specs.ByKind.{IsGeneral, WhereGeneral};
+ghost use Rattle.md_setting.specs.ByKind.{WhereAuction, WhereGeneral};
+ghost use Rattle.md_setting.specs.declared.file.SettingFile.TheVariants.{General};
 ghost use Rattle.md_mech.specs.declared.broken.Broken.{Broken};
 ghost use Rattle.md_mech.specs.Rows.{conditions_of};
 ghost use Rattle.md_records.specs.Written.{record_text};
 ghost use Rattle.md_answer.specs.AnswerTo.{IsAnswerTo};
+ghost use Rattle.md_answer.specs.AuctionAnswerTo.{IsAuctionAnswer};
 ghost use Rattle.md_check.specs.declared.verdict.Reject.TheVariants as rejects;
 ghost use Rattle.md_top.specs.Checking.{answer_in, IsCheck, IsCheckStatus};
-ghost use Rattle.md_top.specs.Reading.{is_general};
+ghost use Rattle.md_top.specs.Reading.{is_any};
 ghost use Rattle.md_top.specs.Saying.{said};
-ghost use Rattle.md_top.specs.Verdicts.{IsRejected, rejected};
+ghost use Rattle.md_top.specs.Verdicts.{IsBrokenRow, IsRejected, rejected};
 
 use crate::answered::Answered;
 use crate::refusal::Refusal;
-use crate::setting_file::{general, is_general};
+use crate::setting_file::general;
 use crate::two_files::TwoFiles;
 use md_answer::{Answer, read_answer};
 use md_check::{Reject, Verdict, check};
@@ -31,18 +33,18 @@ pub(crate) struct Check;
 impl TwoFiles for Check {
     type Second = Answer;
 
-    ghost is_served = { is_general };
+    ghost is_served = { is_any };
 
     ghost reading = { answer_in };
 
-    ghost fits = { λ file answer. WhereGeneral (λ s. IsAnswerTo s answer) file };
+    ghost fits = { λ file answer. WhereGeneral (λ s. IsAnswerTo s answer) file × WhereAuction (λ a. IsAuctionAnswer a answer) file };
 
     ghost says = { λ _. IsCheck };
 
     ghost own = { IsCheckStatus };
 
-    fn serves(&self, file: &SettingFile) -> bool {
-        is_general(file)
+    fn serves(&self, _: &SettingFile) -> bool {
+        true
     }
 
     fn second(&self, alloc: Global, file: &SettingFile, bytes: &[u8]) -> Result<Answer, Refusal> {
@@ -61,8 +63,8 @@ impl TwoFiles for Check {
 
 // The verdict on an answer.
 fn checked(alloc: Global, file: &SettingFile, answer: &Answer) -> Result<Answered, NoMemory>
-    requires general { IsGeneral file.now }
     requires answer { WhereGeneral (λ s. IsAnswerTo s answer.now) file.now }
+    requires auction_answer { WhereAuction (λ a. IsAuctionAnswer a answer.now) file.now }
     ensures checked { IfOk result (λ answered. IsCheck file.now answer.now (said answered)) }
     ensures status { IfOk result (λ answered. IsCheckStatus answered.status) }
 {
@@ -76,7 +78,7 @@ fn checked(alloc: Global, file: &SettingFile, answer: &Answer) -> Result<Answere
             text: b"undecided\n".to_vec(alloc)?,
         }),
         Verdict::Rejected(reject) => {
-            let record = rejected_record(alloc, general(file), reject)?;
+            let record = rejected_record(alloc, file, reject)?;
             Ok(Answered {
                 status: 20,
                 text: record_text(alloc, record)?,
@@ -100,12 +102,12 @@ fn rejected_by(alloc: Global, condition: &[u8]) -> Result<Row, NoMemory>
 }
 
 // The record of the first condition that fails.
-fn rejected_record(alloc: Global, setting: &Setting, reject: Reject) -> Result<Row, NoMemory>
-    requires { (broken : Broken) → reject ≡ rejects.Audit broken → broken.row < length (conditions_of setting.now) }
-    ensures { IfOk result (IsRejected setting.now reject) }
+fn rejected_record(alloc: Global, file: &SettingFile, reject: Reject) -> Result<Row, NoMemory>
+    requires { (broken : Broken) → reject ≡ rejects.Audit broken → IsBrokenRow file.now broken }
+    ensures { IfOk result (IsRejected file.now reject) }
 {
     match reject {
-        Reject::Audit { broken } => broken_record(alloc, setting, broken),
+        Reject::Audit { broken } => broken_record(alloc, general(file), broken),
         Reject::Value { right } => rejected_by(alloc, b"2")?
             .with_number(right.num)?
             .with_number(right.den),
@@ -123,13 +125,21 @@ fn rejected_record(alloc: Global, setting: &Setting, reject: Reject) -> Result<R
             .with_number(i128::from(row))?
             .with_number(sum),
         Reject::RayGain { sum } => rejected_by(alloc, b"8")?.with_number(sum),
+        Reject::Masses { kind, sum, demand } => rejected_by(alloc, b"9")?
+            .with_number(i128::from(kind))?
+            .with_number(sum)?
+            .with_number(demand),
+        Reject::Reduced { row, left, right } => rejected_by(alloc, b"10")?
+            .with_number(i128::from(row))?
+            .with_number(left)?
+            .with_number(right),
     }
 }
 
 // The record of a broken row of the setting.
 fn broken_record(alloc: Global, setting: &Setting, broken: Broken) -> Result<Row, NoMemory>
     requires { broken.row < length (conditions_of setting.now) }
-    ensures { IfOk result (IsRejected setting.now (rejects.Audit broken)) }
+    ensures { IfOk result (IsRejected (General setting.now) (rejects.Audit broken)) }
 {
     let name = row_name(alloc, setting, broken.row)?;
     let named = rejected_by(alloc, b"1")?.with(&name)?;

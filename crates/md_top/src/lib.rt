@@ -2,6 +2,8 @@
 #![tactic(auto)]
 
 mod answered;
+#[cfg(test)]
+mod auction_tests;
 mod audit;
 mod call;
 mod check;

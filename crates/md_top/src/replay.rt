@@ -1,22 +1,26 @@
 //! The command `replay`: listed pivots, carried out on the linear program of a setting.
 ghost use Rattle.std.specs.Prelude.{◌≡◌, ◌⊎◌, IfOk, IfErr};
+ghost use Rattle.md_setting.specs.Auction.{value_count};
+ghost use Rattle.md_setting.specs.ByKind.{WhereAuction};
+ghost use Rattle.md_lp.specs.Cuts.{AreCuts};
+ghost use Rattle.md_answer.specs.AuctionPivots.{HasCutsOf};
 ghost use Rattle.md_replay.specs.Records.{replay_text};
 ghost use Rattle.md_top.specs.declared.refusal.Refusal.TheVariants as refusal;
-ghost use Rattle.md_top.specs.Reading.{is_general};
+ghost use Rattle.md_top.specs.Reading.{is_any};
 ghost use Rattle.md_top.specs.Refused.{refused, status_of};
-ghost use Rattle.md_top.specs.Replaying.{IsPivotRefused, IsReplay, IsReplayStatus, IsReplaying, pivots_in, status_of_replay};
+ghost use Rattle.md_top.specs.Replaying.{IsPivotRefused, IsProgramIn, IsReplay, IsReplayStatus, IsReplaying, pivots_in, status_of_replay};
 ghost use Rattle.md_top.specs.Saying.{said};
 
 use crate::answered::Answered;
 use crate::refusal::Refusal;
-use crate::setting_file::{general, is_general};
 use crate::two_files::TwoFiles;
 use md_answer::{Pivots, read_pivots};
-use md_lp::{Entry, Path};
+use md_lp::{Entry, Lp, Path, Sets};
 use md_num::{NoMemory, Width};
+use md_reduced::program;
 use md_replay::{ReplayError, replay, replay_text};
 use md_rows::rows_of;
-use md_setting::{Setting, SettingFile};
+use md_setting::SettingFile;
 use std::alloc::Global;
 
 /// `replay SETTING PIVOTS [--width W]`
@@ -28,18 +32,18 @@ pub(crate) struct Replay {
 impl TwoFiles for Replay {
     type Second = Pivots;
 
-    ghost is_served = { is_general };
+    ghost is_served = { is_any };
 
     ghost reading = { pivots_in };
 
-    ghost fits = { λ _ _. Unit {0} };
+    ghost fits = { λ file pivots. WhereAuction (λ a. HasCutsOf a pivots) file };
 
     ghost says = { λ command. IsReplay command.width };
 
     ghost own = { IsReplayStatus };
 
-    fn serves(&self, file: &SettingFile) -> bool {
-        is_general(file)
+    fn serves(&self, _: &SettingFile) -> bool {
+        true
     }
 
     fn second(&self, alloc: Global, file: &SettingFile, bytes: &[u8]) -> Result<Pivots, Refusal> {
@@ -52,23 +56,29 @@ impl TwoFiles for Replay {
         file: &SettingFile,
         pivots: &Pivots,
     ) -> Result<Answered, Refusal> {
-        replayed(alloc, general(file), self.width, &pivots.path)
+        let lp = program_in(alloc, file, &pivots.cuts)?;
+        replayed(alloc, &lp, self.width, &pivots.path)
+    }
+}
+
+// The program of a setting, for an auction with the cuts.
+fn program_in(alloc: Global, file: &SettingFile, cuts: &Sets) -> Result<Lp, NoMemory>
+    requires { WhereAuction (λ a. AreCuts (value_count a) cuts.now) file.now }
+    ensures { IfOk result (IsProgramIn file.now cuts.now) }
+{
+    match file {
+        SettingFile::General(setting) => rows_of(alloc, setting),
+        SettingFile::Auction(auction) => program(alloc, auction, cuts),
     }
 }
 
 // What comes of the pivots, or the first one that cannot be carried out.
-fn replayed(
-    alloc: Global,
-    setting: &Setting,
-    width: Width,
-    pivots: &Path,
-) -> Result<Answered, Refusal>
-    ensures replaying { IfOk result (λ answered. IsReplaying setting.now width pivots.now (said answered)) }
+fn replayed(alloc: Global, lp: &Lp, width: Width, pivots: &Path) -> Result<Answered, Refusal>
+    ensures replaying { IfOk result (λ answered. IsReplaying lp.now width pivots.now (said answered)) }
     ensures status { IfOk result (λ answered. (answered.status ≡ 0) ⊎ (answered.status ≡ 12)) }
-    ensures refused { IfErr result (λ e. (e ≡ refusal.Memory) ⊎ (IsPivotRefused setting.now width pivots.now (refused e) × (status_of e ≡ 67))) }
+    ensures refused { IfErr result (λ e. (e ≡ refusal.Memory) ⊎ (IsPivotRefused lp.now width pivots.now (refused e) × (status_of e ≡ 67))) }
 {
-    let lp = rows_of(alloc, setting)?;
-    match replay(alloc, &lp, width, pivots) {
+    match replay(alloc, lp, width, pivots) {
         Ok(replay) => Ok(told(alloc, &replay)?),
         Err(ReplayError::Pivot(number)) => Err(Refusal::Pivot(number)),
         Err(ReplayError::Memory) => Err(Refusal::Memory),

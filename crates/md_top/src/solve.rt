@@ -1,15 +1,13 @@
 //! The command `solve`: the best mechanism of a setting, or why there is none.
 ghost use Rattle.std.specs.Prelude.{◌≡◌, IfOk};
-ghost use Rattle.md_setting.specs.ByKind.{IsGeneral};
 ghost use Rattle.md_top.specs.Headline.{IsSolveStatus};
-ghost use Rattle.md_top.specs.Reading.{is_general};
+ghost use Rattle.md_top.specs.Reading.{is_any};
 ghost use Rattle.md_top.specs.Saying.{said};
 ghost use Rattle.md_top.specs.Solving.{IsSolve, status_of_answer};
 
 use crate::answered::Answered;
 use crate::one_file::OneFile;
 use crate::refusal::Refusal;
-use crate::setting_file::is_general;
 use md_answer::{Answer, write_answer};
 use md_num::{NoMemory, Width};
 use md_setting::SettingFile;
@@ -23,14 +21,14 @@ pub(crate) struct Solve {
 }
 
 impl OneFile for Solve {
-    ghost is_served = { is_general };
+    ghost is_served = { is_any };
 
     ghost says = { λ command. IsSolve command.width };
 
     ghost own = { IsSolveStatus };
 
-    fn serves(&self, file: &SettingFile) -> bool {
-        is_general(file)
+    fn serves(&self, _: &SettingFile) -> bool {
+        true
     }
 
     fn answer(&self, alloc: Global, file: &SettingFile) -> Result<Answered, Refusal> {
@@ -40,7 +38,6 @@ impl OneFile for Solve {
 
 // The answer to a setting within a width.
 fn solved(alloc: Global, file: &SettingFile, width: Width) -> Result<Answered, NoMemory>
-    requires { IsGeneral file.now }
     ensures solving { IfOk result (λ answered. IsSolve width file.now (said answered)) }
     ensures status { IfOk result (λ answered. IsSolveStatus answered.status) }
 {

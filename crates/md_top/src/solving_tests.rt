@@ -140,16 +140,16 @@ static WALKS: [Walk; 11] = [
     ),
 ];
 
-// What a command answered.
+/// What a command answered.
 #[derive(Drop)]
-struct Reply {
-    status: u8,
-    out: MemSink,
-    err: MemSink,
+pub(crate) struct Reply {
+    pub(crate) status: u8,
+    pub(crate) out: MemSink,
+    pub(crate) err: MemSink,
 }
 
-// Carries a command out over two files.
-fn carried_out(
+/// Carries a command out over two files.
+pub(crate) fn carried_out(
     alloc: Global,
     texts: &[&str],
     setting: &str,
@@ -159,7 +159,7 @@ fn carried_out(
     let mut shelf = MemShelf::new(alloc);
     shelf.put("setting", setting.as_bytes())?;
     shelf.put("second", second)?;
-    let mut out = MemSink::new(alloc, 1000)?;
+    let mut out = MemSink::new(alloc, 2000)?;
     let mut err = MemSink::new(alloc, 100)?;
     let status = mechdes(alloc, &words, &mut shelf, &mut out, &mut err);
     Ok(Reply { status, out, err })

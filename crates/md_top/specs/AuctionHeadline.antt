@@ -1,0 +1,52 @@
+-- What `solve` prints of an auction, in the words of mechanisms. Each text is read back by the rules for answer files.
+use Rattle.std.specs.Prelude.{◌≡◌, ◌⊎◌, ℕ, List, Ok, Some}
+use Rattle.md_num.specs.declared.frac.Frac.{Frac}
+use Rattle.md_setting.specs.Auction.{SymmetricAuction}
+use Rattle.md_setting.specs.General.{general_of}
+use Rattle.md_lp.specs.declared.wide.Wide.{Wide}
+use Rattle.md_mech.specs.Value.{IsValueOf}
+use Rattle.md_border.specs.declared.interim.Interim.{Interim}
+use Rattle.md_expost.specs.declared.masses.Masses.{Masses}
+use Rattle.md_expost.specs.Masses.{AreMasses}
+use Rattle.md_cert.specs.declared.bound.Bound.{Bound}
+use Rattle.md_cuts.specs.AuctionCuts.{auction_cutting}
+use Rattle.md_cuts.specs.CutRuns.{EndsSettled, EndsWide}
+use Rattle.md_cuts.specs.declared.optimum.Optimum.{Optimum}
+use Rattle.md_claims.specs.AuctionClaims.{IsOptimalRule, mechanism_in}
+use Rattle.md_answer.specs.AuctionAnswers.{auction_answer_of}
+use Rattle.md_answer.specs.declared.answer.Answer.TheVariants.{AuctionOptimal, TooWide}
+use Rattle.md_check.specs.AuctionVerdicts.{IsAuctionVerdict}
+use Rattle.md_check.specs.declared.verdict.Verdict.TheVariants.{Valid}
+
+-- A mass table, which gives at most one item at each counts. Its mechanism with the payments is admissible, no admissible
+-- mechanism of the auction has a greater objective, whatever its denominator and however it treats the bidders, and it has
+-- exactly the odds and payments, and the value; the checker finds the answer valid.
+pub record PrintsAuctionOptimal (a : SymmetricAuction) (text : List ℕ) : Type 0 where
+  pub value : Frac
+  pub interim : Interim
+  pub masses : Masses
+  pub cuts : List ℕ
+  pub bound : Bound
+  pub read_back : auction_answer_of a text ≡ Ok (AuctionOptimal value interim masses cuts bound)
+  pub one_item : AreMasses a masses
+  pub rule : IsOptimalRule a interim masses
+  pub is_value : IsValueOf (general_of a) (mechanism_in a interim masses) value
+  pub valid : IsAuctionVerdict a (AuctionOptimal value interim masses cuts bound) Valid
+
+-- the cuts of the last program of the auction's cut run, and of its forward path and of its backward one the pivots to the
+-- first wide basis and the first wide entry of that
+pub record PrintsAuctionTooWide (a : SymmetricAuction) (width : ℕ) (text : List ℕ) : Type 0 where
+  pub cuts : List ℕ
+  pub first : Wide
+  pub second : Wide
+  pub read_back : auction_answer_of a text ≡ Ok (TooWide cuts first (Some second))
+  pub ends : EndsWide (auction_cutting a) width cuts first second
+
+-- What is printed with a status, and which status it is: 12 where the cut run ends with a program that has no taken path, and
+-- 0 where it ends with odds at which no set of values is over. Each auction has an optimal mechanism, so that no other comes.
+pub record IsAuctionHeadline (a : SymmetricAuction) (width status : ℕ) (text : List ℕ) : Type 0 where
+  pub optimal : status ≡ 0 → PrintsAuctionOptimal a text
+  pub too_wide : status ≡ 12 → PrintsAuctionTooWide a width text
+  pub one_of : (status ≡ 0) ⊎ (status ≡ 12)
+  pub settled : (cuts : List ℕ) (optimum : Optimum) → EndsSettled (auction_cutting a) width cuts optimum → status ≡ 0
+  pub wide : (cuts : List ℕ) (first second : Wide) → EndsWide (auction_cutting a) width cuts first second → status ≡ 12

@@ -1,0 +1,233 @@
+//! Auctions solved, their answers checked after they were written, their reduced programs listed and pivots carried out on
+//! them, over files in memory.
+use crate::solving_tests::carried_out;
+use crate::test_settings::{THREE_BIDDERS, TWO_BIDDERS};
+use std::test::Fail;
+
+// An auction, the general setting that it means, and how the answers to both begin behind their kinds: with the value that
+// virtual values give (Myerson 1981).
+static MEANT: [(&str, &str, &str); 6] = [
+    // A buyer with the value 1 brings 1 - (3 - 1), and one with the value 3 brings 3. The item is worth 2 where it is kept:
+    // (2 + 3) / 2.
+    (
+        "format = \"mechanism-setting\"\nversion = 1\nkind = \"auction\"\nbidders = 1\nvalues = [1, 3]\nweights = [1, 1]\nrevenue = 1\nwelfare = 0\nkeep = 2\n",
+        "format = \"mechanism-setting\"\nversion = 1\nkind = \"general\"\ntruth = \"bayes\"\nrational = \"interim\"\npayments = true\noutcomes = [\"keep\", \"one\"]\n[objective]\nwelfare = 0\nrevenue = 1\nvalue = [2, 0]\n[[agent]]\nname = \"one\"\ntypes = [\"v1\", \"v3\"]\nweights = [1, 1]\nutility = [[0, 1], [0, 3]]\n",
+        ",optimal\nvalue,5,2\n",
+    ),
+    // A buyer with the value 1 brings 1 - 2 * (2 - 1), one with 2 brings 2 - (3 - 2), and one with 3 brings 3: (0 + 1 + 3) / 3.
+    (
+        "format = \"mechanism-setting\"\nversion = 1\nkind = \"auction\"\nbidders = 1\nvalues = [1, 2, 3]\nweights = [1, 1, 1]\nrevenue = 1\nwelfare = 0\nkeep = 0\n",
+        "format = \"mechanism-setting\"\nversion = 1\nkind = \"general\"\ntruth = \"bayes\"\nrational = \"interim\"\npayments = true\noutcomes = [\"keep\", \"one\"]\n[objective]\nwelfare = 0\nrevenue = 1\nvalue = [0, 0]\n[[agent]]\nname = \"one\"\ntypes = [\"v1\", \"v2\", \"v3\"]\nweights = [1, 1, 1]\nutility = [[0, 1], [0, 2], [0, 3]]\n",
+        ",optimal\nvalue,4,3\n",
+    ),
+    // A bidder with the value 1 brings 1 - (2 - 1), and one with 2 brings 2, which is there in 3 of 4 profiles.
+    (
+        "format = \"mechanism-setting\"\nversion = 1\nkind = \"auction\"\nbidders = 2\nvalues = [1, 2]\nweights = [1, 1]\nrevenue = 1\nwelfare = 0\nkeep = 0\n",
+        "format = \"mechanism-setting\"\nversion = 1\nkind = \"general\"\ntruth = \"bayes\"\nrational = \"interim\"\npayments = true\noutcomes = [\"keep\", \"one\", \"two\"]\n[objective]\nwelfare = 0\nrevenue = 1\nvalue = [0, 0, 0]\n[[agent]]\nname = \"one\"\ntypes = [\"v1\", \"v2\"]\nweights = [1, 1]\nutility = [[0, 1, 0], [0, 2, 0]]\n[[agent]]\nname = \"two\"\ntypes = [\"v1\", \"v2\"]\nweights = [1, 1]\nutility = [[0, 0, 1], [0, 0, 2]]\n",
+        ",optimal\nvalue,3,2\n",
+    ),
+    // The item goes to the higher value: 1 in 1 of 4 profiles, else 2.
+    (
+        "format = \"mechanism-setting\"\nversion = 1\nkind = \"auction\"\nbidders = 2\nvalues = [1, 2]\nweights = [1, 1]\nrevenue = 0\nwelfare = 1\nkeep = 0\n",
+        "format = \"mechanism-setting\"\nversion = 1\nkind = \"general\"\ntruth = \"bayes\"\nrational = \"interim\"\npayments = true\noutcomes = [\"keep\", \"one\", \"two\"]\n[objective]\nwelfare = 1\nrevenue = 0\nvalue = [0, 0, 0]\n[[agent]]\nname = \"one\"\ntypes = [\"v1\", \"v2\"]\nweights = [1, 1]\nutility = [[0, 1, 0], [0, 2, 0]]\n[[agent]]\nname = \"two\"\ntypes = [\"v1\", \"v2\"]\nweights = [1, 1]\nutility = [[0, 0, 1], [0, 0, 2]]\n",
+        ",optimal\nvalue,7,4\n",
+    ),
+    // The values 2 and 3 are pooled and bring 2/3 both, as their payments together say, and 6 brings 6, which is there in 7
+    // of 16 profiles: (9 * 2/3 + 7 * 6) / 16.
+    (
+        "format = \"mechanism-setting\"\nversion = 1\nkind = \"auction\"\nbidders = 2\nvalues = [2, 3, 6]\nweights = [2, 1, 1]\nrevenue = 1\nwelfare = 0\nkeep = 0\n",
+        "format = \"mechanism-setting\"\nversion = 1\nkind = \"general\"\ntruth = \"bayes\"\nrational = \"interim\"\npayments = true\noutcomes = [\"keep\", \"one\", \"two\"]\n[objective]\nwelfare = 0\nrevenue = 1\nvalue = [0, 0, 0]\n[[agent]]\nname = \"one\"\ntypes = [\"v2\", \"v3\", \"v6\"]\nweights = [2, 1, 1]\nutility = [[0, 2, 0], [0, 3, 0], [0, 6, 0]]\n[[agent]]\nname = \"two\"\ntypes = [\"v2\", \"v3\", \"v6\"]\nweights = [2, 1, 1]\nutility = [[0, 0, 2], [0, 0, 3], [0, 0, 6]]\n",
+        ",optimal\nvalue,3,1\n",
+    ),
+    // A bidder with the value 1 brings nothing, and one with 2 brings 2, which is there in 7 of 8 profiles.
+    (
+        "format = \"mechanism-setting\"\nversion = 1\nkind = \"auction\"\nbidders = 3\nvalues = [1, 2]\nweights = [1, 1]\nrevenue = 1\nwelfare = 0\nkeep = 0\n",
+        "format = \"mechanism-setting\"\nversion = 1\nkind = \"general\"\ntruth = \"bayes\"\nrational = \"interim\"\npayments = true\noutcomes = [\"keep\", \"one\", \"two\", \"three\"]\n[objective]\nwelfare = 0\nrevenue = 1\nvalue = [0, 0, 0, 0]\n[[agent]]\nname = \"one\"\ntypes = [\"v1\", \"v2\"]\nweights = [1, 1]\nutility = [[0, 1, 0, 0], [0, 2, 0, 0]]\n[[agent]]\nname = \"two\"\ntypes = [\"v1\", \"v2\"]\nweights = [1, 1]\nutility = [[0, 0, 1, 0], [0, 0, 2, 0]]\n[[agent]]\nname = \"three\"\ntypes = [\"v1\", \"v2\"]\nweights = [1, 1]\nutility = [[0, 0, 0, 1], [0, 0, 0, 2]]\n",
+        ",optimal\nvalue,7,4\n",
+    ),
+];
+
+// One bidder with the value 1 or 3. The item is worth 2 where it is kept.
+const ONE_BUYER: &str =
+    "format = \"mechanism-setting\"\nversion = 1\nkind = \"auction\"\nbidders = 1\nvalues = [1, 3]\nweights = [1, 1]\nkeep = 2\n";
+
+const ONE_BUYER_ANSWER: &str =
+    "answer,1,auction,optimal\nvalue,5,2\ninterim,1\nodds,0,1\npays,0,3\nmass,0,1,0,1\nmass,1,0,0,0\ncut,1\ncut,2\nbound,1\nrow,2,0,1\nrow,3,0,1\nrow,5,0,1\nend\n";
+
+// The words, the setting, the second file, the status, what is printed or how it begins, and what is said.
+type Case = (
+    &'static [&'static str],
+    &'static str,
+    &'static str,
+    u8,
+    &'static str,
+    &'static str,
+);
+
+const CHECK: &[&str] = &["check", "setting", "second"];
+
+const SOLVE: &[&str] = &["solve", "setting"];
+
+static CASES: [Case; 16] = [
+    (SOLVE, ONE_BUYER, "", 0, ONE_BUYER_ANSWER, ""),
+    (
+        SOLVE,
+        TWO_BIDDERS,
+        "",
+        0,
+        "answer,1,auction,optimal\nvalue,3,2\ninterim,",
+        "",
+    ),
+    (
+        SOLVE,
+        THREE_BIDDERS,
+        "",
+        0,
+        "answer,1,auction,optimal\nvalue,64,27\ninterim,27\nodds,0,7,19\npays,0,14,50\nmass,0,0,3,0,0,27\nmass,0,1,2,0,0,81\nmass,0,2,1,0,0,81\nmass,0,3,0,0,27,0\nmass,1,0,2,0,0,81\nmass,1,1,1,0,0,162\nmass,1,2,0,0,81,0\nmass,2,0,1,0,0,81\nmass,2,1,0,0,81,0\nmass,3,0,0,0,0,0\ncut,",
+        "",
+    ),
+    // Two values are pooled.
+    (
+        SOLVE,
+        "format = \"mechanism-setting\"\nversion = 1\nkind = \"auction\"\nbidders = 2\nvalues = [2, 3, 6]\nweights = [2, 1, 1]\n",
+        "",
+        0,
+        "answer,1,auction,optimal\nvalue,3,1\ninterim,8\nodds,3,3,7\npays,6,6,30\nmass,0,0,2,0,0,8\nmass,0,1,1,0,0,16\nmass,0,2,0,0,8,0\nmass,1,0,1,0,0,32\nmass,1,1,0,16,16,0\nmass,2,0,0,32,0,0\ncut,",
+        "",
+    ),
+    (CHECK, ONE_BUYER, ONE_BUYER_ANSWER, 0, "valid\n", ""),
+    // A bidder with the value 3 asks for the item once in two profiles, and gets it in none.
+    (
+        CHECK,
+        ONE_BUYER,
+        "answer,1,auction,optimal\nvalue,5,2\ninterim,1\nodds,0,1\npays,0,3\nmass,0,1,0,0\nmass,1,0,0,0\nbound,1\nend\n",
+        20,
+        "rejected,9,1,0,1\n",
+        "",
+    ),
+    // It pays 1 more than the item is worth to it.
+    (
+        CHECK,
+        ONE_BUYER,
+        "answer,1,auction,optimal\nvalue,5,2\ninterim,1\nodds,0,1\npays,0,4\nmass,0,1,0,1\nmass,1,0,0,0\nbound,1\nend\n",
+        20,
+        "rejected,10,1,1,0\n",
+        "",
+    ),
+    (
+        CHECK,
+        ONE_BUYER,
+        "answer,1,auction,optimal\nvalue,3,1\ninterim,1\nodds,0,1\npays,0,3\nmass,0,1,0,1\nmass,1,0,0,0\nbound,1\nend\n",
+        20,
+        "rejected,2,5,2\n",
+        "",
+    ),
+    (
+        CHECK,
+        THREE_BIDDERS,
+        "answer,1,auction,optimal\nvalue,64,27\ninterim,27\nodds,0,7,19\npays,0,14,50\nmass,0,0,3,0,0,27\nmass,0,1,2,0,0,81\nmass,0,2,1,0,0,81\nmass,0,3,0,0,27,0\nmass,1,0,2,0,0,81\nmass,1,1,1,0,0,162\nmass,1,2,0,0,81,0\nmass,2,0,1,0,0,81\nmass,2,1,0,0,80,0\nmass,3,0,0,1,0,0\nbound,1\nend\n",
+        20,
+        "rejected,9,0,1,0\n",
+        "",
+    ),
+    (
+        CHECK,
+        THREE_BIDDERS,
+        "answer,1,auction,optimal\nvalue,64,27\ninterim,27\nodds,0,7,19\npays,0,14,50\nmass,0,0,3,0,0,27\nmass,0,1,2,0,0,81\nmass,0,2,1,0,0,81\nmass,0,3,0,0,27,0\nmass,1,0,2,0,0,81\nmass,1,1,1,0,0,162\nmass,1,2,0,0,81,0\nmass,2,0,1,0,0,81\nmass,2,1,0,0,82,0\nmass,3,0,0,0,0,0\nbound,1\nend\n",
+        66,
+        "",
+        "mechdes: answer refused: line 14: sum\n",
+    ),
+    (
+        CHECK,
+        ONE_BUYER,
+        "answer,1,auction,optimal\nvalue,5,2\ninterim,1\nodds,0,1\npays,0,3\nmass,0,1,0,1\nmass,1,0,0,0\ncut,1\ncut,2\nbound,1\nrow,2,0,1\nrow,3,0,1\nrow,5,0,1\n",
+        66,
+        "",
+        "mechdes: answer refused: line 13: ended\n",
+    ),
+    (
+        CHECK,
+        ONE_BUYER,
+        "answer,2,auction,toowide\ncut,1\ncut,2\nwide,1,1,20,1\nagain\nwide,1,1,20,1\nend\n",
+        22,
+        "undecided\n",
+        "",
+    ),
+    (
+        &["rows", "setting"],
+        ONE_BUYER,
+        "",
+        0,
+        "program,6,6\ncost,0,-2,1,-2,2,1,3,1,4,-1,5,-1\nrow,0,truth/1/3,atmost,0,0,-1,1,1,2,1,3,-1,4,-1,5,1\nrow,1,truth/3/1,atmost,0,0,3,1,-3,2,-1,3,1,4,1,5,-1\nrow,2,rational/1,atmost,0,0,-1,2,1,4,-1\nrow,3,rational/3,atmost,0,1,-3,3,1,5,-1\nrow,4,cut/1,atmost,1,0,1\nrow,5,cut/2,atmost,1,1,1\nend\n",
+        "",
+    ),
+    (
+        &["replay", "setting", "second"],
+        ONE_BUYER,
+        "end\n",
+        0,
+        "basis,0,1,5\nrule,0\nagain,0\nend\n",
+        "",
+    ),
+    (
+        &["replay", "setting", "second"],
+        ONE_BUYER,
+        "cut,4\nend\n",
+        66,
+        "",
+        "mechdes: answer refused: line 1: field 2\n",
+    ),
+    (
+        &["audit", "setting", "second"],
+        ONE_BUYER,
+        ONE_BUYER_ANSWER,
+        65,
+        "",
+        "mechdes: setting refused: other kind\n",
+    ),
+];
+
+// A text that ends with a comma is the begin of what is wanted, and any other one is the whole of it.
+fn is_told(told: &[u8], wanted: &str) -> bool {
+    let wanted = wanted.as_bytes();
+    if wanted.ends_with(b",") {
+        told.starts_with(wanted)
+    } else {
+        told == wanted
+    }
+}
+
+#[test]
+fn carries_commands_out_on_auctions(rt: HostRuntime) -> Result<(), Fail> {
+    let alloc = rt.alloc();
+    for (words, setting, second, status, printed, said) in &CASES {
+        let reply = carried_out(alloc, words, setting, second.as_bytes())?;
+        assert_eq!(rt; reply.status, *status, "at {words:?} {second}");
+        assert!(rt;
+            is_told(reply.out.bytes(), printed),
+            "at {words:?} {second}"
+        );
+        assert!(rt; is_told(reply.err.bytes(), said), "at {words:?} {second}");
+    }
+    Ok(())
+}
+
+// Whether an answer to a setting of any kind has the value.
+fn has_value(answer: &[u8], value: &str) -> bool {
+    answer.len() > 16 && answer[16..].starts_with(value.as_bytes())
+}
+
+#[test]
+fn auctions_have_the_values_of_the_settings_that_they_mean(rt: HostRuntime) -> Result<(), Fail> {
+    let alloc = rt.alloc();
+    for (auction, meant, value) in &MEANT {
+        for setting in [*auction, *meant] {
+            let solved = carried_out(alloc, SOLVE, setting, b"")?;
+            assert!(rt; has_value(solved.out.bytes(), value), "at {setting}");
+            let checked = carried_out(alloc, CHECK, setting, solved.out.bytes())?;
+            assert!(rt; checked.out.bytes() == "valid\n".as_bytes(), "at {setting}");
+        }
+    }
+    Ok(())
+}
