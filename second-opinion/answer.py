@@ -1,7 +1,8 @@
 """Reads and writes answer files, as docs/FORMATS.md states them.
 
 An answer is a CSV file of records. `read_answer` reads them one after the other, knows at each place which words may
-stand there, and refuses the first record that is wrong. What comes out is one of the five kinds of answer below.
+stand there, and refuses the first record that is wrong. What comes out is one of the five kinds of answer below; those
+about auctions are read in `auction_answer.py`.
 """
 
 import re
@@ -116,6 +117,10 @@ class Records:
             self.refuse("record")
         return word
 
+    def at(self, word):
+        """Whether the record that was read last has this word."""
+        return self.fields[0] == word.encode()
+
     def integer(self, place, least, greatest):
         """The whole number in a field (counted from 1), refused where it is none, or out of range."""
         text = self.fields[place - 1]
@@ -123,9 +128,9 @@ class Records:
             self.refuse(f"field {place}")
         return int(text)
 
-    def integers(self, first, least):
+    def integers(self, first, least, greatest=GREATEST):
         """The whole numbers from a field on."""
-        return [self.integer(place, least, GREATEST) for place in range(first, len(self.fields) + 1)]
+        return [self.integer(place, least, greatest) for place in range(first, len(self.fields) + 1)]
 
     def word(self, place, *words):
         """The word in a field, refused where it is none of those listed."""
@@ -141,16 +146,22 @@ class Records:
             self.refuse("record")
 
 
-def read_answer(data, setting):
-    """The answer about a general setting that the bytes of a file state, or `Refused`."""
+def begun(data, kind, words):
+    """The records of an answer about a setting of a kind, of which the first is read: the records, its word, which is one
+    of those that `words` has for the version, and the version."""
     if len(data) > FILE_LIMIT:
         raise Refused(66, "answer refused: too long")
     records = Records(data)
     records.expect(answer=4)
-    version = records.word(2, "1", "2")
-    records.word(3, "general")
-    kinds = READERS if version == "1" else ["toowide"]
-    answer = READERS[records.word(4, *kinds)](records, setting, version)
+    version = records.word(2, *words)
+    records.word(3, kind)
+    return records, records.word(4, *words[version]), version
+
+
+def read_answer(data, setting):
+    """The answer about a general setting that the bytes of a file state, or `Refused`."""
+    records, word, version = begun(data, "general", {"1": READERS, "2": ["toowide"]})
+    answer = READERS[word](records, setting, version)
     records.finish()
     return answer
 
@@ -162,8 +173,7 @@ def read_table(records, setting, version):
 
 
 def read_optimal(records, setting, version):
-    records.expect(value=3)
-    value = records.integer(2, -GREATEST_WIDE, GREATEST_WIDE), records.integer(3, 1, GREATEST_WIDE)
+    value = read_value(records)
     mechanism = read_mechanism(records, setting)
     records.expect(bound=2)
     bound = records.integer(2, 1, GREATEST)
@@ -199,6 +209,12 @@ READERS = {
 }
 
 
+def read_value(records):
+    """The numerator and the denominator of the record `value`."""
+    records.expect(value=3)
+    return records.integer(2, -GREATEST_WIDE, GREATEST_WIDE), records.integer(3, 1, GREATEST_WIDE)
+
+
 def read_mechanism(records, setting):
     """The records from `table` to the last payment."""
     records.expect(table=2)
@@ -231,8 +247,13 @@ def read_named(records, setting, profile, least):
 
 
 def read_multipliers(records, setting, count):
-    """The `row` records up to the end, with the face multiplier alone or with the main one: pairs by index."""
-    rows = setting.condition_count() + setting.profile_count()
+    """The multipliers of a general setting's rows."""
+    return read_rows(records, setting.condition_count() + setting.profile_count(), count)
+
+
+def read_rows(records, rows, count):
+    """The `row` records up to the end, with the face multiplier alone or with the main one: pairs by index, which is one
+    of so many rows."""
     multipliers = {}
     least = 0
     while records.expect(row=2 + count, end=1) == "row":
@@ -245,9 +266,16 @@ def read_multipliers(records, setting, count):
 
 def read_path(records):
     """The `pivot` records of a path, and the `wide` record behind them."""
+    records.expect(pivot=3, wide=5)
+    return read_begun_path(records)
+
+
+def read_begun_path(records):
+    """The same where the first record was taken up."""
     pivots = []
-    while records.expect(pivot=3, wide=5) == "pivot":
+    while records.at("pivot"):
         pivots.append((records.integer(2, 0, GREATEST_PLACE), records.integer(3, 0, GREATEST_PLACE)))
+        records.expect(pivot=3, wide=5)
     row, column = records.integer(2, 0, GREATEST_PLACE), records.integer(3, 0, GREATEST_PLACE)
     num = records.integer(4, -GREATEST_WIDE, GREATEST_WIDE)
     return pivots, (row, column, num, records.integer(5, 1, GREATEST_WIDE))

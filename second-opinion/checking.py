@@ -7,17 +7,21 @@ the multipliers weigh the rows of the linear program, and their sums bound the v
 from fractions import Fraction
 
 import answer
+import auction
+import auction_answer
 import command
 import setting
 from answer import InfeasibleAnswer, Mechanism, OptimalAnswer, UnboundedAnswer
+from auction_answer import AuctionAnswer
 from program import broken, point_of, program_of, sum_over, value_of
 
 
 def check(words):
     """The command `check SETTING ANSWER`. The setting is read and refused before the answer is opened."""
     setting_name, answer_name = command.file_names(words, 2)
-    its = setting.read_general_setting(command.read_file(setting_name, setting.FILE_LIMIT))
-    said = answer.read_answer(command.read_file(answer_name, answer.FILE_LIMIT), its)
+    its = setting.read_setting(command.read_file(setting_name, setting.FILE_LIMIT))
+    reader = auction_answer if isinstance(its, setting.AuctionSetting) else answer
+    said = reader.read_answer(command.read_file(answer_name, answer.FILE_LIMIT), its)
     status, line = verdict(its, said)
     return status, line + "\n"
 
@@ -30,6 +34,8 @@ def verdict(its, said):
         failed = failed_infeasible(its, said)
     elif isinstance(said, UnboundedAnswer):
         failed = failed_unbounded(its, said)
+    elif isinstance(said, AuctionAnswer):
+        failed = failed_auction(its, said)
     else:
         return 22, "undecided"
     if failed is None:
@@ -48,6 +54,30 @@ def failed_optimal(setting, answer):
     if value != Fraction(*answer.value):
         return 2, value.numerator, value.denominator
     program = program_of(setting)
+    reached = Fraction(sum_over(program.cost, point_of(setting, mechanism)), mechanism.den)
+    return failed_bound(program, answer, reached)
+
+
+def failed_auction(its, said):
+    """The same of an optimal answer about an auction: its masses make the odds, and the odds and pays are a point of the
+    reduced program, which no point with a greater cost has."""
+    interim = said.interim
+    for place, odds in enumerate(interim.odds):
+        given = sum(masses[place] for masses in said.masses.values())
+        if given != auction.demand(its, place, odds):
+            return 9, place, given, auction.demand(its, place, odds)
+    program, point = auction.program_of(its, said.cuts), auction.point_of(interim)
+    for index, row in enumerate(program.rows):
+        if sum_over(row.terms, point) > interim.den * row.right:
+            return 10, index, sum_over(row.terms, point), interim.den * row.right
+    value = auction.value_of(its, interim)
+    if value != Fraction(*said.value):
+        return 2, value.numerator, value.denominator
+    return failed_bound(program, said, Fraction(sum_over(program.cost, point), interim.den))
+
+
+def failed_bound(program, answer, reached):
+    """Conditions 3 to 6 of an optimal answer: its multipliers bound the cost of every point by the one that is reached."""
     failed = failed_multipliers(program, answer.multipliers, answer.bound)
     if failed is not None:
         return failed
@@ -55,7 +85,6 @@ def failed_optimal(setting, answer):
     if face != 0:
         return 5, face
     bound = Fraction(main, answer.bound)
-    reached = Fraction(sum_over(program.cost, point_of(setting, mechanism)), mechanism.den)
     if bound != reached:
         return 6, bound.numerator, bound.denominator, reached.numerator, reached.denominator
     return None

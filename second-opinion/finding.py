@@ -9,6 +9,8 @@ import math
 from fractions import Fraction
 
 import answer
+import auction_answer
+import auction_finding
 import command
 import setting
 from answer import InfeasibleAnswer, Mechanism, OptimalAnswer, UnboundedAnswer
@@ -23,11 +25,14 @@ def find(words):
     (name,) = command.file_names(words, 1)
     its = setting.read_setting(command.read_file(name, setting.FILE_LIMIT))
     if isinstance(its, setting.AuctionSetting):
-        raise setting.Refused(65, "auctions are not served")
-    found = found_answer(its)
-    if answer.has_wide_number(found):
+        found = auction_finding.found_answer(its)
+        status, is_wide, text = 0, auction_answer.has_wide_number(found), auction_answer.write_answer(found)
+    else:
+        found = found_answer(its)
+        status, is_wide, text = STATUSES[type(found)], answer.has_wide_number(found), answer.write_answer(found, its)
+    if is_wide:
         raise setting.Refused(1, "a number of the answer has more than 62 bits")
-    return STATUSES[type(found)], answer.write_answer(found, its)
+    return status, text
 
 
 def found_answer(setting):

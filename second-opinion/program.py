@@ -7,9 +7,6 @@ mechanism, and `program_of` turns the same conditions into rows over the columns
 import math
 from dataclasses import dataclass
 
-import command
-import setting
-
 
 @dataclass
 class Condition:
@@ -205,23 +202,3 @@ def point_of(setting, mechanism):
 def sum_over(terms, point):
     """The sum of numbers times a point."""
     return sum(number * point.get(column, 0) for column, number in terms.items())
-
-
-def rows(words):
-    """The command `rows SETTING`: the linear program as a text."""
-    (name,) = command.file_names(words, 1)
-    return 0, rows_text(program_of(setting.read_general_setting(command.read_file(name, setting.FILE_LIMIT))))
-
-
-def rows_text(program):
-    """A linear program as the format prints it."""
-
-    def pairs(terms):
-        return [number for column in sorted(terms) for number in (column, terms[column])]
-
-    records = [["program", program.columns, len(program.rows)], ["cost", *pairs(program.cost)]]
-    for index, row in enumerate(program.rows):
-        kind = "exact" if row.exact else "atmost"
-        records.append(["row", index, row.name, kind, row.right, *pairs(row.terms)])
-    records.append(["end"])
-    return "".join(",".join(map(str, record)) + "\n" for record in records)

@@ -186,14 +186,6 @@ def read_setting(data):
     return read_auction(top)
 
 
-def read_general_setting(data):
-    """The same, where an auction is refused too, since no command serves it."""
-    its = read_setting(data)
-    if isinstance(its, AuctionSetting):
-        refuse("other kind")
-    return its
-
-
 def read_toml(data):
     """The top table of a TOML document. Python's reader takes whole numbers of any size, while TOML has those of 64
     bits, and it does not pass over a byte order mark."""

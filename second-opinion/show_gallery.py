@@ -1,5 +1,5 @@
 #!/usr/bin/env python3
-"""Writes the gallery: a page for each setting of examples/ that has a stored answer, and an index of them.
+"""Writes the gallery: a page for each general setting of examples/ that has a stored answer, and an index of them.
 
     second-opinion/show_gallery.py [FOLDER]
 
@@ -12,7 +12,7 @@ from html import escape
 from pathlib import Path
 
 from answer import OptimalAnswer, read_answer
-from setting import read_setting
+from setting import GeneralSetting, read_setting
 from show_draw import standalone
 from show_facts import Play, Prior
 from show_page import Page, document
@@ -48,11 +48,17 @@ def index(entries):
     return document(heading, f"<h1>{heading}</h1>\n", f'{words}<ul class="pages">\n{items}</ul>\n', foot)
 
 
+def names():
+    """The examples that have a stored answer; auctions are left out, since no page shows them yet."""
+    stored = [path.name.removesuffix(ENDING) for path in sorted(EXAMPLES.glob("*" + ENDING))]
+    return [name for name in stored if isinstance(read_setting((EXAMPLES / f"{name}.toml").read_bytes()), GeneralSetting)]
+
+
 def pages():
     """The texts of all files, by their names."""
     made, entries = {}, []
-    for path in sorted(EXAMPLES.glob("*" + ENDING)):
-        name = path.name.removesuffix(ENDING)
+    for name in names():
+        path = EXAMPLES / (name + ENDING)
         data = (EXAMPLES / f"{name}.toml").read_bytes()
         setting = read_setting(data)
         answer = read_answer(path.read_bytes(), setting)

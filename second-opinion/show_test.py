@@ -28,11 +28,10 @@ EMPTY = {"meta", "br", "wbr"}
 
 
 def stored():
-    """The name, setting and answer of each example with a stored answer."""
-    for path in sorted(EXAMPLES.glob("*-answer.csv")):
-        name = path.name.removesuffix("-answer.csv")
+    """The name, setting and answer of each example of the gallery."""
+    for name in show_gallery.names():
         setting = read_setting((EXAMPLES / f"{name}.toml").read_bytes())
-        yield name, setting, read_answer(path.read_bytes(), setting)
+        yield name, setting, read_answer((EXAMPLES / f"{name}-answer.csv").read_bytes(), setting)
 
 
 class Elements(HTMLParser):
