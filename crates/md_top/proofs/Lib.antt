@@ -1,6 +1,7 @@
 pub mod Files
 pub mod Headlines
 pub mod AuctionHeadlines
+pub mod Fairest
 pub mod Limits
 pub mod Outcomes
 pub mod Works

@@ -8,7 +8,7 @@ use Rattle.md_ports.specs.Faults.{Rose}
 use Rattle.md_words.specs.Commands.{command_in}
 use Rattle.md_words.specs.Words.{Order, command_of}
 use Rattle.md_words.specs.declared.command.Command.{Command}
-use Rattle.md_words.specs.declared.command.Command.TheVariants.{Audit, Rows, Check, Solve, Replay, Realise}
+use Rattle.md_words.specs.declared.command.Command.TheVariants.{Audit, Rows, Check, Solve, Replay, Realise, Fair}
 use Rattle.md_setting.specs.declared.file.SettingFile.{SettingFile}
 use Rattle.md_setting.specs.declared.file.SettingFile.TheVariants.{General, Auction}
 use Rattle.md_top.specs.declared.refusal.Refusal.{Refusal}
@@ -105,6 +105,7 @@ headline-of_command Solve setting second width content before after saying statu
     λ bytes told. not_shown width saying status out err delivered (setting_in is_any bytes) (refused-above refusal.Memory saying status out err memory.0 delivered)
 headline-of_command Replay setting second width content before after saying status out err said delivered = tt
 headline-of_command Realise setting second width content before after saying status out err said delivered = tt
+headline-of_command Fair setting second width content before after saying status out err said delivered = tt
 
 headline-by : {A : Type 0} (named : Option A) (order : Option Order) (content : List ℕ → Option (List ℕ)) (before after : List ℕ → ℕ) (saying : Saying) (status : ℕ) (out err : SinkChange)
     → IsSaidBy named order content before after saying → IsDelivered saying status out err → IsHeadlineOf order content status out

@@ -12,5 +12,6 @@ pub mod Checking
 pub mod Solving
 pub mod Replaying
 pub mod Realising
+pub mod Fair
 pub mod Reply
 pub mod Promises

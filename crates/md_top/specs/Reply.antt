@@ -2,7 +2,7 @@
 use Rattle.std.specs.Prelude.{◌≡◌, ◌⊎◌, ℕ, List, Option, None, Some, IsSome}
 use Rattle.md_words.specs.Commands.{command_in}
 use Rattle.md_words.specs.declared.command.Command.{Command}
-use Rattle.md_words.specs.declared.command.Command.TheVariants.{Audit, Rows, Check, Solve, Replay, Realise}
+use Rattle.md_words.specs.declared.command.Command.TheVariants.{Audit, Rows, Check, Solve, Replay, Realise, Fair}
 use Rattle.md_words.specs.Words.{Order, command_of}
 use Rattle.md_mech.specs.declared.mechanism.Mechanism.{Mechanism}
 use Rattle.md_border.specs.declared.interim.Interim.{Interim}
@@ -20,6 +20,7 @@ use Rattle.md_top.specs.Checking.{answer_in, IsCheck, IsCheckStatus}
 use Rattle.md_top.specs.Solving.{IsSolve}
 use Rattle.md_top.specs.Replaying.{pivots_in, IsReplay, IsReplayStatus}
 use Rattle.md_top.specs.Realising.{odds_in, IsRealise, IsRealiseStatus}
+use Rattle.md_top.specs.Fair.{IsFair}
 
 -- the commands: the files of each, what it says of them, and its statuses
 abbrev pub work_by : Command → ℕ → Work
@@ -29,6 +30,7 @@ work_by Check width = two_files Answer is_any answer_in IsCheck IsCheckStatus
 work_by Solve width = one_file is_any (IsSolve width) IsSolveStatus
 work_by Replay width = two_files Pivots is_any pivots_in (IsReplay width) IsReplayStatus
 work_by Realise width = two_files Interim is_auction odds_in IsRealise IsRealiseStatus
+work_by Fair width = one_file is_general (IsFair width) IsSolveStatus
 
 abbrev pub work_of : Order → Work
 work_of order = work_by order.command order.width

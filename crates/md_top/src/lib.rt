@@ -7,6 +7,10 @@ mod auction_tests;
 mod audit;
 mod call;
 mod check;
+mod fair;
+#[cfg(test)]
+mod fair_tests;
+mod fair_text;
 mod one_file;
 mod read;
 mod realise;

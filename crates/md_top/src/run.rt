@@ -6,6 +6,7 @@ ghost use Rattle.md_top.specs.Works.{IsCarriedOut};
 use crate::answered::Answered;
 use crate::audit::Audit;
 use crate::check::Check;
+use crate::fair::Fair;
 use crate::one_file::of_one;
 use crate::realise::Realise;
 use crate::refusal::Refusal;
@@ -38,5 +39,6 @@ pub(crate) fn run<F: Shelf>(
         Command::Solve => of_one(alloc, &Solve { width }, setting, shelf),
         Command::Replay => of_two(alloc, &Replay { width }, setting, second, shelf),
         Command::Realise => of_two(alloc, &Realise, setting, second, shelf),
+        Command::Fair => of_one(alloc, &Fair { width }, setting, shelf),
     }
 }

@@ -6,11 +6,12 @@
 --   solve SETTING [--width W]
 --   replay SETTING PIVOTS [--width W]
 --   realise SETTING ODDS
+--   fair SETTING [--width W]
 use Rattle.std.specs.Prelude.{List, [], ◌∷◌, Option, Some, None, codes, if◌then◌else◌}
 use Rattle.std.specs.Str.{bytes_eq}
 use Rattle.clap.specs.Words.{Text}
 use Rattle.md_words.specs.declared.command.Command.{Command}
-use Rattle.md_words.specs.declared.command.Command.TheVariants.{Audit, Rows, Check, Solve, Replay, Realise}
+use Rattle.md_words.specs.declared.command.Command.TheVariants.{Audit, Rows, Check, Solve, Replay, Realise, Fair}
 use Rattle.md_words.specs.declared.form.Form.{Form}
 use Rattle.md_words.specs.declared.form.Form.TheVariants.{One, OneWidth, Two, TwoWidth}
 
@@ -24,7 +25,8 @@ command_named word =
     else (if bytes_eq word (codes "solve") then Some Solve
     else (if bytes_eq word (codes "replay") then Some Replay
     else (if bytes_eq word (codes "realise") then Some Realise
-    else None)))))
+    else (if bytes_eq word (codes "fair") then Some Fair
+    else None))))))
 
 -- the command that the first word names; none where there is no word, or it is no name
 abbrev pub command_in : List Text → Option Command
@@ -39,3 +41,4 @@ form_of Audit = Two
 form_of Check = Two
 form_of Replay = TwoWidth
 form_of Realise = Two
+form_of Fair = OneWidth

@@ -19,6 +19,8 @@ pub enum Command {
     Replay,
     /// `realise SETTING ODDS` realises interim odds of an auction.
     Realise,
+    /// `fair SETTING [--width W]` finds the fairest mechanism of a setting within a width.
+    Fair,
 }
 
 /// The command that the first word of a call names, if there is one and it does. It takes no memory.
@@ -39,6 +41,7 @@ fn named(word: &str) -> Option<Command>
         "solve" => Some(Command::Solve),
         "replay" => Some(Command::Replay),
         "realise" => Some(Command::Realise),
+        "fair" => Some(Command::Fair),
         _ => None,
     }
 }
@@ -49,7 +52,7 @@ pub(crate) fn form(command: Command) -> Form
 {
     match command {
         Command::Rows => Form::One,
-        Command::Solve => Form::OneWidth,
+        Command::Solve | Command::Fair => Form::OneWidth,
         Command::Audit | Command::Check | Command::Realise => Form::Two,
         Command::Replay => Form::TwoWidth,
     }

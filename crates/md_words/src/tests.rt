@@ -7,7 +7,7 @@ use std::test::Fail;
 // What words are expected to ask for: the command, the two names and the width; none where they are no command.
 type Expected = Option<(Command, &'static str, &'static str, u8)>;
 
-static CASES: [(&[&str], Expected); 27] = [
+static CASES: [(&[&str], Expected); 32] = [
     (&["audit", "a", "b"], Some((Command::Audit, "a", "b", 62))),
     (&["check", "a", "b"], Some((Command::Check, "a", "b", 62))),
     (&["rows", "a"], Some((Command::Rows, "a", "", 62))),
@@ -35,6 +35,14 @@ static CASES: [(&[&str], Expected); 27] = [
         &["realise", "a", "b"],
         Some((Command::Realise, "a", "b", 62)),
     ),
+    (&["fair", "a"], Some((Command::Fair, "a", "", 62))),
+    (
+        &["fair", "a", "--width", "4"],
+        Some((Command::Fair, "a", "", 4)),
+    ),
+    (&["fair", "a", "b"], None),
+    (&["fair", "a", "--width", "63"], None),
+    (&["fairest", "a"], None),
     (&["audit", "a"], None),
     (&["audit", "a", "b", "c"], None),
     (&["rows", "-1"], None),

@@ -1,0 +1,83 @@
+//! The fairest mechanisms of settings, over files in memory. What each has is worked out by hand.
+use crate::mechdes;
+use crate::test_settings::{OUT_OF_REACH, POSTED_PRICE_FRONT, TAKING, TWO_BIDDERS, WELFARE_VOTE};
+use crate::tests::words;
+use md_ports::{MemShelf, MemSink};
+use std::test::Fail;
+
+// A setting by its front and its end, the width, the status, what is printed, and what is said on the other stream.
+type Case = (
+    &'static str,
+    &'static str,
+    &'static str,
+    u8,
+    &'static str,
+    &'static str,
+);
+
+static CASES: [Case; 5] = [
+    // The voters agree in half of the four profiles, and both get 1 there. Else one of them does: both together get 6 over
+    // all profiles, so that one of them has at most 3 of 4. Where `a` is taken only if both like it, both have that much.
+    // The multipliers are what a separate program makes of the rules for paths.
+    (
+        WELFARE_VOTE,
+        "",
+        "62",
+        0,
+        "answer,1,fair,optimal\nvalue,3,4\ntable,1\nlottery,l,l,1,0\nlottery,l,r,0,1\nlottery,r,l,0,1\nlottery,r,r,0,1\nbound,2\nrow,8,0,2\nrow,9,0,1\nrow,10,0,1\nrow,11,0,2\nrow,12,0,1\nrow,13,0,1\nend\n",
+        "",
+    ),
+    // The first row asks for 1, and the agent gets 0.
+    (
+        OUT_OF_REACH,
+        "",
+        "62",
+        10,
+        "answer,1,fair,infeasible\nrow,0,1\nend\n",
+        "",
+    ),
+    // The designer would like to be paid, and that does not count: the agent may be paid without an end.
+    (
+        TAKING,
+        "",
+        "62",
+        11,
+        "answer,1,fair,unbounded\ntable,1\nlottery,t,1\npay,t,0\nray,t,-1\nend\n",
+        "",
+    ),
+    // With 4 bits a number is at most 15. The buyer's high value stands in the row of its truth, in the first basis.
+    (
+        POSTED_PRICE_FRONT,
+        "20]]\n",
+        "4",
+        12,
+        "answer,1,fair,toowide\nwide,1,1,20,1\nagain\nwide,1,1,20,1\nend\n",
+        "",
+    ),
+    (
+        TWO_BIDDERS,
+        "",
+        "62",
+        65,
+        "",
+        "mechdes: setting refused: other kind\n",
+    ),
+];
+
+#[test]
+fn finds_the_fairest(rt: HostRuntime) -> Result<(), Fail> {
+    let alloc = rt.alloc();
+    for (front, end, width, status, printed, said) in &CASES {
+        let words = words(alloc, &["fair", "setting", "--width", width])?;
+        let setting = format!(in alloc; "{front}{end}")?;
+        let mut shelf = MemShelf::new(alloc);
+        shelf.put("setting", setting.as_bytes())?;
+        let mut out = MemSink::new(alloc, 500)?;
+        let mut err = MemSink::new(alloc, 100)?;
+        let got = mechdes(alloc, &words, &mut shelf, &mut out, &mut err);
+        assert_eq!(rt; got, *status, "at {printed}{said}");
+        assert!(rt; out.bytes() == printed.as_bytes(), "at {printed}");
+        assert!(rt; err.bytes() == said.as_bytes(), "at {said}");
+    }
+    Ok(())
+}
