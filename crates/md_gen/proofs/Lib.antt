@@ -1,0 +1,4 @@
+pub mod DrawLaws
+pub mod AuctionAccepted
+pub mod SettingAccepted
+pub mod MadeLaws

@@ -1,0 +1,4 @@
+pub mod Draws
+pub mod GeneratedAuction
+pub mod GeneratedSetting
+pub mod Generated
