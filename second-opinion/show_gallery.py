@@ -15,8 +15,8 @@ from answer import OptimalAnswer, read_answer
 from setting import GeneralSetting, read_setting
 from show_draw import standalone
 from show_facts import Play, Prior
-from show_page import Page, document
-from show_parts import paragraph
+from show_page import Page
+from show_parts import document, paragraph
 from show_text import html_number, remark
 
 EXAMPLES = Path(__file__).resolve().parent.parent / "examples"

@@ -6,12 +6,10 @@ from html import escape
 from answer import InfeasibleAnswer, OptimalAnswer, TableAnswer, TooWideAnswer, UnboundedAnswer
 from show_draw import LETTERS, matrices, pattern_definitions, swatch, used_outcomes
 from show_facts import Play, Prior, conditions, name_of
-from show_parts import alert, figure, paragraph, section
-from show_style import page_style
+from show_parts import alert, big, big_value, figure, hidden, made_from, paragraph, section, whole
 from show_tables import agents_table, payments_tables, prior_table, utilities_table, utility_table, value_table
 from show_text import (
-    count, html_name, html_number, interdependent, listed, mixed, objective_words, payments_words, rational_words,
-    truth_words,
+    count, html_name, html_number, interdependent, listed, objective_words, payments_words, rational_words, truth_words,
 )
 from show_why import equal_section, infeasible_section, too_wide_section
 
@@ -60,21 +58,13 @@ class Page:
         defs, parts = "", [self.verdict(), self.setting_section()]
         if self.play:
             defs = pattern_definitions(used_outcomes(self.play))
-            defs = f'<svg class="defs" width="0" height="0" aria-hidden="true" focusable="false">{defs}</svg>\n'
+            defs = hidden(defs)
             parts += [self.lotteries_section(), self.payments_section(), self.utility_section(), equal_section(self)]
         elif isinstance(self.answer, InfeasibleAnswer):
             parts.append(infeasible_section(self))
         else:
             parts.append(too_wide_section(self.answer.paths))
-        over = f'<a href="{escape(self.home)}">All pages</a>' if self.home else "A setting and its answer"
-        lead = f'<p class="lead">{escape(self.remark)}</p>\n' if self.remark else ""
-        title = escape(self.title)
-        return document(
-            f"{title}: {self.kind()}",
-            f'<p class="over">{over}</p>\n<h1>{title}</h1>\n{lead}',
-            defs + "".join(parts),
-            self.foot(),
-        )
+        return whole(self, defs + "".join(parts))
 
     def kind(self):
         """The kind of the answer, in a few words."""
@@ -226,11 +216,7 @@ class Page:
 
     def foot(self):
         """Where the page comes from, and what it is not."""
-        setting, answer = (f"<code>{escape(name)}</code>" for name in self.names)
-        text = paragraph(
-            f"Made by <code>second-opinion/show</code> from {setting} and {answer}. All numbers are exact; nothing is "
-            "rounded but the coordinates of the pictures."
-        )
+        text = made_from(self.names)
         if self.play:
             text += paragraph(
                 "The utilities, the value and the conditions were computed for this page from the setting and the "
@@ -240,24 +226,3 @@ class Page:
                 "mechanism."
             )
         return text
-
-
-def document(title, header, main, footer):
-    """A page of HTML. All four are HTML already."""
-    return (
-        '<!DOCTYPE html>\n<html lang="en">\n<head>\n<meta charset="utf-8">\n'
-        '<meta name="viewport" content="width=device-width, initial-scale=1">\n'
-        f"<title>{title}</title>\n<style>\n{page_style()}</style>\n</head>\n<body>\n"
-        f"<header>\n{header}</header>\n<main>\n{main}</main>\n<footer>\n{footer}</footer>\n</body>\n</html>\n"
-    )
-
-
-def big(text):
-    """What the answer says, in large letters."""
-    return f'<p class="value">{text}</p>\n'
-
-
-def big_value(value):
-    """The value of a mechanism, in large digits."""
-    rest = mixed(value).replace("/", "/<wbr>")
-    return big(f"Value {html_number(value)}") + (f'<p class="soft">= {rest}</p>\n' if rest else "")

@@ -1,6 +1,9 @@
-"""The parts of which a page is made: sections, paragraphs, pictures with their captions, and warnings."""
+"""The parts of which a page is made: sections, paragraphs, pictures with their captions, warnings, and the whole of it."""
 
 from html import escape
+
+from show_style import page_style
+from show_text import html_number, mixed
 
 NARROWEST = 180  # pixels of a picture with its caption, at least
 ANY_PAGE = 320  # pixels that fit on any page
@@ -28,3 +31,47 @@ def figure(caption, drawn, name, label):
     caption = f"<figcaption>{escape(caption)}</figcaption>\n" if caption else ""
     picture = f'<div class="scroll"{scroll}>\n{drawn.svg(name)}\n</div>\n'
     return f'<figure style="width:{wide}px">\n{caption}{picture}</figure>\n'
+
+
+def hidden(definitions):
+    """The patterns of a page, in a picture that nobody sees."""
+    return f'<svg class="defs" width="0" height="0" aria-hidden="true" focusable="false">{definitions}</svg>\n'
+
+
+def made_from(names):
+    """Where a page comes from: the names of its two files."""
+    setting, answer = (f"<code>{escape(name)}</code>" for name in names)
+    return paragraph(
+        f"Made by <code>second-opinion/show</code> from {setting} and {answer}. All numbers are exact; nothing is "
+        "rounded but the coordinates of the pictures."
+    )
+
+
+def whole(page, main):
+    """A page about an answer around its sections: its title, what is told below it, and its foot."""
+    over = f'<a href="{escape(page.home)}">All pages</a>' if page.home else "A setting and its answer"
+    lead = f'<p class="lead">{escape(page.remark)}</p>\n' if page.remark else ""
+    title = escape(page.title)
+    header = f'<p class="over">{over}</p>\n<h1>{title}</h1>\n{lead}'
+    return document(f"{title}: {page.kind()}", header, main, page.foot())
+
+
+def document(title, header, main, footer):
+    """A page of HTML. All four are HTML already."""
+    return (
+        '<!DOCTYPE html>\n<html lang="en">\n<head>\n<meta charset="utf-8">\n'
+        '<meta name="viewport" content="width=device-width, initial-scale=1">\n'
+        f"<title>{title}</title>\n<style>\n{page_style()}</style>\n</head>\n<body>\n"
+        f"<header>\n{header}</header>\n<main>\n{main}</main>\n<footer>\n{footer}</footer>\n</body>\n</html>\n"
+    )
+
+
+def big(text):
+    """What the answer says, in large letters."""
+    return f'<p class="value">{text}</p>\n'
+
+
+def big_value(value):
+    """The value of a mechanism, in large digits."""
+    rest = mixed(value).replace("/", "/<wbr>")
+    return big(f"Value {html_number(value)}") + (f'<p class="soft">= {rest}</p>\n' if rest else "")

@@ -103,8 +103,11 @@ def objective_words(setting):
     if any(setting.values):
         listing = ", ".join(f"{name} {number(worth)}" for name, worth in zip(setting.outcomes, setting.values))
         parts.append((1, f"the designer\N{RIGHT SINGLE QUOTATION MARK}s own value of the outcome ({listing})"))
-    if not parts:
-        return "nothing: every mechanism has the value 0"
+    return sum_words(parts) if parts else "nothing: every mechanism has the value 0"
+
+
+def sum_words(parts):
+    """A sum as text; each part is a factor with the words for what it counts."""
     text = "expected "
     for place, (factor, words) in enumerate(parts):
         if place:
