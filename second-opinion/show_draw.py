@@ -206,13 +206,18 @@ def standalone(play, heading):
             y += LINE
         made.append(matrix.body(left, y))
         y += matrix.height + 12
-    wide, tall = place(width + 2 * left), place(y + 4)
     words = " ".join(f"{matrix.title()}: {matrix.description()}" for matrix in drawn)
+    return picture_file(heading, words, width + 2 * left, y + 4, used_outcomes(play), made)
+
+
+def picture_file(heading, words, width, height, used, made):
+    """A picture as a file of its own, with its words for a screen reader and the patterns that it uses."""
+    wide, tall = place(width), place(height)
     return (
         '<svg xmlns="http://www.w3.org/2000/svg" role="img" aria-labelledby="title" aria-describedby="desc" '
         f'width="{wide}" height="{tall}" viewBox="0 0 {wide} {tall}">\n<title id="title">{escape(heading)}</title>\n'
         f'<desc id="desc">{escape(words)}</desc>\n<style>{picture_style()}</style>\n'
-        f'{pattern_definitions(used_outcomes(play))}\n<rect class="paper" width="100%" height="100%"/>\n'
+        f'{pattern_definitions(used)}\n<rect class="paper" width="100%" height="100%"/>\n'
         + "\n".join([*made, "</svg>\n"])
     )
 

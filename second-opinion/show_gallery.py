@@ -1,5 +1,5 @@
 #!/usr/bin/env python3
-"""Writes the gallery: a page for each general setting of examples/ that has a stored answer, and an index of them.
+"""Writes the gallery: a page for each setting of examples/ that has a stored answer, and an index of them.
 
     second-opinion/show_gallery.py [FOLDER]
 
@@ -11,11 +11,8 @@ import sys
 from html import escape
 from pathlib import Path
 
-from answer import OptimalAnswer, read_answer
-from setting import GeneralSetting, read_setting
-from show_draw import standalone
-from show_facts import Play, Prior
-from show_page import Page
+from setting import read_setting
+from show_kinds import page_of, picture_of, read_answer
 from show_parts import document, paragraph
 from show_text import html_number, remark
 
@@ -41,7 +38,8 @@ def index(entries):
     )
     words = paragraph(
         "A page for each setting of the examples whose answer is stored: its lotteries as bars, its payments, what "
-        "each type gets, and the conditions that hold with equality."
+        "each type gets, and the conditions that hold with equality; or of an auction its odds and payments by value, "
+        "its virtual values, and the sets of values that bind."
     )
     foot = paragraph("Made by <code>second-opinion/show_gallery.py</code>. All numbers are exact.")
     heading = "Settings and their answers"
@@ -49,9 +47,8 @@ def index(entries):
 
 
 def names():
-    """The examples that have a stored answer; auctions are left out, since no page shows them yet."""
-    stored = [path.name.removesuffix(ENDING) for path in sorted(EXAMPLES.glob("*" + ENDING))]
-    return [name for name in stored if isinstance(read_setting((EXAMPLES / f"{name}.toml").read_bytes()), GeneralSetting)]
+    """The examples that have a stored answer."""
+    return [path.name.removesuffix(ENDING) for path in sorted(EXAMPLES.glob("*" + ENDING))]
 
 
 def pages():
@@ -63,12 +60,12 @@ def pages():
         setting = read_setting(data)
         answer = read_answer(path.read_bytes(), setting)
         title = title_of(name)
-        page = Page(setting, answer, title, [f"{name}.toml", path.name], remark(data), "index.html")
+        page = page_of(setting, answer, title, [f"{name}.toml", path.name], remark(data), "index.html")
         made[f"{name}.html"] = page.html()
-        value = f" of the value {html_number(page.play.value())}" if isinstance(answer, OptimalAnswer) else ""
+        value = f" of the value {html_number(page.value())}" if page.value() is not None else ""
         entries.append((name, title, page.kind(), value, remark(data)))
         if name in PICTURES:
-            made[f"{name}.svg"] = standalone(Play(setting, Prior(setting), answer.mechanism), title)
+            made[f"{name}.svg"] = picture_of(setting, answer, title)
     made["index.html"] = index(entries)
     return made
 

@@ -70,6 +70,10 @@ class Page:
         """The kind of the answer, in a few words."""
         return KINDS[type(self.answer)]
 
+    def value(self):
+        """The value of an optimal answer, or None."""
+        return self.play.value() if isinstance(self.answer, OptimalAnswer) else None
+
     def verdict(self):
         """What the answer says, above all else, and what is wrong with it where that is easily seen."""
         if isinstance(self.answer, OptimalAnswer):

@@ -60,6 +60,9 @@ def drawing_style():
         ".arrow{fill:none;stroke:var(--link);stroke-width:1.5}.arrow.weighed,.ring.weighed{stroke-width:3}"
         ".arrow.some,.ring.some{stroke-dasharray:5 3}.point{fill:var(--link)}.node{fill:var(--panel);stroke:var(--ink)}"
         ".ring{fill:none;stroke:var(--link);stroke-width:1.5}"
+        ".frame{fill:var(--panel);stroke:var(--soft);stroke-width:1}.edge.thick{stroke-width:3}"
+        ".bracket{fill:none;stroke:var(--ink);stroke-width:1.5}"
+        ".across{fill:none;stroke:var(--ink);stroke-width:3;stroke-dasharray:6 2}"
         "svg .agent{font-weight:700}svg .heading{font-size:14px;font-weight:700}"
         "svg .letter{font-weight:700;stroke-width:4px;stroke-linejoin:round;paint-order:stroke}"
     )
@@ -121,6 +124,7 @@ figcaption{font-weight:600;margin-bottom:.3rem}
 .legend li{display:flex;align-items:flex-start;gap:.45rem;overflow-wrap:anywhere}
 .swatch{flex:none}
 @media (max-width:40rem){th,td{padding:.3rem .4rem}table{font-size:.94rem}}
+summary{cursor:pointer;font-weight:600}
 .names{columns:22rem;column-gap:2rem;padding-left:1.2rem;margin:.5rem 0}
 .names li{break-inside:avoid;padding-bottom:.15rem}
 .pages{padding-left:1.2rem;max-width:46rem}

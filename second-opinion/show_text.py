@@ -5,6 +5,7 @@ from fractions import Fraction
 from html import escape
 
 MINUS = "\N{MINUS SIGN}"
+TIMES = "\N{MULTIPLICATION SIGN}"
 LONGEST_REMARK = 1000
 UNBROKEN = 14  # characters of a fraction, or of a part of a name, that stay in one line
 
@@ -48,6 +49,21 @@ def listed(words):
     """`a`, `a and b`, `a, b and c`."""
     words = list(words)
     return words[0] if len(words) == 1 else ", ".join(words[:-1]) + " and " + words[-1]
+
+
+def set_words(values, places):
+    """A set of values by their places, such as `2, 4 to 6`: four or more next to each other are a range."""
+    runs = []
+    for place in places:
+        if runs and runs[-1][-1] == place - 1:
+            runs[-1].append(place)
+        else:
+            runs.append([place])
+    words = []
+    for run in runs:
+        names = [number(values[place]) for place in run]
+        words += [f"{names[0]} to {names[-1]}"] if len(run) > 3 else names
+    return ", ".join(words)
 
 
 def interdependent(setting):
@@ -114,8 +130,20 @@ def sum_words(parts):
             text += " + " if factor > 0 else f" {MINUS} "
         elif factor < 0:
             text += f"{MINUS} "
-        text += words if abs(factor) == 1 else f"{abs(factor)} \N{MULTIPLICATION SIGN} {words}"
+        text += words if abs(factor) == 1 else f"{abs(factor)} {TIMES} {words}"
     return text
+
+
+def auction_objective_words(auction):
+    """What the designer of an auction maximises."""
+    parts = []
+    if auction.revenue:
+        parts.append((auction.revenue, "revenue (what the bidders pay)"))
+    if auction.welfare:
+        parts.append((auction.welfare, "welfare (what the item is worth to who gets it)"))
+    if auction.keep:
+        parts.append((1 if auction.keep > 0 else -1, f"{abs(auction.keep)} where the item is kept"))
+    return sum_words(parts) if parts else "nothing: every auction has the value 0"
 
 
 def condition_words(setting, row):

@@ -137,8 +137,8 @@ def infeasible_section(page):
     return section("Why there is none", text)
 
 
-def too_wide_section(paths):
-    """How far each path came, and the entry at which it ended."""
+def too_wide_section(paths, factor="all utilities of an agent and all payments"):
+    """How far each path came, and the entry at which it ended. `factor` says what may have a factor in common."""
     rows = []
     for name, (pivots, (row, column, num, den)) in zip(["forward", "backward"], paths):
         places = [(f"{len(pivots):,}", "num"), (str(row), "num"), (str(column), "num")]
@@ -151,7 +151,7 @@ def too_wide_section(paths):
     )
     text += table("The first entry of each path that is too wide", [*heads, ("Bits of the entry", True)], rows)
     text += paragraph(
-        "What helps is to ask the same question in fewer digits: take out a factor that all utilities of an agent and "
-        "all payments have in common, or give weights as small whole numbers."
+        f"What helps is to ask the same question in fewer digits: take out a factor that {factor} have in common, or "
+        "give weights as small whole numbers."
     )
     return section("What it says", text)
