@@ -38,10 +38,12 @@ def rise(span):
 
 
 class Line:
-    """The types of an agent in a line. `arrows` has what holds by pairs of a type and a report, `rings` by types."""
+    """The types of an agent in a line. `arrows` has what holds by pairs of a type and a report, `rings` by types. `word`
+    is what a type is called, and `least` what is said of one with a ring."""
 
-    def __init__(self, agent, arrows, rings):
+    def __init__(self, agent, arrows, rings, word="Type", least="gets just its outside utility"):
         self.agent = agent
+        self.word, self.least = word, least
         self.arrows = arrows
         self.rings = rings
         self.pill = max(map(len, agent.types)) * CHAR + 14
@@ -65,10 +67,10 @@ class Line:
                 for (true, report), held in self.arrows.items()
                 if true == own
             ]
-            words = f"Type {name}: "
+            words = f"{self.word} {name}: "
             words += f"as good as the truth is {', '.join(reports)}" if reports else "no report is as good as the truth"
             if own in self.rings:
-                words += f"; it gets just its outside utility{self.rings[own].words()}"
+                words += f"; it {self.least}{self.rings[own].words()}"
             sentences.append(words + ".")
         return " ".join(sentences)
 

@@ -1,7 +1,7 @@
 """The pictures of an auction: how often a bidder wins by its value, what values count, and what sets of values ask for.
 
-In all of them the plain pattern is the usual case, and the striped one what a reader looks for: numbers below 0, and sets
-that bind.
+In all of them the plain pattern is the usual case, and the striped one what a reader looks for: numbers below 0, and
+sets that bind.
 """
 
 from fractions import Fraction
@@ -23,10 +23,10 @@ def run_words(auction, first, last, rest):
 def odds_bars(sale):
     """How often a bidder wins, by its own value; values that win as often are marked as one."""
     auction = sale.auction
-    bars = [
-        Bar(number(value), odds, number(odds), f"The value {number(value)} wins with the odds {number(odds)}", limit=1)
-        for value, odds in zip(auction.values, sale.odds)
-    ]
+    bars = []
+    for value, odds in zip(auction.values, sale.odds):
+        spoken = f"The value {number(value)} wins with the odds {number(odds)}"
+        bars.append(Bar(number(value), odds, number(odds), spoken, limit=1))
     groups = [
         Group(first, last, run_words(auction, first, last, "pooled" if odds else "never win"))
         for odds, first, last in sale.pools()
@@ -37,10 +37,10 @@ def odds_bars(sale):
 def value_bars(sale):
     """What each value counts, and the averages of those that fall."""
     auction = sale.auction
-    bars = [
-        Bar(number(value), counts, number(counts), f"The value {number(value)} counts {number(counts)}", key=int(counts < 0))
-        for value, counts in zip(auction.values, counted_values(auction))
-    ]
+    bars = []
+    for value, counts in zip(auction.values, counted_values(auction)):
+        spoken = f"The value {number(value)} counts {number(counts)}"
+        bars.append(Bar(number(value), counts, number(counts), spoken, key=int(counts < 0)))
     groups = [
         Group(
             block.first, block.last, run_words(auction, block.first, block.last, f"ironed to {number(block.counts)}"),

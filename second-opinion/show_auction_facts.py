@@ -1,7 +1,7 @@
 """What a page shows of an auction and its answer: exact numbers, and nothing of how they are shown.
 
-Values go by their places from 0, as in `auction.py`. A run of values is a pair of places, those of its first and its last
-value.
+Values go by their places from 0, as in `auction.py`. A run of values is a pair of places, those of its first and its
+last value.
 """
 
 from dataclasses import dataclass
@@ -87,7 +87,7 @@ def highest_chances(auction, blocks):
 
 
 def greatest_value(auction):
-    """The greatest value that an auction can have: the item goes to the block that counts most, where this is positive."""
+    """The greatest value that an auction can have: the item goes to the block that counts most, if more than 0."""
     blocks = ironed(auction)
     gains = [max(block.counts, 0) * chance for block, chance in zip(blocks, highest_chances(auction, blocks))]
     return auction.keep + sum(gains)

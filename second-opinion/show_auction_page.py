@@ -66,10 +66,11 @@ class AuctionPage:
         wrong = self.mistakes()
         if not wrong:
             made += paragraph(
-                "Its odds and pays meet the conditions, its masses make the odds, and by the virtual values there is no "
-                "greater value."
+                "Its odds and pays meet the conditions, its masses make the odds, and by the virtual values there is "
+                "no greater value."
             )
-        return f'<div class="verdict">\n{made}</div>\n' + "".join(alert("This answer is wrong.", words) for words in wrong)
+        alerts = [alert("This answer is wrong.", words) for words in wrong]
+        return "".join([f'<div class="verdict">\n{made}</div>\n', *alerts])
 
     def mistakes(self):
         """What is wrong with an optimal answer, as sentences of HTML."""
@@ -143,8 +144,8 @@ class AuctionPage:
         """What each value counts, and which of them are averaged."""
         auction = self.auction
         text = paragraph(
-            "The virtual value of a value is what selling to it brings in revenue, less what the values above must then be "
-            f"left with: {FORMULA}."
+            "The virtual value of a value is what selling to it brings in revenue, less what the values above must then "
+            f"be left with: {FORMULA}."
         )
         if counted_values(auction) != virtual_values(auction):
             text += paragraph(f"What a value counts is {self.counts_words()}.")
@@ -157,7 +158,7 @@ class AuctionPage:
             run = set_words(auction.values, range(block.first, block.last + 1))
             text += paragraph(
                 f"At the values {run} these numbers fall, where odds may not. So they are ironed: all of them count "
-                f"their average by weight, {html_number(block.counts)}" + (", at the broken line." if len(blocks) == 1 else ".")
+                f"their average by weight, {html_number(block.counts)}. A broken line is drawn there."
             )
         drawn = figure("", value_bars(self.sale), "counts", "What each value counts")
         return section("Virtual values", f'{text}<div class="flow">\n{drawn}{counts_table(auction)}</div>\n')
@@ -173,8 +174,8 @@ class AuctionPage:
     def value_section(self):
         """The parts of the value, and the greatest one by the virtual values."""
         text = paragraph(
-            "The sum in the second table, by virtual values, bounds the value of every auction that meets the conditions, "
-            "and the best auction reaches it (Myerson 1981)."
+            "The sum in the second table, by virtual values, bounds the value of every auction that meets the "
+            "conditions, and the best auction reaches it (Myerson 1981)."
         )
         tables = value_parts_table(self.sale) + blocks_table(self.auction, greatest_value(self.auction))
         return section("The value", f'{text}<div class="flow">\n{tables}</div>\n')
@@ -183,9 +184,9 @@ class AuctionPage:
         """The sets of values of the answer."""
         cuts = self.sale.cuts()
         text = paragraph(
-            "There is one item. So bidders with a value of a set cannot win in more profiles than there are with such a "
-            "bidder. Odds for which this holds of all sets are those of some auction (Border 1991). The answer names "
-            f"{len(cuts)} of the {count(2 ** len(self.auction.values) - 1, 'set')} that there are."
+            "There is one item. So bidders with a value of a set cannot win in more profiles than there are with such "
+            "a bidder. Odds for which this holds of all sets are those of some auction (Border 1991). The answer names "
+            f"{len(cuts)} of {count(2 ** len(self.auction.values) - 1, 'set')}."
         )
         if not cuts:
             return section("Sets of values", text)
@@ -195,8 +196,8 @@ class AuctionPage:
             )
         if any(cut.weighed for cut in cuts):
             text += paragraph(
-                "A thick edge: with a positive multiplier, the price of the set in the proof. It belongs to the row of the "
-                "set, whose numbers are divided by what they have in common."
+                "A thick edge: with a positive multiplier, the price of the set in the proof. It belongs to the row of "
+                "the set, whose numbers are divided by what they have in common."
             )
         drawn = figure("", cut_bars(self.sale), "cuts", "Sets of values") if len(cuts) <= MANY_CUTS else ""
         return section("Sets of values", f'{text}<div class="flow">\n{drawn}{cuts_table(self.sale)}</div>\n')
@@ -218,11 +219,11 @@ class AuctionPage:
         counts = f"{count(len(arrows), 'condition')} of truth and {len(rings)} of rationality"
         text = paragraph(f"With equality hold {counts}.")
         types = [number(value) for value in self.auction.values]
-        line = Line(SimpleNamespace(name="a bidder", types=types), arrows, rings)
+        line = Line(SimpleNamespace(name="a bidder", types=types), arrows, rings, "Value", "is left with nothing")
         if (arrows or rings) and len(arrows) <= MANY_ARROWS:
             text += paragraph(
-                "An arrow leads from a value to a report that is as good to it as the truth. A double frame has a value "
-                "that is left with nothing. A thick line: with a positive multiplier."
+                "An arrow leads from a value to a report that is as good to it as the truth. A double frame has a "
+                "value that is left with nothing. A thick line: with a positive multiplier."
             )
             text += figure("", line, "equal", "Conditions of a bidder")
         text += prices_table(sale, weighed) if weighed else paragraph("None of these conditions has a multiplier.")
@@ -246,9 +247,9 @@ class AuctionPage:
     def masses_section(self):
         """Who wins where so many bidders have each value."""
         text = paragraph(
-            "How the odds are made: where so many bidders have each value, the item goes to a bidder with a value by these "
-            "chances, to each of those who have it as often. The weight is that of the profiles with these values. A mass "
-            f"of the file is the chance times the weight times {self.sale.interim.den}."
+            "How the odds are made: where so many bidders have each value, the item goes to a bidder with a value by "
+            "these chances, to each of those who have it as often. The weight is that of the profiles with these "
+            f"values. A mass of the file is the chance times the weight times {self.sale.interim.den}."
         )
         return section("Who wins", text + masses_table(self.sale))
 
@@ -257,7 +258,7 @@ class AuctionPage:
         text = made_from(self.names)
         if self.sale:
             text += paragraph(
-                "All but the answer's own numbers was computed for this page. Whether the multipliers prove the value is "
-                "not tried here: <code>mechdes check</code> does that."
+                "All but the answer's own numbers was computed for this page. Whether the multipliers prove the value "
+                "is not tried here: <code>mechdes check</code> does that."
             )
         return text

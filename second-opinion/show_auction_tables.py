@@ -29,8 +29,9 @@ def odds_table(sale):
 
     def cells(place, value):
         per_win = sale.per_win(place)
-        last = ("never wins", "soft") if per_win is None else numeric(per_win)
-        return [head(number(value)), numeric(sale.odds[place]), numeric(sale.pays[place]), last, numeric(sale.keeps(place))]
+        made = [head(number(value)), numeric(sale.odds[place]), numeric(sale.pays[place])]
+        made.append(("never wins", "soft") if per_win is None else numeric(per_win))
+        return [*made, numeric(sale.keeps(place))]
 
     rows = [cells(place, value) for place, value in enumerate(sale.auction.values)]
     return table("Odds and pays by value", heads, rows, "on average over the values of the others")
@@ -126,8 +127,9 @@ def masses_table(sale):
     auction, rows = sale.auction, []
     for counts in list(sale.answer.masses)[:MOST_ROWS]:
         shares = sale.shares(counts)
-        goes = ", ".join(f"{number(value)}: {html_number(share)}" for value, share in zip(auction.values, shares) if share)
-        cells = [head(counts_words(auction, counts)), goes or ("to nobody", "soft"), numeric(1 - sum(shares))]
+        goes = [f"{number(value)}: {html_number(share)}" for value, share in zip(auction.values, shares) if share]
+        goes = ", ".join(goes) or ("to nobody", "soft")
+        cells = [head(counts_words(auction, counts)), goes, numeric(1 - sum(shares))]
         weight, masses = weight_of(auction, counts), sale.answer.masses[counts]
         given = " + ".join(str(mass) for mass in masses if mass) or "0"
         rows.append([*cells, numeric(weight), (f"{given} of {weight * sale.interim.den}", "num")])

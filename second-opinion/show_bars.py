@@ -1,7 +1,7 @@
 """A picture with a bar for each of a few numbers, with the exact number beside it or below it.
 
-A bar begins at nothing: to the right are numbers above 0, to the left those below. A frame shows how long a bar may be. A
-bracket marks bars that belong together. As in `show_draw.py`, what fits is counted in characters of one width, and bars
+A bar begins at nothing: to the right are numbers above 0, to the left those below. A frame shows how long a bar may be.
+A bracket marks bars that belong together. As in `show_draw.py`, what fits is counted in characters of one width, and bars
 are told apart by pattern and words, and by colour only beside these.
 """
 

@@ -1,4 +1,4 @@
-"""The parts of which a page is made: sections, paragraphs, pictures with their captions, warnings, and the whole of it."""
+"""The parts of which a page is made: sections, paragraphs, pictures with their captions, warnings, and all of it."""
 
 from html import escape
 

@@ -2,6 +2,7 @@
 """Tries the pages of `show` over the examples: `second-opinion/show_test.py`."""
 
 import contextlib
+import html
 import re
 import subprocess
 import sys
@@ -15,23 +16,37 @@ from pathlib import Path
 import program
 import show_gallery
 import show_style
-from answer import InfeasibleAnswer, OptimalAnswer, read_answer
-from setting import read_setting
+from answer import InfeasibleAnswer, OptimalAnswer
+from auction import Interim, count_lists
+from auction_answer import AuctionAnswer
+from setting import AuctionSetting, GeneralSetting, read_setting
+from show_auction_draw import cut_bars, odds_bars, value_bars
+from show_auction_facts import Sale, counted_values, greatest_value, ironed, virtual_values
+from show_auction_page import AuctionPage
 from show_draw import place
 from show_facts import Play, Prior, conditions, contradiction, name_of, terms_of
+from show_kinds import read_answer
 from show_page import Page
-from show_text import html_name, mixed, number
+from show_parts import ANY_PAGE
+from show_text import MINUS, html_name, mixed, number, set_words
 
 FOLDER = Path(__file__).resolve().parent
 EXAMPLES = show_gallery.EXAMPLES
 EMPTY = {"meta", "br", "wbr"}
 
 
-def stored():
-    """The name, setting and answer of each example of the gallery."""
+def example(name):
+    """The setting and the answer of an example."""
+    setting = read_setting((EXAMPLES / f"{name}.toml").read_bytes())
+    return setting, read_answer((EXAMPLES / f"{name}-answer.csv").read_bytes(), setting)
+
+
+def stored(kind=GeneralSetting):
+    """The name, setting and answer of each example of the gallery that has this kind of setting."""
     for name in show_gallery.names():
-        setting = read_setting((EXAMPLES / f"{name}.toml").read_bytes())
-        yield name, setting, read_answer((EXAMPLES / f"{name}-answer.csv").read_bytes(), setting)
+        setting, answer = example(name)
+        if isinstance(setting, kind):
+            yield name, setting, answer
 
 
 class Elements(HTMLParser):
@@ -112,8 +127,7 @@ class Facts(unittest.TestCase):
         self.assertIn("Not admissible.", page.html())
 
     def test_parts_of_the_value(self):
-        setting = read_setting((EXAMPLES / "bilateral-trade.toml").read_bytes())
-        answer = read_answer((EXAMPLES / "bilateral-trade-answer.csv").read_bytes(), setting)
+        setting, answer = example("bilateral-trade")
         prior = Prior(setting)
         play = Play(setting, prior, answer.mechanism)
         net = sum(
@@ -122,6 +136,143 @@ class Facts(unittest.TestCase):
             for own in range(len(its.types))
         )
         self.assertEqual(net, play.welfare() - play.revenue())
+
+
+def table_rows(text, caption):
+    """The rows of the table of a page whose caption begins with these words, each a list of texts."""
+    found = re.search(f"<caption>{re.escape(caption)}.*?</table>", text, re.S)
+    rows = re.findall("<tr>(.*?)</tr>", found[0], re.S)
+    return [[plain(cell) for cell in re.findall("<t[hd].*?</t[hd]>", row, re.S)] for row in rows]
+
+
+def plain(text):
+    """HTML without its elements."""
+    return html.unescape(re.sub("<[^>]*>", "", text))
+
+
+def unsold(auction):
+    """An answer that says that it is best to keep the item always."""
+    nothing = [0] * len(auction.values)
+    masses = {counts: nothing for counts in count_lists(auction.bidders, len(auction.values))}
+    return AuctionAnswer((auction.keep, 1), Interim(1, nothing, nothing), masses, [], 1, {})
+
+
+class Auctions(unittest.TestCase):
+    def test_virtual_values(self):
+        # By hand, in the pages of the examples.
+        third = Fraction(-1, 3)
+        expected = {"cuts": [-1, 1, 3, 5], "efficient": [0, 2], "ironed": [1, 0, 6], "keep": [0, 2, 4],
+                    "reserve": [-3, -1, 1, 3, 5], "single": [-2, third, 3, 8]}
+        for name, numbers in expected.items():
+            auction, _ = example(f"auction-{name}")
+            self.assertEqual(virtual_values(auction), numbers)
+            if name == "keep":
+                numbers = [number - 1 for number in numbers]  # what the item is worth to the seller
+            self.assertEqual(counted_values(auction), [1, 2] if name == "efficient" else numbers)
+            blocks = [(block.first, block.last, block.counts) for block in ironed(auction)]
+            if name == "ironed":
+                self.assertEqual(blocks, [(0, 1, Fraction(2, 3)), (2, 2, 6)])
+            elif name != "efficient":
+                self.assertEqual(blocks, [(place, place, counts) for place, counts in enumerate(numbers)])
+
+    def test_a_single_buyer_has_a_best_price(self):
+        # No lottery brings more than the best price (Riley and Zeckhauser 1983), nor than the best one above which to
+        # sell, where welfare and keeping the item count too.
+        cases = [([2, 3, 5, 8], [2, 3, 3, 2], 1, 0, 0), ([1, 2, 3, 10], [5, 1, 4, 2], 1, 0, 0),
+                 ([0, 4, 5, 6, 7, 20], [3, 1, 9, 1, 6, 2], 2, 0, 3), ([1, 2, 4], [1, 1, 1], 1, -3, -2),
+                 ([3, 5, 6], [7, 1, 2], 0, 1, 4), ([1, 5, 9], [1, 8, 2], 3, -1, 2), ([6], [5], 1, 1, 20)]
+        for values, weights, revenue, welfare, keep in cases:
+            total, best = sum(weights), Fraction(keep)
+            for place, price in enumerate(values):
+                sold = list(zip(values, weights))[place:]
+                worth = sum(weight * (revenue * price + welfare * value - keep) for value, weight in sold)
+                best = max(best, keep + Fraction(worth, total))
+            self.assertEqual(greatest_value(AuctionSetting(1, values, weights, revenue, welfare, keep)), best)
+
+    def test_stored_answers_hold(self):
+        names = [name for name, *_ in stored(AuctionSetting)]
+        self.assertEqual(names, ["auction-" + each for each in "cuts efficient ironed keep reserve single".split()])
+        for name, auction, answer in stored(AuctionSetting):
+            page = AuctionPage(auction, answer, name, ["a", "b"])
+            self.assertEqual(page.mistakes(), [])
+            sale = page.sale
+            parts = auction.revenue * sale.revenue() + auction.welfare * sale.welfare() + auction.keep * sale.kept()
+            self.assertEqual({parts, sale.value(), greatest_value(auction)}, {Fraction(*answer.value)}, name)
+            for row, pair in answer.multipliers.items():
+                tight = sale.equal() | {cut.row for cut in sale.cuts() if cut.binds}
+                self.assertTrue(pair == (0, 0) or row in tight, (name, row))
+
+    def test_each_number_of_the_answer_stands_on_the_page(self):
+        for name, auction, answer in stored(AuctionSetting):
+            text = AuctionPage(auction, answer, name, ["a", "b"]).html()
+            words = plain(" ".join(re.findall("<desc.*?</desc>", text, re.S)))
+            self.assertIn(f">Value {number(Fraction(*answer.value))}<", text.replace("<wbr>", ""))
+            den = answer.interim.den
+            rows = table_rows(text, "Odds and pays by value")[1:]
+            numbers = zip(rows, auction.values, answer.interim.odds, answer.interim.pays, strict=True)
+            for row, value, odds, pay in numbers:
+                per_win = number(Fraction(pay, odds)) if odds else "never wins"
+                keeps = number(Fraction(value * odds - pay, den))
+                odds = number(Fraction(odds, den))
+                self.assertEqual(row, [str(value), odds, number(Fraction(pay, den)), per_win, keeps], name)
+                self.assertIn(f"The value {value} wins with the odds {odds}.", words)
+            weighed = {int(row[0]): row[-1] for row in table_rows(text, "Conditions with a positive")[1:]} if (
+                name != "auction-efficient") else {}
+            sets = table_rows(text, "Sets of values")[1:]
+            self.assertEqual([int(row[5]) for row in sets], answer.cuts)
+            weighed |= {int(row[6]): row[4] for row in sets if row[4] != "none"}
+            expected = {row: number(Fraction(main, answer.bound)) for row, (_, main) in answer.multipliers.items()}
+            self.assertEqual(weighed, expected, name)
+            rows = table_rows(text, "Who wins")[1:]
+            for row, (counts, masses) in zip(rows, answer.masses.items(), strict=True):
+                there = ", ".join(f"{many} with {value}" for value, many in zip(auction.values, counts) if many)
+                self.assertEqual(row[0], there)
+                self.assertEqual(row[4].split(" of ")[0], " + ".join(str(mass) for mass in masses if mass) or "0")
+
+    def test_sets_and_shares(self):
+        # By hand, in the pages auction-cuts.md and auction-ironed.md.
+        text = AuctionPage(*example("auction-cuts"), "a", ["a", "b"]).html()
+        self.assertEqual([row[:5] for row in table_rows(text, "Sets of values")[1:]], [
+            ["2", "0", "7", "", "none"], ["3", "3", "7", "", "none"], ["4", "5", "7", "", "none"],
+            ["5", "7", "7", "binds", "1/4"], ["3, 4, 5", "15", "15", "binds", "1/8"],
+            ["4, 5", "12", "12", "binds", "1"]])
+        self.assertIn("The set 3, 4, 5 asks for 15 of 15, all there is, with a multiplier.", text)
+        text = AuctionPage(*example("auction-ironed"), "a", ["a", "b"]).html()
+        self.assertIn(["1 with 2, 1 with 3", "2: 1/2, 3: 1/2", "0", "4", "16 + 16 of 32"], table_rows(text, "Who wins"))
+        self.assertIn(["2", f"2 {MINUS} 1 \u00d7 2/2 = 1", "2/3"], table_rows(text, "Virtual values"))
+        self.assertIn("The values 2, 3 are pooled", text)
+
+    def test_answers_that_are_wrong(self):
+        auction, answer = example("auction-reserve")
+        cases = [
+            ({"value": (72, 25)}, "is 71/25, and not what the answer says"),
+            ({"interim": Interim(10, [0, 0, 5, 7, 9], [0, 0, 15, 23, 34])}, "/<wbr>5/<wbr>4</code>: 1/10 where at most 0"),
+            ({"interim": Interim(10, [0, 0, 5, 7, 8], [0, 0, 15, 23, 28])}, "The masses of the value 5 add to 90"),
+            (vars(unsold(auction)), "By the virtual values there is an auction of the value 71/25."),
+        ]
+        for changes, words in cases:
+            page = AuctionPage(auction, AuctionAnswer(**{**vars(answer), **changes}), "a", ["a", "b"])
+            self.assertIn(words, " ".join(page.mistakes()))
+            self.assertIn("This answer is wrong.", page.html())
+
+    def test_many_masses_are_folded(self):
+        for values, folded, left in [(5, False, 0), (6, True, 0), (12, True, 1_365 - 400)]:
+            auction = AuctionSetting(4 if values > 6 else 3, list(range(values)), [1] * values, 0, 0, 1)
+            text = AuctionPage(auction, unsold(auction), "a", ["a", "b"]).html()
+            self.assertEqual(("<details>" in text), folded)
+            self.assertEqual("are left out" in text, left > 0)
+            self.assertIn(f"of 1,365 lists, {left} are left out" if left else "Who wins, by the values that", text)
+            self.assertEqual(Elements(text).open, [])
+
+    def test_pictures_fit_on_a_phone(self):
+        for name, auction, answer in stored(AuctionSetting):
+            for drawn in [odds_bars, value_bars, cut_bars]:
+                self.assertLessEqual(drawn(Sale(auction, answer)).width + 2, ANY_PAGE, name)
+
+    def test_sets_in_words(self):
+        cases = [([0], "10"), ([0, 2], "10, 30"), ([0, 1, 2], "10, 20, 30"), ([0, 1, 2, 3, 5], "10 to 40, 60")]
+        for places, words in cases:
+            self.assertEqual(set_words([10, 20, 30, 40, 50, 60], places), words)
 
 
 class Pages(unittest.TestCase):
@@ -191,6 +342,8 @@ class Words(unittest.TestCase):
             (["posted-price.toml", "posted-price.csv", "--picture"], 0, b""),
             (["two-claims.toml", "two-claims-answer.csv", "--picture"], 66, b"show: answer refused: no table\n"),
             (["posted-price.toml", "vote-answer.csv"], 66, b"show: answer refused: line 4: record\n"),
+            (["auction-cuts.toml", "auction-cuts-answer.csv"], 0, b""),
+            (["auction-cuts.toml", "vote-answer.csv"], 66, b"show: answer refused: line 1: field 3\n"),
             (["posted-price-answer.csv", "posted-price-answer.csv"], 65, b"show: setting refused: not toml\n"),
             (["no-such-file", "posted-price-answer.csv"], 70, b"show: read fault\n"),
             (["posted-price.toml"], 64, b"show: usage\n"),
@@ -200,14 +353,24 @@ class Words(unittest.TestCase):
             with call(*words) as done:
                 self.assertEqual((done.returncode, done.stderr), (status, line), words)
 
-    def test_auctions_are_not_served(self):
-        with tempfile.NamedTemporaryFile("w", suffix=".toml") as file:
-            file.write('format = "mechanism-setting"\nversion = 1\nkind = "auction"\n')
-            file.write("bidders = 2\nvalues = [1, 2]\nweights = [1, 1]\n")
+    def test_auctions_that_are_too_wide(self):
+        with tempfile.NamedTemporaryFile("w", suffix=".csv") as file:
+            file.write("answer,2,auction,toowide\ncut,1\npivot,3,0\nwide,1,2,70000,3\nagain\nwide,4,5,80000,7\nend\n")
             file.flush()
-            with call(file.name, "posted-price-answer.csv") as done:
-                self.assertEqual((done.returncode, done.stdout), (1, b""))
-                self.assertEqual(done.stderr, b"show: auctions are not served yet\n")
+            with call("auction-keep.toml", file.name) as done:
+                self.assertEqual((done.returncode, done.stderr), (0, b""))
+                self.assertIn("Too wide", done.stdout.decode())
+                rows = table_rows(done.stdout.decode(), "The first entry of each path that is too wide")
+                self.assertEqual(rows[1:], [["forward", "1", "1", "2", "70000", "3", "17"],
+                                            ["backward", "0", "4", "5", "80000", "7", "17"]])
+            with call("auction-keep.toml", file.name, "--picture") as done:
+                self.assertEqual((done.returncode, done.stderr), (66, b"show: answer refused: no table\n"))
+
+    def test_the_picture_of_an_auction(self):
+        with call("auction-ironed.toml", "auction-ironed-answer.csv", "--picture", "--title", "Two & one") as done:
+            words = " ".join(tree.fromstring(done.stdout).itertext())
+        for part in ["Two & one", "The value 3 wins with the odds 3/8.", "6 wins with the odds 7/8.", "2, 3: pooled"]:
+            self.assertIn(part, words)
 
 
 @contextlib.contextmanager
