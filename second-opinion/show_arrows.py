@@ -38,8 +38,8 @@ def rise(span):
 
 
 class Line:
-    """The types of an agent in a line. `arrows` has what holds by pairs of a type and a report, `rings` by types. `word`
-    is what a type is called, and `least` what is said of one with a ring."""
+    """The types of an agent in a line. `arrows` has what holds by pairs of a type and a report, `rings` by types.
+    `word` is what a type is called, and `least` what is said of one with a ring."""
 
     def __init__(self, agent, arrows, rings, word="Type", least="gets just its outside utility"):
         self.agent = agent

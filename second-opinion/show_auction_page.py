@@ -144,8 +144,8 @@ class AuctionPage:
         """What each value counts, and which of them are averaged."""
         auction = self.auction
         text = paragraph(
-            "The virtual value of a value is what selling to it brings in revenue, less what the values above must then "
-            f"be left with: {FORMULA}."
+            "The virtual value of a value is what selling to it brings in revenue, less what the values above must "
+            f"then be left with: {FORMULA}."
         )
         if counted_values(auction) != virtual_values(auction):
             text += paragraph(f"What a value counts is {self.counts_words()}.")
@@ -222,10 +222,11 @@ class AuctionPage:
         line = Line(SimpleNamespace(name="a bidder", types=types), arrows, rings, "Value", "is left with nothing")
         if (arrows or rings) and len(arrows) <= MANY_ARROWS:
             text += paragraph(
-                "An arrow leads from a value to a report that is as good to it as the truth. A double frame has a "
-                "value that is left with nothing. A thick line: with a positive multiplier."
+                "An arrow leads from a value to a report that is as good to it as the truth."
+                + (" A double frame has a value that is left with nothing." if rings else "")
+                + (" A thick line: with a positive multiplier." if weighed else "")
             )
-            text += figure("", line, "equal", "Conditions of a bidder")
+            text += f'<div class="flow">\n{figure("", line, "equal", "Conditions of a bidder")}</div>\n'
         text += prices_table(sale, weighed) if weighed else paragraph("None of these conditions has a multiplier.")
         return section("Truth and rationality", text)
 
@@ -258,7 +259,7 @@ class AuctionPage:
         text = made_from(self.names)
         if self.sale:
             text += paragraph(
-                "All but the answer's own numbers was computed for this page. Whether the multipliers prove the value "
+                "All numbers but the answer's own were computed for this page. Whether the multipliers prove the value "
                 "is not tried here: <code>mechdes check</code> does that."
             )
         return text

@@ -1,8 +1,8 @@
 """A picture with a bar for each of a few numbers, with the exact number beside it or below it.
 
 A bar begins at nothing: to the right are numbers above 0, to the left those below. A frame shows how long a bar may be.
-A bracket marks bars that belong together. As in `show_draw.py`, what fits is counted in characters of one width, and bars
-are told apart by pattern and words, and by colour only beside these.
+A bracket marks bars that belong together. As in `show_draw.py`, what fits is counted in characters of one width, and
+bars are told apart by pattern and words, and by colour only beside these.
 """
 
 from dataclasses import dataclass
@@ -72,7 +72,7 @@ class Bars:
             widest = max(len(line) for lines in self.lines for line in lines) * CHAR
             self.track = max(WIDTH - self.axis_left, widest)
         words = [self.axis_left + len(group.words) * CHAR for group in self.groups]
-        words += [names * CHAR] * self.above
+        words += [self.axis_left + names * CHAR] * self.above
         self.width = max([self.axis_left + self.track + (longest + 10) * self.beside, WIDTH, *words])
         numbers = [Fraction(0), *(bar.number for bar in self.bars), *(bar.limit for bar in self.bars if bar.limit)]
         self.low, self.span = min(numbers), max(numbers) - min(numbers)
@@ -100,7 +100,7 @@ class Bars:
     def row(self, row, bar):
         """A bar with its name, its frame and its number."""
         y, zero = self.tops[row], self.at(0)
-        made = [text_at(0, y - 4, bar.name) if self.above else text_at(0, y + 14, bar.name)]
+        made = [text_at(self.axis_left, y - 4, bar.name) if self.above else text_at(0, y + 14, bar.name)]
         if bar.limit:
             made.append(box("frame", zero, y, self.at(bar.limit)))
         if bar.number:

@@ -3,6 +3,7 @@
 
 import contextlib
 import html
+import itertools
 import re
 import subprocess
 import sys
@@ -23,7 +24,8 @@ from setting import AuctionSetting, GeneralSetting, read_setting
 from show_auction_draw import cut_bars, odds_bars, value_bars
 from show_auction_facts import Sale, counted_values, greatest_value, ironed, virtual_values
 from show_auction_page import AuctionPage
-from show_draw import place
+from show_bars import Bar, Bars, Group
+from show_draw import CHAR, place
 from show_facts import Play, Prior, conditions, contradiction, name_of, terms_of
 from show_kinds import read_answer
 from show_page import Page
@@ -246,7 +248,7 @@ class Auctions(unittest.TestCase):
         auction, answer = example("auction-reserve")
         cases = [
             ({"value": (72, 25)}, "is 71/25, and not what the answer says"),
-            ({"interim": Interim(10, [0, 0, 5, 7, 9], [0, 0, 15, 23, 34])}, "/<wbr>5/<wbr>4</code>: 1/10 where at most 0"),
+            ({"interim": Interim(10, [0, 0, 5, 7, 9], [0, 0, 15, 23, 34])}, "5/<wbr>4</code>: 1/10 where at most 0"),
             ({"interim": Interim(10, [0, 0, 5, 7, 8], [0, 0, 15, 23, 28])}, "The masses of the value 5 add to 90"),
             (vars(unsold(auction)), "By the virtual values there is an auction of the value 71/25."),
         ]
@@ -268,6 +270,27 @@ class Auctions(unittest.TestCase):
         for name, auction, answer in stored(AuctionSetting):
             for drawn in [odds_bars, value_bars, cut_bars]:
                 self.assertLessEqual(drawn(Sale(auction, answer)).width + 2, ANY_PAGE, name)
+
+    def test_bars_hold_their_texts(self):
+        long, name = Fraction(-(2**60) - 1, 3**30), "1, 3, 5, 7, 9, 11"
+        cases = [
+            ([("1", Fraction(1, 3)), ("1000000", Fraction(-9, 4))], [Group(0, 1, "1, 1000000: ironed to -1/3", -1)]),
+            ([("1", long), ("2", Fraction(3)), ("3", Fraction(0))], [Group(1, 2, "a"), Group(0, 0, "b" * 60)]),
+            ([(name, long), ("2", 1 / long)], [Group(0, 0, "one")]),
+            ([(name, Fraction(0)), (name, Fraction(0))], []),
+        ]
+        for rows, groups in cases:
+            drawn = Bars("Some", [Bar(name, number, str(number), "") for name, number in rows], groups)
+            texts = []
+            for text in tree.fromstring(drawn.svg("a")).iter("text"):
+                x, y = Fraction(text.get("x")) + 1, Fraction(text.get("y"))
+                box = (x, y - 11, x + len(text.text) * CHAR, y + 3)
+                inside = min(x, box[1]) >= 0 and box[2] <= drawn.width + 2 and box[3] <= drawn.height
+                self.assertTrue(inside, text.text)
+                texts.append(box)
+            for one, other in itertools.combinations(texts, 2):
+                apart = one[2] <= other[0] or other[2] <= one[0] or one[3] <= other[1] or other[3] <= one[1]
+                self.assertTrue(apart, (rows, one, other))
 
     def test_sets_in_words(self):
         cases = [([0], "10"), ([0, 2], "10, 30"), ([0, 1, 2], "10, 20, 30"), ([0, 1, 2, 3, 5], "10 to 40, 60")]
