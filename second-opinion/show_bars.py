@@ -124,7 +124,7 @@ class Bars:
     def body(self, left=0, top=0):
         """The drawing itself."""
         made = [self.row(row, bar) for row, bar in enumerate(self.bars)]
-        if self.low < 0:
+        if not any(bar.limit for bar in self.bars):  # where nothing stands
             x = place(self.at(0))
             made.append(f'<path class="bracket" d="M{x} {place(self.tops[0] - 3)}V{place(self.height - 2)}"/>')
         made += [self.group(group) for group in self.groups]
