@@ -4,6 +4,7 @@
 import contextlib
 import html
 import itertools
+import random
 import re
 import subprocess
 import sys
@@ -20,6 +21,7 @@ import show_style
 from answer import InfeasibleAnswer, OptimalAnswer
 from auction import Interim, count_lists
 from auction_answer import AuctionAnswer
+from auction_finding import found_answer
 from setting import AuctionSetting, GeneralSetting, read_setting
 from show_auction_draw import cut_bars, odds_bars, value_bars
 from show_auction_facts import Sale, counted_values, greatest_value, ironed, virtual_values
@@ -256,6 +258,19 @@ class Auctions(unittest.TestCase):
             page = AuctionPage(auction, AuctionAnswer(**{**vars(answer), **changes}), "a", ["a", "b"])
             self.assertIn(words, " ".join(page.mistakes()))
             self.assertIn("This answer is wrong.", page.html())
+
+    def test_answers_that_are_found_have_the_value_of_the_virtual_values(self):
+        draw, falls = random.Random(7), 0
+        for _ in range(60):
+            values = sorted(draw.sample(range(30), draw.randint(1, 5)))
+            weights = [draw.randint(1, 9) for _ in values]
+            counts = draw.choice([0, 1, 1, 2]), draw.choice([0, 0, 1, -1, 3]), draw.choice([0, 0, 1, -4, 7, 40])
+            auction = AuctionSetting(draw.randint(1, 3), values, weights, *counts)
+            page = AuctionPage(auction, found_answer(auction), "a", ["a", "b"])
+            self.assertEqual(page.mistakes(), [], auction)
+            self.assertEqual(Elements(page.html()).open, [])
+            falls += len(ironed(auction)) < len(values)
+        self.assertGreater(falls, 10)
 
     def test_many_masses_are_folded(self):
         for values, folded, left in [(5, False, 0), (6, True, 0), (12, True, 1_365 - 400)]:
