@@ -1,7 +1,6 @@
 -- A generated auction is never refused.
-use Rattle.std.proofs.Common.{◌≡◌, ℕ, ◌+◌, ◌^◌, ◌<◌, ◌≤◌, pos, ◌*ℤ◌, Bool, true, not, [], ◌∷◌, Option, None, Some, refl, ap, ap₂, ◌∙◌, arith, ◌==◌, nat_le, if◌then◌else◌}
+use Rattle.std.proofs.Common.{◌≡◌, ℕ, ◌+◌, ◌^◌, ◌<◌, ◌≤◌, pos, ◌*ℤ◌, Bool, true, not, [], ◌∷◌, Option, None, Some, refl, ap, ap₂, ◌∙◌, arith, ◌==◌, if◌then◌else◌}
 use Rattle.std.specs.Prelude.{int_lt}
-use Rattle.std.specs.List.{list_all}
 use Rattle.std.proofs.lemmas.Int.{ints}
 use Rattle.std.proofs.lemmas.Bool.Decides.{nat_tests}
 use Rattle.std.proofs.Math.Nat.{pow-le-pow_left}
@@ -13,8 +12,9 @@ use Rattle.md_setting.specs.declared.refusal.BuildRefusal.TheVariants.{Sizes, Sh
 use Rattle.md_setting.specs.Auction.{total_weight}
 use Rattle.md_setting.specs.AuctionRefusals.{is_up_to, is_auction_in_range, is_ascending, has_few_counts, weight_refusal_of, auction_refusal_of}
 use Rattle.md_setting.specs.Refusals.{is_small, is_weight}
-use Rattle.md_setting.proofs.TestLaws.{all_below-all, list_all-list_to, and_both}
+use Rattle.md_setting.proofs.TestLaws.{all_below-all, and_both}
 use Rattle.md_gen.specs.GeneratedAuction.{value_at, weight_at, values_of, weights_of, generated_auction}
+use Rattle.md_gen.proofs.TestsPass.{le-passes, list-passes}
 use Rattle.md_gen.proofs.DrawLaws.{value-more, step-small, weight-small, value-small}
 
 -- ---- tests
@@ -22,17 +22,11 @@ use Rattle.md_gen.proofs.DrawLaws.{value-more, step-small, weight-small, value-s
 up_to-passes : (limit n : ℕ) → n ≤ limit → is_up_to limit (pos n) ≡ true
 up_to-passes limit n h = grind (arith, ints)
 
-le-passes : (m n : ℕ) → m ≤ n → nat_le m n ≡ true
-le-passes m n h = grind (arith, nat_tests)
-
 lt-passes : (m n : ℕ) → m < n → int_lt (pos m) (pos n) ≡ true
 lt-passes m n h = grind (arith, ints)
 
 positive-passes : (n : ℕ) → 1 ≤ n → not (n == 0) ≡ true
 positive-passes n h = grind (arith, nat_tests)
-
-list-passes : {X : Type 0} → (p : X → Bool) (n : ℕ) (f : ℕ → X) → ((k : ℕ) → k < n → p (f k) ≡ true) → list_all p (list_to n f) ≡ true
-list-passes p n f h = list_all-list_to p n f ∙ all_below-all n (λ k. p (f k)) h
 
 -- ---- ranges
 

@@ -1,4 +1,5 @@
 pub mod DrawLaws
+pub mod TestsPass
 pub mod AuctionAccepted
 pub mod SettingAccepted
 pub mod MadeLaws

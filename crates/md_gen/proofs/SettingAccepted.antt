@@ -1,8 +1,7 @@
 -- A generated general setting is never refused.
-use Rattle.std.proofs.Common.{◌≡◌, ℕ, ◌<◌, ◌≤◌, ℤ, pos, ◌+ℤ◌, ◌*ℤ◌, Bool, true, not, List, [], ◌∷◌, None, Some, refl, ap, ap₂, ◌∙◌, arith, nat_le, if◌then◌else◌}
+use Rattle.std.proofs.Common.{◌≡◌, ℕ, ◌<◌, ℤ, pos, ◌+ℤ◌, ◌*ℤ◌, Bool, true, not, List, [], ◌∷◌, None, Some, refl, ap, ap₂, ◌∙◌, arith, if◌then◌else◌}
 use Rattle.std.specs.List.{list_all}
 use Rattle.std.proofs.lemmas.Int.{ints}
-use Rattle.std.proofs.lemmas.Bool.Decides.{nat_tests}
 use Rattle.md_math.specs.Lists.{list_to, number_at}
 use Rattle.md_math.proofs.Builders.{get_or-list_to}
 use Rattle.md_math.proofs.Ring.{zero-*ℤ}
@@ -10,8 +9,9 @@ use Rattle.md_setting.specs.declared.refusal.BuildRefusal.TheVariants.{BadName, 
 use Rattle.md_space.specs.AllProfiles.{profiles_of}
 use Rattle.md_setting.specs.Meaning.{sizes_of, value_of, welfare_of}
 use Rattle.md_setting.specs.Refusals.{all_below, is_small, has_good_names, has_own_names, has_good_sizes, has_agent_shape, has_good_shape, has_small_rows, has_small_numbers, has_small_values, has_small_lists, has_all_weights, has_small_total, has_few_rows, refusal_of}
-use Rattle.md_setting.proofs.TestLaws.{all_below-all, list_all-list_to, and_both}
+use Rattle.md_setting.proofs.TestLaws.{all_below-all, and_both}
 use Rattle.md_gen.specs.GeneratedSetting.{utility_at, worth_at, utilities_of, worths_of, generated_agent, generated_setting}
+use Rattle.md_gen.proofs.TestsPass.{le-passes, list-passes}
 use Rattle.md_gen.proofs.DrawLaws.{utility-small, worth-small}
 
 good_names : (number : ℕ) → has_good_names (generated_setting number) ≡ true
@@ -44,12 +44,6 @@ few_rows number = refl
 
 -- ---- ranges
 
-small-passes : (limit n : ℕ) → n ≤ limit → nat_le n limit ≡ true
-small-passes limit n h = grind (arith, nat_tests)
-
-list-passes : {X : Type 0} → (p : X → Bool) (n : ℕ) (f : ℕ → X) → ((k : ℕ) → k < n → p (f k) ≡ true) → list_all p (list_to n f) ≡ true
-list-passes p n f h = list_all-list_to p n f ∙ all_below-all n (λ k. p (f k)) h
-
 each-passes : {X : Type 0} → (p : X → Bool) (xs : List X) → ((x : X) → p x ≡ true) → list_all p xs ≡ true
 each-passes p [] h = refl
 each-passes p (x ∷ xs) h = and_both (p x) (list_all p xs) (h x) (each-passes p xs h)
@@ -57,7 +51,7 @@ each-passes p (x ∷ xs) h = and_both (p x) (list_all p xs) (h x) (each-passes p
 rows-pass : (number i : ℕ) → has_small_rows (list_to 4 (λ a. list_to 3 (λ o. pos (utility_at number i a o)))) ≡ true
 rows-pass number i =
     list-passes (list_all (is_small 1000000)) 4 (λ a. list_to 3 (λ o. pos (utility_at number i a o)))
-    (λ a b. list-passes (is_small 1000000) 3 (λ o. pos (utility_at number i a o)) (λ o l. small-passes 1000000 (utility_at number i a o) (omega (arith, utility-small number i a o))))
+    (λ a b. list-passes (is_small 1000000) 3 (λ o. pos (utility_at number i a o)) (λ o l. le-passes (utility_at number i a o) 1000000 (omega (arith, utility-small number i a o))))
 
 small_numbers : (number : ℕ) (name : List ℕ) (i : ℕ) → has_small_numbers (generated_agent number name i) ≡ true
 unfolding has_small_numbers utilities_of
@@ -69,7 +63,7 @@ small_lists number =
     and_both _ _ (and_both _ _ (and_both _ _ (and_both _ _
     (and_both _ _ (small_numbers number _ 0) (and_both _ _ (small_numbers number _ 1) refl))
     refl)
-    (list-passes (is_small 1000000) 3 (λ o. pos (worth_at number o)) (λ o b. small-passes 1000000 (worth_at number o) (omega (arith, worth-small number o)))))
+    (list-passes (is_small 1000000) 3 (λ o. pos (worth_at number o)) (λ o b. le-passes (worth_at number o) 1000000 (omega (arith, worth-small number o)))))
     refl) refl
 
 worth-alone : (x y z : ℤ) → x ≡ z → (x +ℤ pos 0 *ℤ y) ≡ z
@@ -82,7 +76,7 @@ value-passes : (number : ℕ) (t : List ℕ) (o : ℕ) → o < 3 → is_small 10
 unfolding generated_setting worths_of
 value-passes number t o b =
     ap (is_small 10000000) (worth-alone (number_at (list_to 3 (λ k. pos (worth_at number k))) o) (welfare_of (generated_setting number) t o) (pos (worth_at number o)) (get_or-list_to 3 (λ k. pos (worth_at number k)) o (pos 0) b))
-    ∙ small-passes 10000000 (worth_at number o) (omega (arith, worth-small number o))
+    ∙ le-passes (worth_at number o) 10000000 (omega (arith, worth-small number o))
 
 small_values : (number : ℕ) → has_small_values (generated_setting number) ≡ true
 unfolding has_small_values generated_setting

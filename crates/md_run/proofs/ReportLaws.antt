@@ -6,7 +6,7 @@ use Rattle.std.proofs.lemmas.List.{length-replicate, get_or-replicate}
 use Rattle.std.proofs.Math.ListN.{replicate}
 use Rattle.md_math.specs.FirstFailure.{HoldsBelow}
 use Rattle.md_space.specs.Profiles.{IsProfile}
-use Rattle.md_space.proofs.Ranks.{length-IsProfile, report-below}
+use Rattle.md_space.proofs.Ranks.{length-IsProfile}
 use Rattle.md_counts.specs.Weights.{count_in}
 use Rattle.md_run.specs.Counting.{HasCountBelow}
 use Rattle.md_run.specs.OfMasses.{IsNumbered}
@@ -26,10 +26,6 @@ pub reports-from_places : (n k : ℕ) (t : List ℕ) → length t ≡ n → Hold
 reports-from_places n k t e h =
     profile-from_reports (replicate n k) t (e ∙ sym (length-replicate n k))
     (record { holds = λ i b. (let l : i < n = omega (arith, length-replicate n k, b) in subst (λ m. slice_index t i < m) (sym (get_or-replicate n i k 0 l)) (h.holds i (omega (arith, e)))) })
-
-pub report-in : (n k : ℕ) (t : List ℕ) (i : ℕ) → IsProfile (replicate n k) t → i < n → slice_index t i < k
-report-in n k t i p b =
-    subst (λ m. slice_index t i < m) (get_or-replicate n i k 0 b) (report-below (replicate n k) t i p (omega (arith, length-replicate n k, b)))
 
 pub reports-length : (n k : ℕ) (t : List ℕ) → IsProfile (replicate n k) t → length t ≡ n
 reports-length n k t p = length-IsProfile (replicate n k) t p ∙ length-replicate n k

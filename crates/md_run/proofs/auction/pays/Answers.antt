@@ -2,7 +2,8 @@ use Rattle.std.proofs.Common.{◌≡◌, ◌<◌, arith, ap, ◌∙◌, length}
 use Rattle.std.specs.Prelude.{slice_index}
 use Rattle.md_math.specs.Lists.{list_to, number_at}
 use Rattle.md_setting.specs.Auction.{value_count}
-use Rattle.md_run.proofs.ReportLaws.{report-in, reports-length}
+use Rattle.md_expost.proofs.Winners.{value-below}
+use Rattle.md_run.proofs.ReportLaws.{reports-length}
 use Rattle.md_run.proofs.auction.pays.Goals as goal
 
 pub get-requires : goal.get-requires
@@ -10,7 +11,7 @@ get-requires c =
     let a = c.args.auction.now in
     let t = c.args.profile.now in
     let long : length t ≡ a.bidders = reports-length a.bidders (value_count a) t c.requires.reports in
-    let below : slice_index t c.loop-report.report-index < value_count a = report-in a.bidders (value_count a) t c.loop-report.report-index c.requires.reports (omega (arith, c.loop-report-test.true, long)) in
+    let below : slice_index t c.loop-report.report-index < value_count a = value-below a.bidders (value_count a) t c.loop-report.report-index c.requires.reports (omega (arith, c.loop-report-test.true, long)) in
     omega (arith, c.from.ensures, below, c.requires.interim.one_pay)
 
 pub returns : goal.returns

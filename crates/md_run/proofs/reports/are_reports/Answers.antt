@@ -3,7 +3,8 @@ use Rattle.std.specs.Prelude.{slice_index}
 use Rattle.md_math.specs.FirstFailure.{HoldsBelow}
 use Rattle.md_setting.specs.Auction.{value_count}
 use Rattle.md_mech.proofs.WholeLaws.{not_both}
-use Rattle.md_run.proofs.ReportLaws.{reports-from_places, report-in, reports-length}
+use Rattle.md_expost.proofs.Winners.{value-below}
+use Rattle.md_run.proofs.ReportLaws.{reports-from_places, reports-length}
 use Rattle.md_run.proofs.reports.are_reports.Goals as goal
 
 pub returns-then-not-has_length : goal.returns-then-not-has_length
@@ -20,7 +21,7 @@ returns-then-not-is_below c =
     let long : length t ≡ a.bidders = c.if-not-has_length.ensures.0 refl ∙ c.bidders.ensures.count in (
       λ h. not_both h,
       λ p. not_both (c.if-not-is_below.ensures.1 (subst (λ n. slice_index t c.loop-report.report-index < n) (sym c.kinds.ensures.count)
-          (report-in a.bidders (value_count a) t c.loop-report.report-index p (omega (arith, c.loop-report-test.true, long))))),
+          (value-below a.bidders (value_count a) t c.loop-report.report-index p (omega (arith, c.loop-report-test.true, long))))),
     )
 
 pub returns : goal.returns
