@@ -5,7 +5,6 @@ use Rattle.std.proofs.lemmas.Int.{ints}
 use Rattle.std.proofs.Math.IntN.{pos-*ℤ-pos}
 use Rattle.std.proofs.Math.Nat.{pow-suc}
 use lib.IntN.{*ℤ_comm}
-use Rattle.md_math.specs.Divisors.{IsLeastTerms}
 use Rattle.md_math.specs.Lists.{number_at}
 use Rattle.md_math.specs.Sums.{sum_to}
 use Rattle.md_math.proofs.Order.{*ℤ_cancel}
@@ -26,10 +25,10 @@ use Rattle.md_mech.specs.declared.mechanism.Mechanism.{Mechanism}
 use Rattle.md_mech.specs.Mechanism.{chance_of, pay_of, IsMechanism}
 use Rattle.md_mech.specs.Optimal.{objective_at, worth_of as mechanism_worth}
 use Rattle.md_mech.specs.Utility.{weighted_given}
-use Rattle.md_mech.specs.Value.{IsValueOf}
+use Rattle.md_mech.specs.Value.{HasValue}
 use Rattle.md_border.specs.declared.interim.Interim.{Interim}
 use Rattle.md_border.specs.Odds.{HasOdds, HasPays, weight_given}
-use Rattle.md_border.specs.Worth.{surplus_of, gain_of, gains_of, worth_of}
+use Rattle.md_border.specs.Worth.{surplus_of, gain_of, gains_of, worth_of, HasWorth}
 use Rattle.md_border.proofs.ByValues.{count-general, kinds-general, gains-by_values}
 
 -- ---- one profile
@@ -171,22 +170,20 @@ worth-of_odds a m interim shaped mechanism odds pays =
     fourth : (d k m f o n g : ℤ) → d *ℤ ((k *ℤ m) *ℤ (f *ℤ o)) +ℤ ((m *ℤ o) *ℤ n) *ℤ g ≡ (m *ℤ o) *ℤ (k *ℤ (f *ℤ d) +ℤ n *ℤ g)
     fourth d k m f o n g = simp ring
 
-pub value-of_odds : (a : SymmetricAuction) (m : Mechanism) (interim : Interim) (value : Frac) → IsAuction a → pos 1 ≤ℤ interim.den → IsMechanism (general_of a) m → HasOdds a m interim.den interim.odds → HasPays a m interim.den interim.pays
-    → value.num *ℤ (pos (total_weight a.weights) *ℤ interim.den) ≡ worth_of a interim *ℤ value.den → IsLeastTerms value.num value.den → IsValueOf (general_of a) m value
-value-of_odds a m interim value shaped positive mechanism odds pays is least =
+-- a fraction that the odds and payments are worth is the value of the mechanism
+pub value-of_odds : (a : SymmetricAuction) (m : Mechanism) (interim : Interim) (value : Frac) → IsAuction a → pos 1 ≤ℤ interim.den → IsMechanism (general_of a) m
+    → HasOdds a m interim.den interim.odds → HasPays a m interim.den interim.pays → HasWorth a interim value → HasValue (general_of a) m value
+value-of_odds a m interim value shaped positive mechanism odds pays is =
     let s = general_of a in
     let d = interim.den in
     let f = pos (total_weight a.weights) in
-    record {
-      is_value = *ℤ_cancel d (value.num *ℤ (m.den *ℤ total_of s)) (mechanism_worth s m *ℤ value.den) (some d positive)
-          (ap (λ z. d *ℤ (value.num *ℤ (m.den *ℤ z))) (total_of-general a shaped.one_each ∙ power-of_all a shaped.some_bidder)
-          ∙ first d value.num m.den f (others a)
-          ∙ ap (λ z. (m.den *ℤ others a) *ℤ z) is
-          ∙ second (m.den *ℤ others a) (worth_of a interim) value.den
-          ∙ ap (λ z. z *ℤ value.den) (sym (worth-of_odds a m interim shaped mechanism odds pays))
-          ∙ third d (mechanism_worth s m) value.den);
-      least = least;
-    }
+    *ℤ_cancel d (value.num *ℤ (m.den *ℤ total_of s)) (mechanism_worth s m *ℤ value.den) (some d positive)
+    (ap (λ z. d *ℤ (value.num *ℤ (m.den *ℤ z))) (total_of-general a shaped.one_each ∙ power-of_all a shaped.some_bidder)
+    ∙ first d value.num m.den f (others a)
+    ∙ ap (λ z. (m.den *ℤ others a) *ℤ z) is
+    ∙ second (m.den *ℤ others a) (worth_of a interim) value.den
+    ∙ ap (λ z. z *ℤ value.den) (sym (worth-of_odds a m interim shaped mechanism odds pays))
+    ∙ third d (mechanism_worth s m) value.den)
   where
     some : (z : ℤ) → pos 1 ≤ℤ z → pos 0 <ℤ z
     some z l = omega (arith, ints)

@@ -21,6 +21,8 @@ pub fn auction_worth(auction: &Auction, interim: &Interim) -> Frac
     requires fits { IsInterim auction.now interim.now }
     ensures value { result.num *ℤ (pos (total_weight auction.now.weights) *ℤ interim.now.den) ≡ worth_of auction.now interim.now *ℤ result.den }
     ensures least { IsLeastTerms result.num result.den }
+    ensures num_size { IsWithin (2 ^ 114) result.num }
+    ensures den_size { IsWithin (2 ^ 82) result.den }
 
     // It is the value of each mechanism of the auction that has the odds and the payments.
     ensures of_mechanisms { (m : Mechanism) → IsMechanism (general_of auction.now) m → HasOdds auction.now m interim.now.den interim.now.odds → HasPays auction.now m interim.now.den interim.now.pays → IsValueOf (general_of auction.now) m result }

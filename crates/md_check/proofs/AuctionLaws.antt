@@ -1,30 +1,25 @@
 -- What a verdict on an answer about an auction says, and what it shows.
-use Rattle.std.proofs.Common.{◌≡◌, ◌≢◌, ◌↔◌, Result, Ok, Err, IfOk, Option, Some, None, IfSome, IsNone, ℕ, ℤ, pos, ◌*ℤ◌, ◌≤ℤ◌, ◌<ℤ◌, List, refl, sym, ap, ◌∙◌, subst, arith}
+use Rattle.std.proofs.Common.{◌≡◌, ◌≢◌, ◌↔◌, Result, Ok, Err, IfOk, Option, Some, None, IfSome, IsNone, ℕ, ℤ, pos, ◌≤ℤ◌, List, refl, sym, ◌∙◌, subst, arith}
 use Rattle.std.proofs.lemmas.Int.{ints}
 use Rattle.std.proofs.lemmas.List.Elements.{All-get_or}
 use Rattle.md_math.specs.Lists.{number_at}
 use Rattle.md_math.proofs.FirstFailures.{HoldsBelow-no_failure}
-use Rattle.md_math.proofs.Order.{*ℤ_cancel}
-use Rattle.md_math.proofs.Ring.{ring}
 use Rattle.md_num.specs.declared.frac.Frac.{Frac}
 use Rattle.md_num.specs.declared.no_memory.NoMemory.{NoMemory}
-use Rattle.md_setting.specs.Meaning.{total_of}
-use Rattle.md_setting.specs.Auction.{SymmetricAuction, value_count, total_weight}
+use Rattle.md_setting.specs.Auction.{SymmetricAuction, value_count}
 use Rattle.md_setting.specs.AuctionShaped.{IsAuction}
 use Rattle.md_setting.specs.General.{general_of}
-use Rattle.md_setting.proofs.GeneralLaws.{total_of-general}
 use Rattle.md_mech.specs.declared.mechanism.Mechanism.{Mechanism}
 use Rattle.md_mech.specs.Mechanism.{IsMechanism}
-use Rattle.md_mech.specs.Optimal.{worth_of as mechanism_worth}
 use Rattle.md_mech.specs.Value.{HasValue}
 use Rattle.md_lp.specs.Program.{Program, row_count}
 use Rattle.md_lp.specs.Point.{IsPoint, Meets, MeetsRow}
 use Rattle.md_lp.proofs.SamePrograms.{IsSameProgram}
 use Rattle.md_border.specs.declared.interim.Interim.{Interim}
 use Rattle.md_border.specs.Odds.{IsInterim, HasOdds, HasPays}
-use Rattle.md_border.specs.Worth.{HasWorth, worth_of}
+use Rattle.md_border.specs.Worth.{HasWorth}
 use Rattle.md_border.proofs.DemandLaws.{den-within}
-use Rattle.md_border.proofs.MechanismWorth.{others, power-of_all, worth-of_odds}
+use Rattle.md_border.proofs.MechanismWorth.{value-of_odds}
 use Rattle.md_expost.specs.declared.masses.Masses.{Masses}
 use Rattle.md_expost.specs.Masses.{AreMasses}
 use Rattle.md_expost.specs.Implementing.{Implements}
@@ -208,38 +203,11 @@ undecided a (Unbounded m ray) v is = absurd is
 
 -- ---- what is claimed
 
--- a fraction that the odds and payments are worth is the value of each mechanism with them
-value-of_mechanism : (a : SymmetricAuction) (m : Mechanism) (interim : Interim) (value : Frac) → IsAuction a → pos 1 ≤ℤ interim.den → IsMechanism (general_of a) m
-    → HasOdds a m interim.den interim.odds → HasPays a m interim.den interim.pays → HasWorth a interim value → HasValue (general_of a) m value
-value-of_mechanism a m interim value shaped positive mechanism odds pays is =
-    let s = general_of a in
-    let d = interim.den in
-    let f = pos (total_weight a.weights) in
-    *ℤ_cancel d (value.num *ℤ (m.den *ℤ total_of s)) (mechanism_worth s m *ℤ value.den) (some d positive)
-    (ap (λ z. d *ℤ (value.num *ℤ (m.den *ℤ z))) (total_of-general a shaped.one_each ∙ power-of_all a shaped.some_bidder)
-    ∙ first d value.num m.den f (others a)
-    ∙ ap (λ z. (m.den *ℤ others a) *ℤ z) is
-    ∙ second (m.den *ℤ others a) (worth_of a interim) value.den
-    ∙ ap (λ z. z *ℤ value.den) (sym (worth-of_odds a m interim shaped mechanism odds pays))
-    ∙ third d (mechanism_worth s m) value.den)
-  where
-    some : (z : ℤ) → pos 1 ≤ℤ z → pos 0 <ℤ z
-    some z l = omega (arith, ints)
-
-    first : (d x m f o : ℤ) → d *ℤ (x *ℤ (m *ℤ (f *ℤ o))) ≡ (m *ℤ o) *ℤ (x *ℤ (f *ℤ d))
-    first d x m f o = simp ring
-
-    second : (c w e : ℤ) → c *ℤ (w *ℤ e) ≡ (c *ℤ w) *ℤ e
-    second c w e = simp ring
-
-    third : (d w e : ℤ) → (d *ℤ w) *ℤ e ≡ d *ℤ (w *ℤ e)
-    third d w e = simp ring
-
 valid-claim : (a : SymmetricAuction) (value : Frac) (interim : Interim) (masses : Masses) (cuts : List ℕ) (bound : Bound) → IsAuction a → IsInterim a interim → AreMasses a masses
     → masses.den ≡ interim.den → IsAuctionOptimalVerdict a value interim masses cuts bound Valid → IsOptimalRule a interim masses × HasValue (general_of a) (mechanism_in a interim masses) value
 valid-claim a value interim masses cuts bound shaped h are same_den v = (
   record { optimal = makes-optimal a cuts p shaped v.1.is_program m interim.den x greatest mechanism (subst (λ i. HasOdds a m interim.den i.odds) (sym back) odds) (subst (λ i. HasPays a m interim.den i.pays) (sym back) pays); odds = odds; pays = pays },
-  value-of_mechanism a m interim value shaped h.den_positive mechanism odds pays v.0.worth,
+  value-of_odds a m interim value shaped h.den_positive mechanism odds pays v.0.worth,
 )
   where
     p : Program
