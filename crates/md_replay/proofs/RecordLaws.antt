@@ -1,6 +1,7 @@
 -- The records of bases: of one more, and of all.
-use Rattle.std.proofs.Common.{◌≡◌, ℕ, zero, suc, ◌+◌, ◌<◌, ◌≤◌, ℤ, List, [], ◌∷◌, ◌++◌, ◌⊎◌, inl, inr, length, take, refl, ap, ◌∙◌, arith, add-one}
+use Rattle.std.proofs.Common.{◌≡◌, ℕ, zero, suc, ◌+◌, ◌<◌, ◌≤◌, ℤ, List, [], ◌∷◌, ◌++◌, ◌⊎◌, inl, inr, length, take, refl, sym, ap, append_assoc, ◌∙◌, arith, add-one}
 use Rattle.md_math.specs.Lists.{number_at}
+use Rattle.md_records.specs.Written.{record_text, text_of_records}
 use Rattle.md_replay.specs.Records.{basis_record, basis_records}
 
 more_from : (k : ℕ) (dens greatest : List ℤ) (place : ℕ) → place < length dens → place < length greatest → basis_records k (take (suc place) dens) (take (suc place) greatest) ≡ basis_records k (take place dens) (take place greatest) ++ basis_record (k + place) (number_at dens place) (number_at greatest place) ∷ []
@@ -28,3 +29,9 @@ basis_records-all k (den ∷ dens) [] (suc count) h = refl
 basis_records-all k (den ∷ dens) (size ∷ greatest) zero h = absurd (elim h [ inl a ↦ omega arith | inr a ↦ omega arith ])
 basis_records-all k (den ∷ dens) (size ∷ greatest) (suc count) h =
     ap (λ xs. basis_record k den size ∷ xs) (basis_records-all (k + 1) dens greatest count (elim h [ inl a ↦ inl (omega arith) | inr a ↦ inr (omega arith) ]))
+
+pub text_of_records-more : (rows more : List (List (List ℕ))) → text_of_records (rows ++ more) ≡ text_of_records rows ++ text_of_records more
+text_of_records-more [] more = refl
+text_of_records-more (row ∷ rows) more =
+    ap (λ text. record_text row ++ text) (text_of_records-more rows more)
+    ∙ sym (append_assoc (record_text row) (text_of_records rows) (text_of_records more))

@@ -1,7 +1,8 @@
 //! What came of listed pivots, as records.
-ghost use Rattle.std.specs.Prelude.{◌≡◌, ◌++◌, ◌∷◌, [], pos, codes, IfOk};
+ghost use Rattle.std.specs.Prelude.{◌≡◌, ◌++◌, ◌∷◌, [], pos, IfOk, OnOk};
 ghost use Rattle.md_num.specs.WholeText.{text_of};
-ghost use Rattle.md_replay.specs.Records.{basis_record, basis_records, replay_records, replay_text, wide_record, wide_records};
+ghost use Rattle.md_records.specs.Written.{text_of_records};
+ghost use Rattle.md_replay.specs.Records.{basis_record, basis_records, last_records, replay_text, wide_record, wide_records};
 
 use crate::outcome::Replay;
 use md_lp::Entry;
@@ -39,34 +40,42 @@ fn count_row(alloc: Global, word: &[u8], count: u64) -> Result<Row, NoMemory>
     Row::new(alloc).with(word)?.with_number(i128::from(count))
 }
 
-// The records of the bases that are not wide.
-fn basis_rows(alloc: Global, dens: &Nums, greatest: &Nums) -> Result<Vec<Row>, NoMemory>
-    ensures { IfOk result (λ rows. rows.items ≡ basis_records 0 dens.now greatest.now) }
+// Adds records to a text.
+fn add_records(alloc: Global, text: &mut Vec<u8>, rows: &[Row]) -> Result<(), NoMemory>
+    ensures { OnOk result (text.new.items ≡ text.old.items ++ text_of_records rows.now) }
+{
+    text.extend_from_slice(&write_records(alloc, rows)?)?;
+    Ok(())
+}
+
+// The records of the bases that are not wide, as a text. Each is written as it comes: there may be millions.
+fn bases_text(alloc: Global, dens: &Nums, greatest: &Nums) -> Result<Vec<u8>, NoMemory>
+    ensures { IfOk result (λ text. text.items ≡ text_of_records (basis_records 0 dens.now greatest.now)) }
+{
+    let mut text = Vec::new(alloc);
+    for place in 0..dens.len().min(greatest.len()) {
+        let row = basis_row(alloc, place, dens.get(place), greatest.get(place))?;
+        add_records(alloc, &mut text, &[row])?;
+    }
+    Ok(text)
+}
+
+// The record of the first wide entry, if there is one.
+fn wide_rows(alloc: Global, wide: Option<Entry>) -> Result<Vec<Row>, NoMemory>
+    ensures { IfOk result (λ rows. rows.items ≡ wide_records wide) }
 {
     let mut rows = Vec::new(alloc);
-    for place in 0..dens.len().min(greatest.len()) {
-        rows.push(basis_row(alloc, place, dens.get(place), greatest.get(place))?)?;
+    if let Some(entry) = wide {
+        rows.push(wide_row(alloc, entry)?)?;
     }
     Ok(rows)
 }
 
-// Rows with the record of the first wide entry at their end, if there is one.
-fn with_wide(alloc: Global, rows: Vec<Row>, wide: Option<Entry>) -> Result<Vec<Row>, NoMemory>
-    ensures { IfOk result (λ more. more.items ≡ rows.items ++ wide_records wide) }
+// The records behind those of the bases.
+fn last_rows(alloc: Global, replay: &Replay) -> Result<Vec<Row>, NoMemory>
+    ensures { IfOk result (λ rows. rows.items ≡ wide_records replay.now.wide ++ last_records replay.now.followed) }
 {
-    let mut more = rows;
-    if let Some(entry) = wide {
-        more.push(wide_row(alloc, entry)?)?;
-    }
-    Ok(more)
-}
-
-// All records.
-fn records_of(alloc: Global, replay: &Replay) -> Result<Vec<Row>, NoMemory>
-    ensures { IfOk result (λ rows. rows.items ≡ replay_records replay.now) }
-{
-    let bases = basis_rows(alloc, &replay.dens, &replay.greatest)?;
-    let mut rows = with_wide(alloc, bases, replay.wide)?;
+    let mut rows = wide_rows(alloc, replay.wide)?;
     rows.push(count_row(alloc, b"rule", replay.followed.forward)?)?;
     rows.push(count_row(alloc, b"again", replay.followed.backward)?)?;
     rows.push(Row::new(alloc).with(b"end")?)?;
@@ -78,6 +87,7 @@ fn records_of(alloc: Global, replay: &Replay) -> Result<Vec<Row>, NoMemory>
 pub fn replay_text(alloc: Global, replay: &Replay) -> Result<Vec<u8>, NoMemory>
     ensures { IfOk result (λ text. text.items ≡ replay_text replay.now) }
 {
-    let rows = records_of(alloc, replay)?;
-    write_records(alloc, &rows)
+    let mut text = bases_text(alloc, &replay.dens, &replay.greatest)?;
+    add_records(alloc, &mut text, &last_rows(alloc, replay)?)?;
+    Ok(text)
 }
