@@ -1,7 +1,6 @@
 -- What the end of an auction's cut run says of the auction.
-use Rattle.std.proofs.Common.{◌≡◌, ℕ, ℤ, List, refl, sym, ap, ◌∙◌, subst}
+use Rattle.std.proofs.Common.{◌≡◌, ℕ, List, refl, ap, ◌∙◌, subst}
 use Rattle.md_math.specs.Lists.{number_at}
-use Rattle.md_lp.specs.Program.{Program}
 use Rattle.md_cert.specs.Claims.{IsOptimalPoint}
 use Rattle.md_cert.proofs.Duality.{optimal-claim}
 use Rattle.md_setting.specs.Auction.{SymmetricAuction}
@@ -10,8 +9,6 @@ use Rattle.md_setting.specs.General.{general_of}
 use Rattle.md_mech.specs.Optimal.{IsOptimal}
 use Rattle.md_border.specs.declared.interim.Interim.{Interim}
 use Rattle.md_border.specs.Odds.{HasOdds, HasPays}
-use Rattle.md_expost.specs.Implementing.{Implements}
-use Rattle.md_expost.specs.Mechanisms.{mechanism_of}
 use Rattle.md_expost.proofs.MechanismLaws.{mechanism-of_masses, odds-of_masses, pays-of_masses}
 use Rattle.md_reduced.specs.Points.{interim_in}
 use Rattle.md_reduced.proofs.OptimalLaws.{makes-optimal}

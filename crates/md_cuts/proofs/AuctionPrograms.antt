@@ -1,17 +1,15 @@
 -- The reduced programs of an auction are what a cut run goes over.
-use Rattle.std.proofs.Common.{◌≡◌, ℕ, ◌+◌, ◌*◌, ◌-◌, ◌<◌, ◌≤◌, ◌^◌, true, false, ℤ, pos, ◌-ℤ◌, ◌*ℤ◌, ◌≤ℤ◌, ◌<ℤ◌, if◌then◌else◌, List, ◌++◌, length, map, All, get_or, refl, sym, ap, ap₂, ◌∙◌, subst, arith}
+use Rattle.std.proofs.Common.{◌≡◌, ℕ, ◌*◌, ◌<◌, false, ℤ, pos, ◌-ℤ◌, ◌*ℤ◌, ◌≤ℤ◌, ◌<ℤ◌, if◌then◌else◌, List, length, refl, sym, ap, ap₂, ◌∙◌, subst, arith}
 use Rattle.std.specs.Prelude.{slice_index}
 use Rattle.std.proofs.lemmas.Int.{ints}
 use Rattle.std.proofs.lemmas.Nat.Bits.{bit_at-zero}
 use Rattle.md_math.specs.Lists.{number_at}
 use Rattle.md_math.specs.Sets.{member}
-use Rattle.md_math.specs.Sums.{sum_to}
 use Rattle.md_math.proofs.Builders.{All-right, get_or-list_to}
 use Rattle.md_math.proofs.Order.{nonneg-*ℤ}
 use Rattle.md_math.proofs.SumLaws.{sum_to-same, sum_to-zero}
 use Rattle.md_lp.specs.Program.{Program}
 use Rattle.md_lp.specs.Point.{Meets}
-use Rattle.md_lp.specs.declared.wide.Wide.{Wide}
 use Rattle.md_lp.proofs.SamePrograms.{IsSameProgram}
 use Rattle.md_cert.specs.Fitting.{Fits, FitsBound, FitsColumns, FitsRows}
 use Rattle.md_cert.specs.declared.bound.Bound.{Bound}
@@ -35,7 +33,7 @@ use Rattle.md_reduced.specs.Sides.{cost_of, demands_of}
 use Rattle.md_reduced.proofs.BoundLaws.{bounded, right-nonneg, zero-meets}
 use Rattle.md_reduced.proofs.BuiltLaws.{all-of, meets-conditions}
 use Rattle.md_cuts.specs.AuctionCuts.{auction_cutting}
-use Rattle.md_cuts.specs.Cutting.{Cutting, IsCutPoint, IsCutting, IsShownOf}
+use Rattle.md_cuts.specs.Cutting.{IsCutPoint, IsCutting, IsShownOf}
 use Rattle.md_cuts.specs.Worst.{IsWorst, NoneOver}
 
 -- ---- one program

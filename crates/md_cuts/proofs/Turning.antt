@@ -1,13 +1,14 @@
 -- What one turn of a cut run finds, and how the run goes on.
-use Rattle.std.proofs.Common.{◌≡◌, ◌≢◌, ℕ, zero, suc, ◌+◌, ◌<◌, ◌≤◌, ◌^◌, ◌⊎◌, ℤ, pos, ◌≤ℤ◌, ◌<ℤ◌, List, [], ◌∷◌, ◌++◌, length, take, refl, sym, ap, ◌∙◌, subst, arith, inl, inr}
+use Rattle.std.proofs.Common.{◌≡◌, ◌≢◌, ℕ, zero, suc, ◌≤◌, ℤ, pos, ◌≤ℤ◌, List, [], ◌∷◌, ◌++◌, length, take, refl, sym, ap, ◌∙◌, subst, arith, inl, inr}
 use Rattle.std.specs.Prelude.{slice_index}
-use Rattle.std.proofs.lemmas.Bool.Decides.{eqb_tells}
 use Rattle.std.proofs.lemmas.Int.{ints}
 use Rattle.std.proofs.lemmas.List.{take_all, take-append-le}
 use Rattle.std.proofs.Math.Seq.{take-append_seam}
 use Rattle.md_math.specs.Lists.{number_at}
 use Rattle.md_lp.specs.Program.{Program}
 use Rattle.md_lp.specs.Point.{Meets}
+use Rattle.md_lp.specs.Shape.{IsShaped}
+use Rattle.md_lp.specs.declared.wide.Wide.{Wide}
 use Rattle.md_cert.specs.Certified.{Certified}
 use Rattle.md_cert.specs.Fitting.{Fits}
 use Rattle.md_cert.specs.declared.bound.Bound.{Bound}
@@ -15,16 +16,36 @@ use Rattle.md_cert.specs.declared.certificate.Certificate.{Certificate}
 use Rattle.md_cert.specs.declared.certificate.Certificate.TheVariants as certificates
 use Rattle.md_cert.proofs.Duality.{infeasible-claim, unbounded-claim}
 use Rattle.md_simplex.specs.declared.end.End.{End}
-use Rattle.md_simplex.specs.Runs.{IsRun}
+use Rattle.md_simplex.specs.declared.order.Order.{Order}
+use Rattle.md_simplex.specs.declared.order.Order.TheVariants.{Forward, Backward}
+use Rattle.md_simplex.specs.declared.simplex_error.SimplexError.{SimplexError}
+use Rattle.md_simplex.specs.declared.simplex_error.SimplexError.TheVariants.{TooWide, Memory}
+use Rattle.md_simplex.specs.Runs.{IsFirstWideOf, IsLeft, IsRun}
+use Rattle.md_simplex.proofs.WideSizes.{wide-sizes}
 use Rattle.md_lp.specs.Cuts.{AreCuts, HasSingles, singles_of}
 use Rattle.md_border.proofs.SingleCuts.{singles-length}
 use Rattle.md_cuts.specs.declared.optimum.Optimum.{Optimum}
-use Rattle.md_cuts.specs.Cutting.{Cutting, IsCutPoint, IsCutting}
-use Rattle.md_cuts.specs.CutRuns.{IsCutRun, IsNextCut, IsOptimumOf, IsShownBy, certificate_of}
-use Rattle.md_cuts.specs.Turns.{IsAdded, IsFound}
+use Rattle.md_cuts.specs.Cutting.{Cutting, IsCutting}
+use Rattle.md_cuts.specs.CutRuns.{HasSmallEntry, IsCutRun, IsNextCut, certificate_of}
+use Rattle.md_cuts.specs.Turns.{IsAdded, IsFound, IsNotFound}
 use Rattle.md_cuts.specs.Worst.{IsWorst}
 use Rattle.md_cuts.proofs.CutLists.{AreCuts-more, before-or_last, pushed-before, pushed-last}
 use Rattle.md_cuts.proofs.SingleCuts.{places-le}
+
+-- ---- a program that has no taken path
+
+small-entry : (order : Order) (p : Program) (width : ℕ) (wide : Wide) → IsShaped p → width ≤ 62 → IsFirstWideOf order p width wide → HasSmallEntry wide
+small-entry order p width wide shaped few first =
+    let sizes = wide-sizes order p width wide.path wide.entry shaped few first in
+    record { positive = sizes.positive; num_size = sizes.num_size; den_size = sizes.den_size }
+
+pub not-found : (m : Cutting) (width : ℕ) (cuts : List ℕ) (p : Program) (error : SimplexError) → IsShaped p → width ≤ 62 → m.is_program cuts p → IsLeft p width error → IsNotFound m width cuts error
+not-found m width cuts p (TooWide first second) shaped few of_cuts left = record {
+  wide = record { program = p; is_program = of_cuts; forward = left.0; backward = left.1 };
+  first_small = small-entry Forward p width first shaped few left.0;
+  second_small = small-entry Backward p width second shaped few left.1;
+}
+not-found m width cuts p Memory shaped few of_cuts left = tt
 
 module _ (m : Cutting) (is : IsCutting m) where
   -- ---- what is read off a program

@@ -1,6 +1,7 @@
 -- Cut runs: lists of cuts, each of which is the worst set at the point of the program of the cuts before it.
-use Rattle.std.specs.Prelude.{◌≡◌, ℕ, ◌<◌, ◌≤◌, ℤ, List, length, slice_index, take}
+use Rattle.std.specs.Prelude.{◌≡◌, ℕ, ◌-◌, ◌^◌, ◌<◌, ◌≤◌, pos, ◌≤ℤ◌, List, length, slice_index, take}
 use Rattle.md_math.specs.Lists.{number_at}
+use Rattle.md_math.specs.Sizes.{IsWithin}
 use Rattle.md_lp.specs.Program.{Program}
 use Rattle.md_lp.specs.declared.wide.Wide.{Wide}
 use Rattle.md_cert.specs.Certified.{Certified}
@@ -87,3 +88,14 @@ TellsWide cuts first second errors.Memory = Unit {0}
 abbrev pub WhereWide : (List ℕ → Type 0) → CutsError → Type 0
 WhereWide P (errors.TooWide cuts first second) = P cuts
 WhereWide P errors.Memory = Unit {0}
+
+-- the wide entry is a number over a denominator of at least 1, both of at most 126 bits
+pub record HasSmallEntry (wide : Wide) : Type 0 where
+  pub positive : pos 1 ≤ℤ wide.entry.den
+  pub num_size : IsWithin (2 ^ 126 - 1) wide.entry.num
+  pub den_size : IsWithin (2 ^ 126 - 1) wide.entry.den
+
+-- so are both wide entries that are told
+abbrev pub HasSmallEntries : CutsError → Type 0
+HasSmallEntries (errors.TooWide cuts first second) = HasSmallEntry first × HasSmallEntry second
+HasSmallEntries errors.Memory = Unit {0}

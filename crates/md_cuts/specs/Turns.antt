@@ -4,11 +4,12 @@ use Rattle.md_math.specs.Lists.{number_at}
 use Rattle.md_simplex.specs.declared.simplex_error.SimplexError.{SimplexError}
 use Rattle.md_simplex.specs.declared.simplex_error.SimplexError.TheVariants as simplex
 use Rattle.md_lp.specs.Cuts.{AreCuts}
+use Rattle.md_lp.specs.declared.wide.Wide.{Wide}
 use Rattle.md_cuts.specs.declared.optimum.Optimum.{Optimum}
 use Rattle.md_cuts.specs.declared.turn.Turn.{Turn}
 use Rattle.md_cuts.specs.declared.turn.Turn.TheVariants.{Adds, Ends, TooWide}
 use Rattle.md_cuts.specs.Cutting.{Cutting, IsCutPoint}
-use Rattle.md_cuts.specs.CutRuns.{AreWide, IsNextCut, IsOptimumOf, IsSettled, IsShownBy}
+use Rattle.md_cuts.specs.CutRuns.{AreWide, HasSmallEntry, IsNextCut, IsOptimumOf, IsSettled, IsShownBy}
 
 -- the point of the program of the cuts, and that it is shown to be greatest
 pub record IsFound (m : Cutting) (width : ℕ) (cuts : List ℕ) (optimum : Optimum) : Type 0 where
@@ -16,9 +17,15 @@ pub record IsFound (m : Cutting) (width : ℕ) (cuts : List ℕ) (optimum : Opti
   pub shown : IsShownBy m cuts optimum
   pub point : IsCutPoint m optimum.den optimum.point
 
+-- the program of the cuts has no taken path, and the first wide entry of each of its two is small
+pub record IsStopped (m : Cutting) (width : ℕ) (cuts : List ℕ) (first second : Wide) : Type 0 where
+  pub wide : AreWide m width cuts first second
+  pub first_small : HasSmallEntry first
+  pub second_small : HasSmallEntry second
+
 -- the program of the cuts has no taken path; memory may run out at any time
 abbrev pub IsNotFound : Cutting → ℕ → List ℕ → SimplexError → Type 0
-IsNotFound m width cuts (simplex.TooWide first second) = AreWide m width cuts first second
+IsNotFound m width cuts (simplex.TooWide first second) = IsStopped m width cuts first second
 IsNotFound m width cuts simplex.Memory = Unit {0}
 
 -- the cuts with one more at their end, which is none of them
@@ -36,4 +43,4 @@ pub record IsEnded {T : Type 0} (m : Cutting) (shows : ℤ → (ℕ → ℤ) →
 abbrev pub IsTurn : {T : Type 0} → Cutting → (ℤ → (ℕ → ℤ) → T → Type 0) → ℕ → List ℕ → Turn T → Type 0
 IsTurn m shows width cuts (Adds set) = IsAdded m width cuts set
 IsTurn m shows width cuts (Ends optimum table) = IsEnded m shows width cuts optimum table
-IsTurn m shows width cuts (TooWide first second) = AreWide m width cuts first second
+IsTurn m shows width cuts (TooWide first second) = IsStopped m width cuts first second

@@ -4,7 +4,7 @@ ghost use Rattle.md_math.specs.Lists.{number_at};
 ghost use Rattle.md_lp.specs.declared.wide.Wide.{Wide};
 ghost use Rattle.md_lp.specs.Cuts.{AreCuts};
 ghost use Rattle.md_cuts.specs.declared.optimum.Optimum.{Optimum};
-ghost use Rattle.md_cuts.specs.CutRuns.{EndsSettled, EndsWide, IsLeftAt, IsShownBy, TellsWide, WhereWide};
+ghost use Rattle.md_cuts.specs.CutRuns.{EndsSettled, EndsWide, HasSmallEntries, IsLeftAt, IsShownBy, TellsWide, WhereWide};
 
 use crate::turn::{Turn, next_turn};
 use crate::{CutEnd, CutProgram, CutsError};
@@ -23,6 +23,7 @@ pub fn cut_run<C: CutProgram>(
     ensures shows { IfOk result (λ end. C.shows problem.now end.optimum.den (number_at end.optimum.point) end.table) }
     ensures shown { IfOk result (λ end. IsShownBy (C.cutting problem.now) end.cuts end.optimum) }
     ensures left { IfErr result (IsLeftAt (C.cutting problem.now) width) }
+    ensures small { IfErr result HasSmallEntries }
 
     // There is one run, and it has one end: an answer with these cuts and this optimum, or these wide bases.
     ensures settled { (cuts : List ℕ) (optimum : Optimum) → EndsSettled (C.cutting problem.now) width cuts optimum → MatchResult result (λ end. (end.cuts ≡ cuts) × (end.optimum ≡ optimum)) (λ error. error ≡ CutsError.Memory) }

@@ -11,7 +11,7 @@ ghost use Rattle.md_expost.specs.Masses.{AreMasses};
 ghost use Rattle.md_cuts.specs.declared.auction_end.AuctionEnd.{AuctionEnd};
 ghost use Rattle.md_cuts.specs.declared.optimum.Optimum.{Optimum};
 ghost use Rattle.md_cuts.specs.AuctionCuts.{IsSolvedAuction, TellsOptimum, auction_cutting, mechanism_in};
-ghost use Rattle.md_cuts.specs.CutRuns.{EndsSettled, EndsWide, IsLeftAt, TellsWide, WhereWide};
+ghost use Rattle.md_cuts.specs.CutRuns.{EndsSettled, EndsWide, HasSmallEntries, IsLeftAt, TellsWide, WhereWide};
 
 use crate::{AuctionEnd, CutsError, cut_run};
 use md_num::Width;
@@ -29,6 +29,7 @@ pub fn solve_auction(
     // The cuts are those of the cut run, and odds, payments and bound are read off the taken path of the last program.
     ensures solved { IfOk result (IsSolvedAuction auction.now width) }
     ensures left { IfErr result (IsLeftAt (auction_cutting auction.now) width) }
+    ensures small { IfErr result HasSmallEntries }
 
     // The mass table has exactly these odds.
     ensures fits { IfOk result (λ end. IsInterim auction.now end.interim) }

@@ -60,6 +60,7 @@ fn found<C: CutProgram>(
     let Ok(lp) = problem.program(alloc, cuts) else {
         return Err(SimplexError::Memory);
     };
+    let _range = width.limit();
     let End {
         path: _,
         certificate,

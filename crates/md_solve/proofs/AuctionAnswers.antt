@@ -1,8 +1,7 @@
 -- What is so of an auction where an answer tells the end of its cut run.
-use Rattle.std.proofs.Common.{◌≡◌, ℕ, ◌*◌, ◌-◌, ◌^◌, ◌<◌, ◌≤◌, ℤ, pos, ◌*ℤ◌, ◌≤ℤ◌, ◌<ℤ◌, List, length, None, Some, sym, ap, ap₂, ◌∙◌, subst, arith, refl}
+use Rattle.std.proofs.Common.{◌≡◌, ℕ, ◌*◌, ◌-◌, ◌^◌, ℤ, pos, ◌*ℤ◌, ◌<ℤ◌, List, None, Some, sym, ap, ap₂, ◌∙◌, subst, arith}
 use Rattle.std.proofs.lemmas.Int.{ints}
 use Rattle.md_math.specs.Lists.{number_at}
-use Rattle.md_math.specs.Sizes.{IsWithin}
 use Rattle.md_math.proofs.Order.{positive-*ℤ, positive_pos}
 use Rattle.md_math.proofs.SizeLaws.{IsWithin-wider, IsWithin-*ℤ}
 use Rattle.md_num.specs.declared.frac.Frac.{Frac}
@@ -15,8 +14,7 @@ use Rattle.md_mech.specs.Optimal.{IsOptimal}
 use Rattle.md_mech.specs.Value.{IsValueOf}
 use Rattle.md_mech.specs.declared.mechanism.Mechanism.{Mechanism}
 use Rattle.md_lp.specs.Cuts.{AreCuts}
-use Rattle.md_lp.specs.Program.{Program, row_count}
-use Rattle.md_lp.specs.Shape.{IsShaped}
+use Rattle.md_lp.specs.Program.{Program}
 use Rattle.md_lp.specs.declared.wide.Wide.{Wide}
 use Rattle.md_border.specs.declared.interim.Interim.{Interim}
 use Rattle.md_border.specs.Odds.{HasOdds, HasPays, IsInterim}
@@ -32,14 +30,12 @@ use Rattle.md_cert.specs.declared.bound.Bound.{Bound}
 use Rattle.md_reduced.specs.Points.{interim_in}
 use Rattle.md_reduced.specs.ProgramOf.{IsReducedProgram}
 use Rattle.md_reduced.proofs.BuiltLaws.{rows-count}
-use Rattle.md_simplex.specs.declared.order.Order.TheVariants.{Forward, Backward}
 use Rattle.md_cuts.specs.declared.auction_end.AuctionEnd.{AuctionEnd}
 use Rattle.md_cuts.specs.declared.cuts_error.CutsError.{CutsError}
 use Rattle.md_cuts.specs.declared.cuts_error.CutsError.TheVariants as errors
 use Rattle.md_cuts.specs.declared.optimum.Optimum.{Optimum}
 use Rattle.md_cuts.specs.AuctionCuts.{IsSolvedAuction, TellsOptimum, auction_cutting}
-use Rattle.md_cuts.specs.CutRuns.{EndsSettled, EndsWide, TellsWide}
-use Rattle.md_cuts.proofs.AuctionPrograms.{IsCutting-auction}
+use Rattle.md_cuts.specs.CutRuns.{EndsSettled, EndsWide, HasSmallEntries, HasSmallEntry, TellsWide}
 use Rattle.md_claims.specs.AuctionCertificates.{auction_certificate}
 use Rattle.md_claims.specs.AuctionClaims.{mechanism_in}
 use Rattle.md_claims.proofs.AuctionCertificates.{certified-at_interim}
@@ -50,7 +46,6 @@ use Rattle.md_answer.specs.declared.answer.Answer.{Answer}
 use Rattle.md_answer.specs.declared.answer.Answer.TheVariants.{Table, Optimal, Infeasible, Unbounded, AuctionOptimal, TooWide}
 use Rattle.md_solve.specs.AuctionSolved.{IsAuctionSo, IsAuctionSolved, IsCertifiedAuction, IsSameButMasses}
 use Rattle.md_solve.proofs.OneFraction.{one_fraction, small_fraction}
-use Rattle.md_solve.proofs.WideFits.{wide-fits}
 
 -- what is told of an end with its value
 abbrev pub told : AuctionEnd → Frac → Answer
@@ -168,13 +163,9 @@ module _ (a : SymmetricAuction) (width : ℕ) (cuts : List ℕ) (first second : 
   only-wide settled wide (TooWide other forward None) h = absurd h
   only-wide settled wide (TooWide other forward (Some backward)) h = wide-told other cuts forward backward first second (wide other forward backward h)
 
-  -- the entries of its first wide bases can be written, as those of each program with these cuts
-  pub wide-with : (p : Program) → IsAuction a → width ≤ 62 → IsShaped p → IsReducedProgram a 1 cuts p → EndsWide (auction_cutting a) width cuts first second → AreCuts (value_count a) cuts
-      → IsAuctionAnswer a (TooWide cuts first (Some second))
-  wide-with p auction few shaped is ends are =
-      let q = ends.wide.program in
-      let same = (IsCutting-auction a auction).one cuts q p ends.wide.is_program is in (
-        are,
-        wide-fits Forward p width first shaped few (same.wide Forward width first ends.wide.forward),
-        wide-fits Backward p width second shaped few (same.wide Backward width second ends.wide.backward),
-      )
+  -- its cuts and the entries of its first wide bases can be written
+  pub wide-with : HasSmallEntries (errors.TooWide cuts first second) → AreCuts (value_count a) cuts → IsAuctionAnswer a (TooWide cuts first (Some second))
+  wide-with small are = (are, fraction first small.0, fraction second small.1)
+    where
+      fraction : (wide : Wide) → HasSmallEntry wide → HasFraction wide
+      fraction wide h = record { positive = h.positive; num_size = h.num_size; den_size = h.den_size }

@@ -13,7 +13,6 @@ use md_answer::Answer;
 use md_border::auction_worth;
 use md_cuts::{CutsError, solve_auction};
 use md_num::{NoMemory, Width};
-use md_reduced::program;
 use md_setting::Auction;
 use std::alloc::Global;
 
@@ -32,7 +31,6 @@ pub(crate) fn solve_by_cuts(
     ensures writable { IfOk result (IsAuctionAnswer auction.now) }
 {
     let _shaped = auction.kinds();
-    let _range = width.limit();
     match solve_auction(alloc, auction, width) {
         Ok(end) => Ok(Answer::AuctionOptimal {
             value: auction_worth(auction, &end.interim),
@@ -47,14 +45,11 @@ pub(crate) fn solve_by_cuts(
                 first,
                 second,
             },
-        ) => {
-            let _sizes = program(alloc, auction, &cuts)?.rows();
-            Ok(Answer::TooWide {
-                cuts,
-                first,
-                second: Some(second),
-            })
-        }
+        ) => Ok(Answer::TooWide {
+            cuts,
+            first,
+            second: Some(second),
+        }),
         Err(CutsError::Memory) => Err(NoMemory),
     }
 }

@@ -1,10 +1,9 @@
-use Rattle.std.proofs.Common.{◌≡◌, ◌+◌, ◌-◌, ◌<◌, ◌^◌, List, [], ◌∷◌, ◌++◌, length, ℕ, sym, ap, ◌∙◌, subst, arith}
+use Rattle.std.proofs.Common.{◌-◌, ◌<◌, ◌^◌, List, [], ◌∷◌, ◌++◌, length, ℕ, sym, ap, ◌∙◌, subst, arith}
 use Rattle.std.proofs.lemmas.List.{length_push}
 use Rattle.md_lp.specs.Cuts.{AreCuts}
 use Rattle.md_lp.specs.Cuts.{singles_of}
 use Rattle.md_cuts.specs.CutRuns.{EndsSettled, EndsWide, IsCutRun}
-use Rattle.md_cuts.specs.Turns.{IsAdded, IsEnded, IsTurn}
-use Rattle.md_cuts.specs.CutRuns.{AreWide}
+use Rattle.md_cuts.specs.Turns.{IsAdded, IsEnded, IsStopped, IsTurn}
 use Rattle.md_reduced.proofs.CutLaws.{cuts-fewer}
 use Rattle.md_cuts.proofs.OneCutRun.{not_settled_wide, same_settled, same_wide}
 use Rattle.md_cuts.proofs.SingleCuts.{HasSingles-run}
@@ -67,12 +66,15 @@ returns-in-Ends-clause-few g c = cuts-fewer (g.C.CutProgram.cutting c.args.probl
 
 -- ---- it ends with a program that has no taken path
 
+stopped : (g : Over) (c : goal.In-TooWide g) → IsStopped (g.C.CutProgram.cutting c.args.problem.now) c.args.width c.loop-cuts.cuts c.in-TooWide.first c.in-TooWide.second
+stopped g c =
+    subst (IsTurn (g.C.CutProgram.cutting c.args.problem.now) (g.C.CutProgram.shows c.args.problem.now) c.args.width c.loop-cuts.cuts) c.in-TooWide.is c.in_ok-set.ensures
+
 widens : (g : Over) (c : goal.In-TooWide g) → EndsWide (g.C.CutProgram.cutting c.args.problem.now) c.args.width c.loop-cuts.cuts c.in-TooWide.first c.in-TooWide.second
-widens g c =
-    let m = g.C.CutProgram.cutting c.args.problem.now in
-    let wide : AreWide m c.args.width c.loop-cuts.cuts c.in-TooWide.first c.in-TooWide.second =
-    subst (IsTurn m (g.C.CutProgram.shows c.args.problem.now) c.args.width c.loop-cuts.cuts) c.in-TooWide.is c.in_ok-set.ensures in
-    record { run = c.loop-cuts.invariant.run; wide = wide }
+widens g c = record { run = c.loop-cuts.invariant.run; wide = (stopped g c).wide }
+
+pub returns-in-TooWide-clause-small : goal.returns-in-TooWide-clause-small
+returns-in-TooWide-clause-small g c = ((stopped g c).first_small, (stopped g c).second_small)
 
 pub returns-in-TooWide-clause-settled : goal.returns-in-TooWide-clause-settled
 returns-in-TooWide-clause-settled g c = λ cuts optimum there.

@@ -2,9 +2,7 @@ use Rattle.std.proofs.Common.{sym, ◌∙◌, subst}
 use Rattle.md_border.specs.Worth.{IsWorthOf}
 use Rattle.md_setting.specs.Auction.{value_count}
 use Rattle.md_lp.specs.Cuts.{AreCuts}
-use Rattle.md_cuts.specs.AuctionCuts.{auction_cutting}
-use Rattle.md_cuts.specs.CutRuns.{EndsWide, IsLeftAt, TellsWide, WhereWide}
-use Rattle.md_cuts.specs.declared.cuts_error.CutsError.TheVariants as errors
+use Rattle.md_cuts.specs.CutRuns.{HasSmallEntries, TellsWide, WhereWide}
 use Rattle.md_solve.proofs.AuctionAnswers.{certified-with, fits-with, not-memory, only-wide, only-with, so-with, wide-told, wide-with}
 use Rattle.md_solve.proofs.auctions.solve_by_cuts.Goals as goal
 
@@ -40,28 +38,26 @@ returns-in-Ok-clause-writable c =
     let worth : IsWorthOf c.args.auction.now end.interim c.auction_worth.result = record { has_worth = c.auction_worth.ensures.value; least = c.auction_worth.ensures.least } in
     fits-with c.args.auction.now c.args.width end c.auction_worth.result c.kinds-shaped.ensures.shaped facts.solved facts.fits worth facts.masses facts.implements facts.distinct
 
-pub returns-in_ok-program-in-Err-TooWide-clause-only : goal.returns-in_ok-program-in-Err-TooWide-clause-only
-returns-in_ok-program-in-Err-TooWide-clause-only c =
+pub returns-in-Err-TooWide-clause-only : goal.returns-in-Err-TooWide-clause-only
+returns-in-Err-TooWide-clause-only c =
     let here = c.in-Err-TooWide in
     only-wide c.args.auction.now c.args.width here.cuts here.first here.second
     (λ cuts optimum ends. not-memory here.cuts here.first here.second (sym here.field-0-is ∙ here.ensures.settled cuts optimum ends))
     (λ cuts first second ends. subst (TellsWide cuts first second) here.field-0-is (here.ensures.wide cuts first second ends))
 
-pub returns-in_ok-program-in-Err-TooWide-clause-settled : goal.returns-in_ok-program-in-Err-TooWide-clause-settled
-returns-in_ok-program-in-Err-TooWide-clause-settled c cuts optimum ends =
+pub returns-in-Err-TooWide-clause-settled : goal.returns-in-Err-TooWide-clause-settled
+returns-in-Err-TooWide-clause-settled c cuts optimum ends =
     let here = c.in-Err-TooWide in
     not-memory here.cuts here.first here.second (sym here.field-0-is ∙ here.ensures.settled cuts optimum ends)
 
-pub returns-in_ok-program-in-Err-TooWide-clause-wide : goal.returns-in_ok-program-in-Err-TooWide-clause-wide
-returns-in_ok-program-in-Err-TooWide-clause-wide c cuts first second ends =
+pub returns-in-Err-TooWide-clause-wide : goal.returns-in-Err-TooWide-clause-wide
+returns-in-Err-TooWide-clause-wide c cuts first second ends =
     let here = c.in-Err-TooWide in
     wide-told cuts here.cuts first second here.first here.second (subst (TellsWide cuts first second) here.field-0-is (here.ensures.wide cuts first second ends))
 
-pub returns-in_ok-program-in-Err-TooWide-clause-writable : goal.returns-in_ok-program-in-Err-TooWide-clause-writable
-returns-in_ok-program-in-Err-TooWide-clause-writable c =
+pub returns-in-Err-TooWide-clause-writable : goal.returns-in-Err-TooWide-clause-writable
+returns-in-Err-TooWide-clause-writable c =
     let a = c.args.auction.now in
     let here = c.in-Err-TooWide in
-    let ends : EndsWide (auction_cutting a) c.args.width here.cuts here.first here.second = subst (IsLeftAt (auction_cutting a) c.args.width) here.field-0-is here.ensures.left in
     let cuts : AreCuts (value_count a) here.cuts = subst (WhereWide (AreCuts (value_count a))) here.field-0-is here.ensures.distinct in
-    wide-with a c.args.width here.cuts here.first here.second c.in_ok-program-in-Err-TooWide.field-0 c.kinds-shaped.ensures.shaped c.limit-range.ensures.range.1
-    c.rows-sizes.ensures.shaped c.in_ok-program-in-Err-TooWide.ensures.program ends cuts
+    wide-with a c.args.width here.cuts here.first here.second (subst HasSmallEntries here.field-0-is here.ensures.small) cuts
