@@ -1,0 +1,7 @@
+pub mod Weights
+pub mod Shares
+pub mod Pools
+pub mod VirtualValues
+pub mod Odds
+pub mod Cuts
+pub mod Gaps
