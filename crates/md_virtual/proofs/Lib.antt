@@ -5,3 +5,6 @@ pub mod OddsLaws
 pub mod PayLaws
 pub mod BorderLaws
 pub mod GapLaws
+pub mod AuctionLaws
+pub mod CutLaws
+pub mod DemandLaws
