@@ -1,0 +1,9 @@
+pub mod MultipleLaws
+pub mod IronedLaws
+pub mod EdgeLaws
+pub mod RowSums
+pub mod Balance
+pub mod ProgramForms
+pub mod PointRows
+pub mod Fractions
+pub mod Certificates
