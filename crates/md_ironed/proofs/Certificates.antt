@@ -25,9 +25,7 @@ use Rattle.md_forms.proofs.BuiltLaws as forms
 use Rattle.md_forms.proofs.OneProgram.{unit-dot}
 use Rattle.md_forms.proofs.PointLaws.{hold-meets}
 use Rattle.md_cert.specs.Certified.{IsOptimalCertified, reduced_cost}
-use Rattle.md_cert.specs.Claims.{IsOptimalPoint}
 use Rattle.md_cert.specs.Pairs.{IsPairFor}
-use Rattle.md_cert.proofs.Duality.{optimal-claim}
 use Rattle.md_border.proofs.SideLaws.{right_of-counts}
 use Rattle.md_reduced.specs.ProgramOf.{column_count, IsReducedProgram}
 use Rattle.md_reduced.specs.Sides.{cost_of, utility_in, pay_in}
@@ -58,7 +56,7 @@ step-positive : (a : SymmetricAuction) → IsAuction a → (j : ℕ) → j < val
 step-positive a shaped zero b = one-positive
 step-positive a shaped (suc j) b = (let rise = values-rise a shaped j b in omega (arith, linear, rise))
 
-multiples : (a : SymmetricAuction) (pools : Pools) → IsAuction a → IsPooledAuction a pools → Multiples a pools
+pub multiples : (a : SymmetricAuction) (pools : Pools) → IsAuction a → IsPooledAuction a pools → Multiples a pools
 multiples a pools shaped p = record {
   weights = has-multiple (value_count a) _ (pool-weight (value_count a) (weight_to a) (virtual_to a) pools p (weight-ascends a shaped));
   steps = has-multiple (value_count a) _ (step-positive a shaped);
@@ -177,71 +175,76 @@ share-at c by mn bh over t whole e f =
     let right : over *ℤ (t *ℤ (by *ℤ c)) ≡ c *ℤ (over *ℤ (by *ℤ t)) = simp ring in
     left ∙ ap (λ z. c *ℤ z) f ∙ sym (ap (λ z. over *ℤ (t *ℤ z)) e ∙ right)
 
--- what is known of the row of a number
-record IsLine (a : SymmetricAuction) (pools : Pools) (p : Program) (over factor : ℤ) (m : Multiples a pools) (main : ℕ → ℤ) (r : ℕ) (row : ProgramRow) : Type 0 where
-  kind : kind_at p r ≡ AtMost
-  nonneg : pos 0 ≤ℤ main r
-  left : (x : ℕ → ℤ) → factor *ℤ (left_of (column_count a) (row_at p r) x *ℤ main r) ≡ over *ℤ (times_of (undivided_of a pools m) row *ℤ row_left a row x)
-  right : factor *ℤ (right_at p r *ℤ main r) ≡ over *ℤ (times_of (undivided_of a pools m) row *ℤ row_right a row)
+-- What is known of the row of a number with its multiplier.
+pub record IsLine (a : SymmetricAuction) (pools : Pools) (p : Program) (over factor : ℤ) (m : Multiples a pools) (multiplier : ℤ) (r : ℕ) (row : ProgramRow) : Type 0 where
+  pub kind : kind_at p r ≡ AtMost
+  pub nonneg : pos 0 ≤ℤ multiplier
+  pub left : (x : ℕ → ℤ) → factor *ℤ (left_of (column_count a) (row_at p r) x *ℤ multiplier) ≡ over *ℤ (times_of (undivided_of a pools m) row *ℤ row_left a row x)
+  pub right : factor *ℤ (right_at p r *ℤ multiplier) ≡ over *ℤ (times_of (undivided_of a pools m) row *ℤ row_right a row)
 
-default_row : ProgramRow
+abbrev pub default_row : ProgramRow
 default_row = rational_row 0
 
-row_in : (a : SymmetricAuction) → Pools → ℕ → ProgramRow
+abbrev pub row_in : SymmetricAuction → Pools → ℕ → ProgramRow
 row_in a pools r = get_or (rows_of (value_count a) pools) r default_row
 
 rows-count : (a : SymmetricAuction) (pools : Pools) (p : Program) → IsReducedProgram a 1 (cuts_of (value_count a) pools) p → row_count p ≡ length (rows_of (value_count a) pools)
 rows-count a pools p is =
     forms.rows-count (column_count a) (map (row_form a) (rows_of (value_count a) pools)) (cost_of a) p (is-program a pools p is) ∙ length-map (rows_of (value_count a) pools) (row_form a)
 
-factor-positive : (a : SymmetricAuction) (pools : Pools) (p : Program) → IsReducedProgram a 1 (cuts_of (value_count a) pools) p → pos 0 <ℤ p.factor
+pub factor-positive : (a : SymmetricAuction) (pools : Pools) (p : Program) → IsReducedProgram a 1 (cuts_of (value_count a) pools) p → pos 0 <ℤ p.factor
 factor-positive a pools p is = IsDivisorFor-positive (column_count a) (λ j. cost_of a (unit j)) p.factor is.has_cost.factor
+
+pub row-line : (a : SymmetricAuction) (pools : Pools) (p : Program) → IsReducedProgram a 1 (cuts_of (value_count a) pools) p → (r : ℕ) → r < row_count p → IsRowOf (column_count a) (row_form a (row_in a pools r)) (row_at p r)
+row-line a pools p is r b =
+    let rows = rows_of (value_count a) pools in
+    let below : r < length (rows_of (value_count a) pools) = omega (arith, b, rows-count a pools p is) in
+    forms.each-row (column_count a) (map (row_form a) rows) (cost_of a) p (is-program a pools p is) r (row_form a (row_in a pools r))
+    (slice_get-map (row_form a) rows r ∙ ap (option_map (row_form a)) (slice_get-get_or rows r default_row below))
+
+pub row-inside : (a : SymmetricAuction) (pools : Pools) (p : Program) → IsReducedProgram a 1 (cuts_of (value_count a) pools) p → (r : ℕ) → r < row_count p → IsRowIn (value_count a) pools (row_in a pools r)
+row-inside a pools p is r b = rows-in (value_count a) pools r default_row (omega (arith, b, rows-count a pools p is))
+
+-- a multiplier that is that before the division, over one factor
+pub line-from : (a : SymmetricAuction) (pools : Pools) (p : Program) (m : Multiples a pools) (over multiplier : ℤ) (r : ℕ) (row : ProgramRow) → IsAuction a → IsPooledAuction a pools
+    → IsReducedProgram a 1 (cuts_of (value_count a) pools) p → pos 0 <ℤ over → IsRowIn (value_count a) pools row → (line : IsRowOf (column_count a) (row_form a row) (row_at p r))
+    → multiplier *ℤ (cost_factor a pools m *ℤ p.factor) ≡ over *ℤ (line.by *ℤ times_of (undivided_of a pools m) row)
+    → IsLine a pools p over (cost_factor a pools m *ℤ p.factor) m multiplier r row
+line-from a pools p m over multiplier r row shaped pooled is above inside line times =
+    let factor : pos 0 <ℤ (cost_factor a pools m *ℤ p.factor) = positive-*ℤ (cost_factor a pools m) p.factor (cost_factor-positive a pools m shaped) (factor-positive a pools p is) in
+    let positive : pos 0 <ℤ line.by = IsDivisorFor-positive (suc (column_count a)) (number_of (row_form a row)) line.by line.divisor in
+    let product : pos 0 ≤ℤ (over *ℤ (line.by *ℤ times_of (undivided_of a pools m) row)) =
+    nonneg-*ℤ over (line.by *ℤ times_of (undivided_of a pools m) row) (le_from_lt (pos 0) over above)
+    (nonneg-*ℤ line.by (times_of (undivided_of a pools m) row) (le_from_lt (pos 0) line.by positive) (times-nonneg a pools m shaped pooled row inside)) in
+    let turned : (cost_factor a pools m *ℤ p.factor) *ℤ multiplier ≡ over *ℤ (line.by *ℤ times_of (undivided_of a pools m) row) = *ℤ_comm (cost_factor a pools m *ℤ p.factor) multiplier ∙ times in
+    record {
+      kind = line.kind;
+      nonneg = nonneg_from_*ℤ (cost_factor a pools m *ℤ p.factor) multiplier factor (subst (λ z. pos 0 ≤ℤ z) (sym turned) product);
+      left = λ x. share-at (left_of (column_count a) (row_at p r) x) line.by multiplier (cost_factor a pools m *ℤ p.factor) over (times_of (undivided_of a pools m) row) (row_left a row x) (line.left x) times;
+      right = share-at (right_at p r) line.by multiplier (cost_factor a pools m *ℤ p.factor) over (times_of (undivided_of a pools m) row) (row_right a row) line.right times;
+    }
 
 line-at : (a : SymmetricAuction) (pools : Pools) (p : Program) (m : Multiples a pools) (divisor : ℕ → ℤ) (over : ℤ) (main : ℕ → ℤ) → IsAuction a → IsPooledAuction a pools
     → IsReducedProgram a 1 (cuts_of (value_count a) pools) p → AreMultipliers a pools p divisor over main → (r : ℕ) → r < row_count p
-    → IsLine a pools p over (cost_factor a pools m *ℤ p.factor) m main r (row_in a pools r)
-unfolding row_in
+    → IsLine a pools p over (cost_factor a pools m *ℤ p.factor) m (main r) r (row_in a pools r)
 line-at a pools p m divisor over main shaped pooled is are r b =
-    let rows = rows_of (value_count a) pools in
-    let below : r < length (rows_of (value_count a) pools) = omega (arith, b, rows-count a pools p is) in
-    let row = get_or (rows_of (value_count a) pools) r default_row in
-    let stands : slice_get (rows_of (value_count a) pools) r ≡ Some (get_or (rows_of (value_count a) pools) r default_row) = slice_get-get_or (rows_of (value_count a) pools) r default_row below in
-    let inside : IsRowIn (value_count a) pools (get_or (rows_of (value_count a) pools) r default_row) = rows-in (value_count a) pools r default_row below in
-    let form : slice_get (map (row_form a) (rows_of (value_count a) pools)) r ≡ Some (row_form a (get_or (rows_of (value_count a) pools) r default_row)) =
-    slice_get-map (row_form a) (rows_of (value_count a) pools) r ∙ ap (option_map (row_form a)) stands in
-    let line : IsRowOf (column_count a) (row_form a (get_or (rows_of (value_count a) pools) r default_row)) (row_at p r) =
-    forms.each-row (column_count a) (map (row_form a) (rows_of (value_count a) pools)) (cost_of a) p (is-program a pools p is) r (row_form a (get_or (rows_of (value_count a) pools) r default_row)) form in
-    at-row r (get_or (rows_of (value_count a) pools) r default_row) stands inside line
+    at-row (row_in a pools r) (slice_get-get_or (rows_of (value_count a) pools) r default_row (omega (arith, b, rows-count a pools p is))) (row-inside a pools p is r b) (row-line a pools p is r b)
   where
-    at-row : (r : ℕ) (row : ProgramRow) → slice_get (rows_of (value_count a) pools) r ≡ Some row → IsRowIn (value_count a) pools row → IsRowOf (column_count a) (row_form a row) (row_at p r)
-        → IsLine a pools p over (cost_factor a pools m *ℤ p.factor) m main r row
-    at-row r row stands inside line =
-        let above : pos 0 <ℤ p.factor = factor-positive a pools p is in
-        let bh : pos 0 <ℤ (cost_factor a pools m *ℤ p.factor) = positive-*ℤ (cost_factor a pools m) p.factor (cost_factor-positive a pools m shaped) above in
+    at-row : (row : ProgramRow) → slice_get (rows_of (value_count a) pools) r ≡ Some row → IsRowIn (value_count a) pools row → IsRowOf (column_count a) (row_form a row) (row_at p r)
+        → IsLine a pools p over (cost_factor a pools m *ℤ p.factor) m (main r) r row
+    at-row row stands inside line =
         let by : IsBy row (divisor r) line.by = row-by a pools (divisor r) (right_at p r) row (row_at p r) line shaped inside
         (λ s e. subst (λ c. row_right a c ≡ divisor r *ℤ right_at p r) (sym e) (are.divided r s (stands ∙ ap Some e))) in
         let fraction = row-fraction a pools m p.factor (divisor r) line.by shaped pooled row inside by in
-        let times : main r *ℤ (cost_factor a pools m *ℤ p.factor) ≡ over *ℤ (line.by *ℤ times_of (undivided_of a pools m) row) =
-        fraction-cancel (main r) (multiplier_den a pools p.factor row) (multiplier_num a pools (divisor r) row) over (cost_factor a pools m *ℤ p.factor) (line.by *ℤ times_of (undivided_of a pools m) row)
-        (den-positive a pools p.factor shaped pooled above row inside) (are.at r row stands) fraction in
-        let positive : pos 0 <ℤ line.by = IsDivisorFor-positive (suc (column_count a)) (number_of (row_form a row)) line.by line.divisor in
-        let product : pos 0 ≤ℤ (over *ℤ (line.by *ℤ times_of (undivided_of a pools m) row)) =
-        nonneg-*ℤ over (line.by *ℤ times_of (undivided_of a pools m) row) (le_from_lt (pos 0) over are.positive)
-        (nonneg-*ℤ line.by (times_of (undivided_of a pools m) row) (le_from_lt (pos 0) line.by positive) (times-nonneg a pools m shaped pooled row inside)) in
-        let turned : (cost_factor a pools m *ℤ p.factor) *ℤ main r ≡ over *ℤ (line.by *ℤ times_of (undivided_of a pools m) row) = *ℤ_comm (cost_factor a pools m *ℤ p.factor) (main r) ∙ times in
-        record {
-          kind = line.kind;
-          nonneg = nonneg_from_*ℤ (cost_factor a pools m *ℤ p.factor) (main r) bh (subst (λ z. pos 0 ≤ℤ z) (sym turned) product);
-          left = λ x. share-at (left_of (column_count a) (row_at p r) x) line.by (main r) (cost_factor a pools m *ℤ p.factor) over (times_of (undivided_of a pools m) row) (row_left a row x) (line.left x) times;
-          right = share-at (right_at p r) line.by (main r) (cost_factor a pools m *ℤ p.factor) over (times_of (undivided_of a pools m) row) (row_right a row) line.right times;
-        }
+        line-from a pools p m over (main r) r row shaped pooled is are.positive inside line
+        (fraction-cancel (main r) (multiplier_den a pools p.factor row) (multiplier_num a pools (divisor r) row) over (cost_factor a pools m *ℤ p.factor) (line.by *ℤ times_of (undivided_of a pools m) row)
+        (den-positive a pools p.factor shaped pooled (factor-positive a pools p is) row inside) (are.at r row stands) fraction)
 
 -- ---- all rows
 
 -- a sum over the rows of the program is one over the conditions
 all-rows : (a : SymmetricAuction) (pools : Pools) (p : Program) (over factor : ℤ) (part : ℕ → ℤ) (whole : ProgramRow → ℤ) → row_count p ≡ length (rows_of (value_count a) pools)
     → ((r : ℕ) → r < row_count p → factor *ℤ part r ≡ over *ℤ whole (row_in a pools r)) → factor *ℤ sum_to (row_count p) part ≡ over *ℤ total_by whole (rows_of (value_count a) pools)
-unfolding row_in
 all-rows a pools p over factor part whole count h =
     sym (sum_to-*ℤ (row_count p) factor part)
     ∙ sum_to-same (row_count p) (λ r. factor *ℤ part r) (λ r. over *ℤ whole (get_or (rows_of (value_count a) pools) r default_row)) h
@@ -308,12 +311,13 @@ tight-total a pools m x shaped pooled at =
 
 -- ---- the certificate
 
-pub certified : (a : SymmetricAuction) (pools : Pools) (p : Program) (divisor : ℕ → ℤ) (over : ℤ) (main face x : ℕ → ℤ) → IsAuction a → IsPooledAuction a pools → IsReducedProgram a 1 (cuts_of (value_count a) pools) p
-    → IsPointOf a pools x → AreMultipliers a pools p divisor over main → ((r : ℕ) → r < row_count p → face r ≡ pos 0) → IsOptimalCertified p (share_den a) x over main face
+pub certified-by : (a : SymmetricAuction) (pools : Pools) (p : Program) (m : Multiples a pools) (over : ℤ) (main face x : ℕ → ℤ) → IsAuction a → IsPooledAuction a pools → IsReducedProgram a 1 (cuts_of (value_count a) pools) p
+    → IsPointOf a pools x → pos 0 <ℤ over → ((r : ℕ) → r < row_count p → IsLine a pools p over (cost_factor a pools m *ℤ p.factor) m (main r) r (row_in a pools r)) → ((r : ℕ) → r < row_count p → face r ≡ pos 0)
+    → IsOptimalCertified p (share_den a) x over main face
 unfolding rests
-certified a pools p divisor over main face x shaped pooled is at are none = record {
+certified-by a pools p m over main face x shaped pooled is at above line none = record {
   meets = point-meets a pools p x shaped pooled is at;
-  positive = are.positive;
+  positive = above;
   pairs = record { holds = λ r b. subst (λ k. IsPairFor k (face r) (main r)) (sym (line r b).kind) (inr (none r b, (line r b).nonneg)) };
   columns = record { holds = λ j b. inr (dot-zero (row_count p) (λ r. coefficient_at p r j) face none, column j b) };
   face_right = dot-zero (row_count p) (right_at p) face none;
@@ -324,14 +328,8 @@ certified a pools p divisor over main face x shaped pooled is at are none = reco
       (tight-total a pools m x shaped pooled at) (balance a pools m x shaped pooled) (rests-none a pools m x shaped pooled at) (is.has_cost.cost_is x));
 }
   where
-    m : Multiples a pools
-    m = multiples a pools shaped pooled
-
     factor : pos 0 <ℤ (cost_factor a pools m *ℤ p.factor)
     factor = positive-*ℤ (cost_factor a pools m) p.factor (cost_factor-positive a pools m shaped) (factor-positive a pools p is)
-
-    line : (r : ℕ) → r < row_count p → IsLine a pools p over (cost_factor a pools m *ℤ p.factor) m main r (row_in a pools r)
-    line r b = line-at a pools p m divisor over main shaped pooled is are r b
 
     column : (j : ℕ) → j < p.columns → pos 0 ≤ℤ reduced_cost p over main j
     column j b =
@@ -342,11 +340,12 @@ certified a pools p divisor over main face x shaped pooled is at are none = reco
         let cost : cost_of a (unit j) ≡ p.factor *ℤ cost_at p j = is.has_cost.cost_is (unit j) ∙ ap (λ z. p.factor *ℤ z) (unit-dot p.columns j (cost_at p) b) in
         let left : (cost_factor a pools m *ℤ p.factor) *ℤ (column_sum p main j -ℤ over *ℤ cost_at p j) ≡ over *ℤ rests a pools m (unit j) =
         column-parts (cost_factor a pools m) p.factor over (column_sum p main j) (cost_at p j) (left_total a pools (undivided_of a pools m) (unit j)) (cost_of a (unit j)) (rests a pools m (unit j)) sums (balance a pools m (unit j) shaped pooled) cost in
-        let product : pos 0 ≤ℤ (over *ℤ rests a pools m (unit j)) = nonneg-*ℤ over (rests a pools m (unit j)) (le_from_lt (pos 0) over are.positive) (rests-nonneg a pools m (unit j) shaped pooled (unit-nonneg j)) in
+        let product : pos 0 ≤ℤ (over *ℤ rests a pools m (unit j)) = nonneg-*ℤ over (rests a pools m (unit j)) (le_from_lt (pos 0) over above) (rests-nonneg a pools m (unit j) shaped pooled (unit-nonneg j)) in
         nonneg_from_*ℤ (cost_factor a pools m *ℤ p.factor) (reduced_cost p over main j) factor (subst (λ z. pos 0 ≤ℤ z) (sym left) product)
 
--- no point of the program has a greater cost
-pub closed-optimal : (a : SymmetricAuction) (pools : Pools) (p : Program) (divisor : ℕ → ℤ) (over : ℤ) (main x : ℕ → ℤ) → IsAuction a → IsPooledAuction a pools → IsReducedProgram a 1 (cuts_of (value_count a) pools) p
-    → IsPointOf a pools x → AreMultipliers a pools p divisor over main → IsOptimalPoint p (share_den a) x
-closed-optimal a pools p divisor over main x shaped pooled is at are =
-    optimal-claim p (share_den a) over x main (λ _. pos 0) (certified a pools p divisor over main (λ _. pos 0) x shaped pooled is at are (λ r b. refl))
+-- with any numbers over a positive one that are these fractions
+pub certified : (a : SymmetricAuction) (pools : Pools) (p : Program) (divisor : ℕ → ℤ) (over : ℤ) (main face x : ℕ → ℤ) → IsAuction a → IsPooledAuction a pools → IsReducedProgram a 1 (cuts_of (value_count a) pools) p
+    → IsPointOf a pools x → AreMultipliers a pools p divisor over main → ((r : ℕ) → r < row_count p → face r ≡ pos 0) → IsOptimalCertified p (share_den a) x over main face
+certified a pools p divisor over main face x shaped pooled is at are none =
+    let m = multiples a pools shaped pooled in
+    certified-by a pools p m over main face x shaped pooled is at are.positive (λ r b. line-at a pools p m divisor over main shaped pooled is are r b) none

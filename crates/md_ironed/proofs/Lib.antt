@@ -7,3 +7,4 @@ pub mod ProgramForms
 pub mod PointRows
 pub mod Fractions
 pub mod Certificates
+pub mod Optimal

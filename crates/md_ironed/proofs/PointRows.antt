@@ -23,7 +23,7 @@ use Rattle.md_ironed.proofs.Balance.{Multiples, gap_of, up_of, undivided_of, iro
 
 -- ---- the point
 
-pay-is : (a : SymmetricAuction) (pools : Pools) (x : ℕ → ℤ) → IsPointOf a pools x → (v : ℕ) → v < value_count a → pay_in a x v ≡ pay_in_pools a pools v
+pub pay-is : (a : SymmetricAuction) (pools : Pools) (x : ℕ → ℤ) → IsPointOf a pools x → (v : ℕ) → v < value_count a → pay_in a x v ≡ pay_in_pools a pools v
 pay-is a pools x at v b = omega (arith, linear, at.pays v b, at.none v b)
 
 utility-is : (a : SymmetricAuction) (pools : Pools) (x : ℕ → ℤ) → IsPointOf a pools x → (v w : ℕ) → w < value_count a → utility_in a x v w ≡ number_at a.values v *ℤ odds_in a pools w -ℤ pay_in_pools a pools w
