@@ -140,9 +140,9 @@ utility-at a c v w pay b l e =
     none : (v p : ℤ) → v *ℤ pos 0 -ℤ p ≡ neg_ℤ p
     none v p = omega (arith, linear, *ℤ-zero v)
 
-row-by : (a : SymmetricAuction) (pools : Pools) (divisor right : ℤ) (row : ProgramRow) (line : Row) (r : IsRowOf (column_count a) (row_form a row) line) → IsAuction a → IsRowIn (value_count a) pools row
-    → ((s : ℕ) → row ≡ cut_row s → row_right a row ≡ divisor *ℤ line.right) → IsBy row divisor r.by
-row-by a pools divisor right (truth_row v w) line r shaped inside divided =
+row-by : (a : SymmetricAuction) (pools : Pools) (divisor : ℕ → ℤ) (row : ProgramRow) (line : Row) (r : IsRowOf (column_count a) (row_form a row) line) → IsAuction a → IsRowIn (value_count a) pools row
+    → ((s : ℕ) → row ≡ cut_row s → row_right a row ≡ divisor s *ℤ line.right) → IsBy row divisor r.by
+row-by a pools divisor (truth_row v w) line r shaped inside divided =
     let (b, l, d) = inside in
     let c = value_count a + w in
     let above : pos 0 <ℤ r.by = IsDivisorFor-positive (suc (column_count a)) (number_of (row_form a (truth_row v w))) r.by r.divisor in
@@ -150,17 +150,17 @@ row-by a pools divisor right (truth_row v w) line r shaped inside divided =
     let there : utility_in a (unit (value_count a + w)) v v ≡ neg_ℤ (pos 0) = utility-at a (value_count a + w) v v (pos 0) b (omega arith) (pay-other a w v l b (λ e. d (sym e))) in
     let side : row_left a (truth_row v w) (unit (value_count a + w)) ≡ neg_ℤ (pos 1) = ap₂ (λ y z. y -ℤ z) here there in
     minus-by r.by (left_of (column_count a) line (unit (value_count a + w))) above (sym side ∙ r.left (unit (value_count a + w)))
-row-by a pools divisor right (rational_row v) line r shaped b divided =
+row-by a pools divisor (rational_row v) line r shaped b divided =
     let above : pos 0 <ℤ r.by = IsDivisorFor-positive (suc (column_count a)) (number_of (row_form a (rational_row v))) r.by r.divisor in
     let here : utility_in a (unit (value_count a + v)) v v ≡ neg_ℤ (pos 1) = utility-at a (value_count a + v) v v (pos 1) b (omega arith) (pay-here a v b) in
     let side : row_left a (rational_row v) (unit (value_count a + v)) ≡ pos 1 = ap neg_ℤ here in
     one-by r.by (left_of (column_count a) line (unit (value_count a + v))) above (sym side ∙ r.left (unit (value_count a + v)))
-row-by a pools divisor right (cut_row s) line r shaped inside divided =
+row-by a pools divisor (cut_row s) line r shaped inside divided =
     let above : pos 0 <ℤ r.by = IsDivisorFor-positive (suc (column_count a)) (number_of (row_form a (cut_row s))) r.by r.divisor in
     let some : pos 0 <ℤ row_right a (cut_row s) = subst (λ z. pos 0 <ℤ z) (right_of-counts a (set_from (value_count a) s)) (right-positive a s shaped inside.0) in
     let product : pos 0 <ℤ (r.by *ℤ line.right) = subst (λ z. pos 0 <ℤ z) r.right some in
     let positive : pos 0 <ℤ line.right = positive_from_*ℤ r.by line.right above product in
-    *ℤ_cancel line.right r.by divisor positive (*ℤ_comm line.right r.by ∙ sym r.right ∙ divided s refl ∙ *ℤ_comm divisor line.right)
+    *ℤ_cancel line.right r.by (divisor s) positive (*ℤ_comm line.right r.by ∙ sym r.right ∙ divided s refl ∙ *ℤ_comm (divisor s) line.right)
 
 -- ---- one row
 
@@ -233,11 +233,11 @@ line-at a pools p m divisor over main shaped pooled is are r b =
     at-row : (row : ProgramRow) → slice_get (rows_of (value_count a) pools) r ≡ Some row → IsRowIn (value_count a) pools row → IsRowOf (column_count a) (row_form a row) (row_at p r)
         → IsLine a pools p over (cost_factor a pools m *ℤ p.factor) m (main r) r row
     at-row row stands inside line =
-        let by : IsBy row (divisor r) line.by = row-by a pools (divisor r) (right_at p r) row (row_at p r) line shaped inside
-        (λ s e. subst (λ c. row_right a c ≡ divisor r *ℤ right_at p r) (sym e) (are.divided r s (stands ∙ ap Some e))) in
-        let fraction = row-fraction a pools m p.factor (divisor r) line.by shaped pooled row inside by in
+        let by : IsBy row divisor line.by = row-by a pools divisor row (row_at p r) line shaped inside
+        (λ s e. subst (λ c. row_right a c ≡ divisor s *ℤ right_at p r) (sym e) (are.divided r s (stands ∙ ap Some e))) in
+        let fraction = row-fraction a pools m p.factor line.by divisor shaped pooled row inside by in
         line-from a pools p m over (main r) r row shaped pooled is are.positive inside line
-        (fraction-cancel (main r) (multiplier_den a pools p.factor row) (multiplier_num a pools (divisor r) row) over (cost_factor a pools m *ℤ p.factor) (line.by *ℤ times_of (undivided_of a pools m) row)
+        (fraction-cancel (main r) (multiplier_den a pools p.factor row) (multiplier_num a pools divisor row) over (cost_factor a pools m *ℤ p.factor) (line.by *ℤ times_of (undivided_of a pools m) row)
         (den-positive a pools p.factor shaped pooled (factor-positive a pools p is) row inside) (are.at r row stands) fraction)
 
 -- ---- all rows

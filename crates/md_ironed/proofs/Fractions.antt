@@ -1,10 +1,11 @@
 -- The multipliers as fractions are those before the division, over one factor.
-use Rattle.std.proofs.Common.{◌≡◌, ℕ, zero, suc, ◌+◌, ◌-◌, ◌<◌, ◌≤◌, ℤ, pos, ◌+ℤ◌, ◌-ℤ◌, ◌*ℤ◌, ◌≤ℤ◌, ◌<ℤ◌, inl, inr, sym, ap, ap₂, subst, ◌∙◌, arith, lt-ltb, le-ltb, eq-eqb, ne_eqb}
+use Rattle.std.proofs.Common.{◌≡◌, ℕ, zero, suc, ◌+◌, ◌-◌, ◌<◌, ◌≤◌, ℤ, pos, ◌+ℤ◌, ◌-ℤ◌, ◌*ℤ◌, ◌≤ℤ◌, ◌<ℤ◌, inl, inr, refl, sym, ap, ap₂, subst, ◌∙◌, arith, lt-ltb, le-ltb, eq-eqb, ne_eqb}
 use Rattle.std.proofs.lemmas.Bool.{cases_lt, cases_eq}
 use Rattle.std.proofs.lemmas.Int.{ints}
 use Rattle.md_math.specs.Lists.{number_at}
 use Rattle.md_math.proofs.Ring.{linear, ring, *ℤ-zero, zero-*ℤ, one-*ℤ}
-use Rattle.md_math.proofs.Order.{nonneg-*ℤ, positive-*ℤ, le_from_lt}
+use lib.IntN.{*ℤ_comm}
+use Rattle.md_math.proofs.Order.{nonneg_from_*ℤ, nonneg-*ℤ, positive-*ℤ, le_from_lt}
 use Rattle.md_setting.specs.Auction.{SymmetricAuction, value_count, total_weight}
 use Rattle.md_setting.specs.AuctionShaped.{IsAuction}
 use Rattle.md_virtual.specs.Pools.{Pools, over_pool}
@@ -60,10 +61,10 @@ cut-fraction n w l h d m1 m0 s1 s0 y1 y0 p q =
 -- ---- of an auction
 
 -- the number by which a row is divided: that of the cut, and 1 where payments stand in it
-abbrev pub IsBy : ProgramRow → ℤ → ℤ → Type 0
+abbrev pub IsBy : ProgramRow → (ℕ → ℤ) → ℤ → Type 0
 IsBy (truth_row v w) divisor by = by ≡ pos 1
 IsBy (rational_row v) divisor by = by ≡ pos 1
-IsBy (cut_row s) divisor by = by ≡ divisor
+IsBy (cut_row s) divisor by = by ≡ divisor s
 
 by-one : (by t : ℤ) → by ≡ pos 1 → by *ℤ t ≡ t
 by-one by t e = ap (λ z. z *ℤ t) e ∙ one-*ℤ t
@@ -88,9 +89,9 @@ before-mean a pools m (suc i) b g = elim (cases_lt pools.reserve (suc i)) [
       rw (le-ltb pools.reserve (suc i) h) (ap (λ z. pos 1 *ℤ z) none ∙ *ℤ-zero (pos 1) ∙ sym (*ℤ-zero m.weights.whole))
 ]
 
-pub row-fraction : (a : SymmetricAuction) (pools : Pools) (m : Multiples a pools) (h divisor by : ℤ) → IsAuction a → IsPooledAuction a pools → (row : ProgramRow) → IsRowIn (value_count a) pools row → IsBy row divisor by
+pub row-fraction : (a : SymmetricAuction) (pools : Pools) (m : Multiples a pools) (h by : ℤ) (divisor : ℕ → ℤ) → IsAuction a → IsPooledAuction a pools → (row : ProgramRow) → IsRowIn (value_count a) pools row → IsBy row divisor by
     → multiplier_num a pools divisor row *ℤ (cost_factor a pools m *ℤ h) ≡ multiplier_den a pools h row *ℤ (by *ℤ times_of (undivided_of a pools m) row)
-row-fraction a pools m h divisor by shaped p (truth_row v w) inside one =
+row-fraction a pools m h by divisor shaped p (truth_row v w) inside one =
     let (b, l, d) = inside in
     elim (cases_eq w (v + 1)) [
       | inl e ↦
@@ -103,7 +104,7 @@ row-fraction a pools m h divisor by shaped p (truth_row v w) inside one =
         | inr o ↦ rw (ne_eqb w (v + 1) n, ne_eqb v (w + 1) o) (zero-*ℤ (cost_factor a pools m *ℤ h) ∙ sym (one-*ℤ (by *ℤ pos 0) ∙ *ℤ-zero by))
       ]
     ]
-row-fraction a pools m h divisor by shaped p (rational_row v) b one = elim (cases_eq v 0) [
+row-fraction a pools m h by divisor shaped p (rational_row v) b one = elim (cases_eq v 0) [
   | inl e ↦
       let none : up_of a pools m 0 ≡ pos 0 = ap (λ z. share_den a *ℤ (m.steps.part 0 *ℤ z)) (ironed a pools m shaped p).first ∙ ap (λ z. share_den a *ℤ z) (*ℤ-zero (m.steps.part 0)) ∙ *ℤ-zero (share_den a) in
       let all : weight_from a 0 ≡ pos (total_weight a.weights) = omega (arith, linear) in
@@ -111,10 +112,10 @@ row-fraction a pools m h divisor by shaped p (rational_row v) b one = elim (case
       (rational-fraction (cost_factor a pools m) h a.revenue (weight_from a 0) (up_of a pools m 0) (pos (total_weight a.weights)) none all)
   | inr n ↦ rw (ne_eqb v 0 n) (zero-*ℤ (cost_factor a pools m *ℤ h) ∙ sym (one-*ℤ (by *ℤ pos 0) ∙ *ℤ-zero by))
 ]
-row-fraction a pools m h divisor by shaped p (cut_row s) inside same =
+row-fraction a pools m h by divisor shaped p (cut_row s) inside same =
     let (b, begun) = inside in
     let (buys, first) = begins-is pools s begun in
-    let fraction = cut-fraction (share_den a) m.steps.whole m.weights.whole h divisor (over_pool (weight_to a) pools s) (weight_of_before a pools s) (over_pool (virtual_to a) pools s) (sum_before a pools s) (mean_of a pools m s) (before_of (mean_of a pools m) s)
+    let fraction = cut-fraction (share_den a) m.steps.whole m.weights.whole h (divisor s) (over_pool (weight_to a) pools s) (weight_of_before a pools s) (over_pool (virtual_to a) pools s) (sum_before a pools s) (mean_of a pools m s) (before_of (mean_of a pools m) s)
     ((means a pools m).some s buys b) (before-mean a pools m s b buys) in
     fraction ∙ ap₂ (λ y z. (steeper_den a pools s *ℤ (share_den a *ℤ h)) *ℤ (y *ℤ (m.steps.whole *ℤ z))) (sym same) (sym (step-is (mean_of a pools m) s))
 
@@ -193,3 +194,22 @@ times-nonneg a pools m shaped p (rational_row v) b = elim (cases_eq v 0) [
 ]
 times-nonneg a pools m shaped p (cut_row s) inside =
     nonneg-*ℤ m.steps.whole (step_of (mean_of a pools m) s) (le_from_lt (pos 0) m.steps.whole m.steps.positive) ((ironed a pools m shaped p).rise s inside.0)
+
+-- no numerator is negative where no cut is divided by less than nothing
+pub num-nonneg : (a : SymmetricAuction) (pools : Pools) (m : Multiples a pools) (divisor : ℕ → ℤ) → IsAuction a → IsPooledAuction a pools → (row : ProgramRow) → IsRowIn (value_count a) pools row
+    → ((s : ℕ) → row ≡ cut_row s → pos 0 ≤ℤ divisor s) → pos 0 ≤ℤ multiplier_num a pools divisor row
+num-nonneg a pools m divisor shaped p row inside above =
+    let factor : pos 0 <ℤ (cost_factor a pools m *ℤ pos 1) = positive-*ℤ (cost_factor a pools m) (pos 1) (cost_factor-positive a pools m shaped) one-positive in
+    let den : pos 0 ≤ℤ multiplier_den a pools (pos 1) row = le_from_lt (pos 0) (multiplier_den a pools (pos 1) row) (den-positive a pools (pos 1) shaped p one-positive row inside) in
+    let (by, is, some) = by-of row above in
+    let product : pos 0 ≤ℤ (multiplier_den a pools (pos 1) row *ℤ (by *ℤ times_of (undivided_of a pools m) row)) =
+    nonneg-*ℤ (multiplier_den a pools (pos 1) row) (by *ℤ times_of (undivided_of a pools m) row) den
+    (nonneg-*ℤ by (times_of (undivided_of a pools m) row) some (times-nonneg a pools m shaped p row inside)) in
+    let turned : (cost_factor a pools m *ℤ pos 1) *ℤ multiplier_num a pools divisor row ≡ multiplier_den a pools (pos 1) row *ℤ (by *ℤ times_of (undivided_of a pools m) row) =
+    *ℤ_comm (cost_factor a pools m *ℤ pos 1) (multiplier_num a pools divisor row) ∙ row-fraction a pools m (pos 1) by divisor shaped p row inside is in
+    nonneg_from_*ℤ (cost_factor a pools m *ℤ pos 1) (multiplier_num a pools divisor row) factor (subst (λ z. pos 0 ≤ℤ z) (sym turned) product)
+  where
+    by-of : (row : ProgramRow) → ((s : ℕ) → row ≡ cut_row s → pos 0 ≤ℤ divisor s) → (by : ℤ) × IsBy row divisor by × (pos 0 ≤ℤ by)
+    by-of (truth_row v w) above = (pos 1, refl, le_from_lt (pos 0) (pos 1) one-positive)
+    by-of (rational_row v) above = (pos 1, refl, le_from_lt (pos 0) (pos 1) one-positive)
+    by-of (cut_row s) above = (divisor s, refl, above s refl)

@@ -8,3 +8,4 @@ pub mod PointRows
 pub mod Fractions
 pub mod Certificates
 pub mod Optimal
+pub mod Lists

@@ -35,7 +35,7 @@ map-by_report g n v f = map-up_to g n (unless_true v f) ∙ up_to-same n (λ w. 
 map-pairs : {X Y : Type 0} → (g : X → Y) (n : ℕ) (t : ℕ → ℕ → X) → map g (up_to n (λ v. by_report n v (t v))) ≡ up_to n (λ v. by_report n v (λ w. g (t v w)))
 map-pairs g n t = map-up_to g n (λ v. by_report n v (t v)) ∙ up_to-same n (λ v. map g (by_report n v (t v))) (λ v. by_report n v (λ w. g (t v w))) (λ v b. map-by_report g n v (t v))
 
-map-parts : {X Y : Type 0} → (g : X → Y) (n : ℕ) (t : ℕ → ℕ → X) (r : ℕ → X) (zs : List X)
+pub map-parts : {X Y : Type 0} → (g : X → Y) (n : ℕ) (t : ℕ → ℕ → X) (r : ℕ → X) (zs : List X)
     → map g (up_to n (λ v. by_report n v (t v)) ++ (list_to n r ++ zs)) ≡ up_to n (λ v. by_report n v (λ w. g (t v w))) ++ (list_to n (λ v. g (r v)) ++ map g zs)
 map-parts g n t r zs =
     map-append g (up_to n (λ v. by_report n v (t v))) (list_to n r ++ zs)

@@ -33,14 +33,14 @@ abbrev pub steeper_den : SymmetricAuction → Pools → ℕ → ℤ
 steeper_den a pools s = over_pool (weight_to a) pools s *ℤ weight_of_before a pools s
 
 -- What a row is multiplied by: the truth rows between neighbouring values, the rational row of the lowest value, and the cuts.
--- The row of a cut was divided by `divisor`, and the cost by `factor`.
-abbrev pub multiplier_num : SymmetricAuction → Pools → ℤ → ProgramRow → ℤ
+-- The row of the cut that a value begins with was divided by `divisor` at that value, and the cost by `factor`.
+abbrev pub multiplier_num : SymmetricAuction → Pools → (ℕ → ℤ) → ProgramRow → ℤ
 multiplier_num a pools divisor (truth_row kind other) =
     if other == kind + 1 then gap_in a pools other
     else (if kind == other + 1 then a.revenue *ℤ (weight_from a kind *ℤ (scale_in a pools kind *ℤ apart_by a kind other)) +ℤ gap_in a pools kind
     else pos 0)
 multiplier_num a pools divisor (rational_row kind) = if kind == 0 then a.revenue *ℤ pos (total_weight a.weights) else pos 0
-multiplier_num a pools divisor (cut_row s) = steeper_by a pools s *ℤ divisor
+multiplier_num a pools divisor (cut_row s) = steeper_by a pools s *ℤ divisor s
 
 abbrev pub multiplier_den : SymmetricAuction → Pools → ℤ → ProgramRow → ℤ
 multiplier_den a pools factor (truth_row kind other) =
@@ -54,6 +54,6 @@ multiplier_den a pools factor (cut_row s) = steeper_den a pools s *ℤ (share_de
 -- the row of each cut was divided by `divisor`.
 pub record AreMultipliers (a : SymmetricAuction) (pools : Pools) (p : Program) (divisor : ℕ → ℤ) (over : ℤ) (main : ℕ → ℤ) : Type 0 where
   pub positive : pos 0 <ℤ over
-  pub divided : (number s : ℕ) → slice_get (rows_of (value_count a) pools) number ≡ Some (cut_row s) → row_right a (cut_row s) ≡ divisor number *ℤ right_at p number
+  pub divided : (number s : ℕ) → slice_get (rows_of (value_count a) pools) number ≡ Some (cut_row s) → row_right a (cut_row s) ≡ divisor s *ℤ right_at p number
   pub at : (number : ℕ) (row : ProgramRow) → slice_get (rows_of (value_count a) pools) number ≡ Some row
-      → main number *ℤ multiplier_den a pools p.factor row ≡ over *ℤ multiplier_num a pools (divisor number) row
+      → main number *ℤ multiplier_den a pools p.factor row ≡ over *ℤ multiplier_num a pools divisor row
