@@ -140,7 +140,7 @@ utility-at a c v w pay b l e =
     none : (v p : ℤ) → v *ℤ pos 0 -ℤ p ≡ neg_ℤ p
     none v p = omega (arith, linear, *ℤ-zero v)
 
-row-by : (a : SymmetricAuction) (pools : Pools) (divisor : ℕ → ℤ) (row : ProgramRow) (line : Row) (r : IsRowOf (column_count a) (row_form a row) line) → IsAuction a → IsRowIn (value_count a) pools row
+pub row-by : (a : SymmetricAuction) (pools : Pools) (divisor : ℕ → ℤ) (row : ProgramRow) (line : Row) (r : IsRowOf (column_count a) (row_form a row) line) → IsAuction a → IsRowIn (value_count a) pools row
     → ((s : ℕ) → row ≡ cut_row s → row_right a row ≡ divisor s *ℤ line.right) → IsBy row divisor r.by
 row-by a pools divisor (truth_row v w) line r shaped inside divided =
     let (b, l, d) = inside in

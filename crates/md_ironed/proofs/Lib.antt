@@ -9,3 +9,5 @@ pub mod Fractions
 pub mod Certificates
 pub mod Optimal
 pub mod Lists
+pub mod Printed
+pub mod Divisors
