@@ -14,9 +14,9 @@ weight_to a x = pos (weight_before (slice_index a.weights) x)
 abbrev pub weight_from : SymmetricAuction → ℕ → ℤ
 weight_from a x = pos (total_weight a.weights) -ℤ weight_to a x
 
--- What it is worth to the designer that a bidder with a value gets the item, times the weight of the value: what that adds to
--- the bidder's utility and to what is kept, and what all bidders with this value or a higher one pay more for it, less what
--- those with a higher value pay less.
+-- What it is worth to the designer that a bidder with a value gets the item, times the weight of the value: what the designer
+-- has of the bidder's utility, more than where the item is kept; and what all bidders with this value or a higher one then pay
+-- for it, less what those with a higher value pay less for theirs.
 abbrev pub virtual_value : SymmetricAuction → ℕ → ℤ
 virtual_value a j =
     pos (slice_index a.weights j) *ℤ surplus_of a j
