@@ -1,0 +1,13 @@
+pub mod RatioLaws
+pub mod MeasureLaws
+pub mod ExpectedLaws
+pub mod MissedLaws
+pub mod WorstLaws
+pub mod BlockLaws
+pub mod DeficitLaws
+pub mod TypeLaws
+pub mod TightLaws
+pub mod SoundLaws
+pub mod AdmissibleLaws
+pub mod ToldLaws
+pub mod RecordLaws

@@ -1,0 +1,14 @@
+pub mod Ratio
+pub mod Regret
+pub mod Averages
+pub mod Amounts
+pub mod Shortfalls
+pub mod Blocks
+pub mod Worst
+pub mod Deficits
+pub mod Tight
+pub mod Types
+pub mod ReportOf
+pub mod Admissible
+pub mod Tellable
+pub mod Records
