@@ -7,13 +7,16 @@
 --   replay SETTING PIVOTS [--width W]
 --   realise SETTING ODDS
 --   fair SETTING [--width W]
+--   run SETTING ANSWER PROFILE DRAW1 DRAW2
+--   make NUMBER
+--   drill NUMBER
 use Rattle.std.specs.Prelude.{List, [], ◌∷◌, Option, Some, None, codes, if◌then◌else◌}
 use Rattle.std.specs.Str.{bytes_eq}
 use Rattle.clap.specs.Words.{Text}
 use Rattle.md_words.specs.declared.command.Command.{Command}
-use Rattle.md_words.specs.declared.command.Command.TheVariants.{Audit, Rows, Check, Solve, Replay, Realise, Fair}
+use Rattle.md_words.specs.declared.command.Command.TheVariants.{Audit, Rows, Check, Solve, Replay, Realise, Fair, Run, Make, Drill}
 use Rattle.md_words.specs.declared.form.Form.{Form}
-use Rattle.md_words.specs.declared.form.Form.TheVariants.{One, OneWidth, Two, TwoWidth}
+use Rattle.md_words.specs.declared.form.Form.TheVariants.{One, OneWidth, Two, TwoWidth, Draws, Number}
 
 -- The command of a name. A text is a list of bytes, and the name is compared byte by byte: a part of a name, or one in
 -- other letters, is none.
@@ -26,14 +29,17 @@ command_named word =
     else (if bytes_eq word (codes "replay") then Some Replay
     else (if bytes_eq word (codes "realise") then Some Realise
     else (if bytes_eq word (codes "fair") then Some Fair
-    else None))))))
+    else (if bytes_eq word (codes "run") then Some Run
+    else (if bytes_eq word (codes "make") then Some Make
+    else (if bytes_eq word (codes "drill") then Some Drill
+    else None)))))))))
 
 -- the command that the first word names; none where there is no word, or it is no name
 abbrev pub command_in : List Text → Option Command
 command_in [] = None
 command_in (word ∷ more) = command_named word
 
--- how many arguments have to be there, and whether a width may be asked for
+-- which arguments have to be there, and whether a width may be asked for
 abbrev pub form_of : Command → Form
 form_of Rows = One
 form_of Solve = OneWidth
@@ -42,3 +48,6 @@ form_of Check = Two
 form_of Replay = TwoWidth
 form_of Realise = Two
 form_of Fair = OneWidth
+form_of Run = Draws
+form_of Make = Number
+form_of Drill = Number

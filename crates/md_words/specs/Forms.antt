@@ -6,7 +6,7 @@
 use Rattle.std.specs.Prelude.{◌==◌, List, length, Option, Some, None, true, codes, if◌then◌else◌}
 use Rattle.clap.specs.Words.{App, Row, Rule, Text, fault_of, matches_of, new_app, new_rule, with_rule}
 use Rattle.md_words.specs.declared.form.Form.{Form}
-use Rattle.md_words.specs.declared.form.Form.TheVariants.{One, OneWidth, Two, TwoWidth}
+use Rattle.md_words.specs.declared.form.Form.TheVariants.{One, OneWidth, Two, TwoWidth, Draws, Number}
 
 -- an argument known by its place, which has to be there
 abbrev pub place_rule : Text → Rule
@@ -16,19 +16,29 @@ place_rule id = record (new_rule id) { required = true }
 abbrev pub width_rule : Rule
 width_rule = record (new_rule (codes "width")) { long = Some (codes "width") }
 
--- one argument, which has to be there; and two
-abbrev pub one_place : App
-one_place = with_rule (new_app (codes "mechdes")) (place_rule (codes "first"))
+-- no argument
+abbrev pub no_place : App
+no_place = new_app (codes "mechdes")
 
-abbrev pub two_places : App
-two_places = with_rule one_place (place_rule (codes "second"))
+-- one more argument that is known by its place
+abbrev pub with_place : App → Text → App
+with_place app id = with_rule app (place_rule id)
+
+-- two more, the names of files; and three more, a profile and two draws
+abbrev pub with_files : App → App
+with_files app = with_place (with_place app (codes "first")) (codes "second")
+
+abbrev pub with_draws : App → App
+with_draws app = with_place (with_place (with_place app (codes "profile")) (codes "first_draw")) (codes "second_draw")
 
 -- the command of clap that reads arguments of a form
 abbrev pub app_of_form : Form → App
-app_of_form One = one_place
-app_of_form OneWidth = with_rule one_place width_rule
-app_of_form Two = two_places
-app_of_form TwoWidth = with_rule two_places width_rule
+app_of_form One = with_place no_place (codes "first")
+app_of_form OneWidth = with_rule (with_place no_place (codes "first")) width_rule
+app_of_form Two = with_files no_place
+app_of_form TwoWidth = with_rule (with_files no_place) width_rule
+app_of_form Draws = with_draws (with_files no_place)
+app_of_form Number = with_place no_place (codes "number")
 
 -- The arguments that a command of clap finds in the words: a row for each, with its id and values. None where it
 -- refuses the words, be it by a call for help.

@@ -21,6 +21,12 @@ pub enum Command {
     Realise,
     /// `fair SETTING [--width W]` finds the fairest mechanism of a setting within a width.
     Fair,
+    /// `run SETTING ANSWER PROFILE DRAW1 DRAW2` draws an outcome of an answer at a profile of reports.
+    Run,
+    /// `make NUMBER` prints the setting that a number stands for.
+    Make,
+    /// `drill NUMBER` solves the setting that a number stands for, and checks the answer.
+    Drill,
 }
 
 /// The command that the first word of a call names, if there is one and it does. It takes no memory.
@@ -42,6 +48,9 @@ fn named(word: &str) -> Option<Command>
         "replay" => Some(Command::Replay),
         "realise" => Some(Command::Realise),
         "fair" => Some(Command::Fair),
+        "run" => Some(Command::Run),
+        "make" => Some(Command::Make),
+        "drill" => Some(Command::Drill),
         _ => None,
     }
 }
@@ -55,5 +64,7 @@ pub(crate) fn form(command: Command) -> Form
         Command::Solve | Command::Fair => Form::OneWidth,
         Command::Audit | Command::Check | Command::Realise => Form::Two,
         Command::Replay => Form::TwoWidth,
+        Command::Run => Form::Draws,
+        Command::Make | Command::Drill => Form::Number,
     }
 }

@@ -1,7 +1,7 @@
 //! The forms that the arguments of commands have, each with the command of `clap` that reads it.
 ghost use Rattle.std.specs.Prelude.{◌≡◌, IfOk};
 ghost use Rattle.clap.specs.Words.{app_of, with_rule};
-ghost use Rattle.md_words.specs.Forms.{app_of_form, place_rule, width_rule};
+ghost use Rattle.md_words.specs.Forms.{app_of_form, place_rule, width_rule, with_draws, with_files};
 
 use clap::{Arg, Command};
 use std::alloc::{AllocError, Global};
@@ -17,6 +17,10 @@ pub(crate) enum Form {
     Two,
     /// Two arguments, and a width or none.
     TwoWidth,
+    /// Two arguments, a profile and two draws.
+    Draws,
+    /// A number.
+    Number,
 }
 
 // The command with one more argument, which has to be there.
@@ -39,19 +43,43 @@ fn with_width(alloc: Global, command: Command<'_>) -> Result<Command<'_>, AllocE
     command.arg(width)
 }
 
+// The command with two arguments, which are the names of files.
+fn with_files<'a>(alloc: Global, command: Command<'a>) -> Result<Command<'a>, AllocError>
+    ensures { IfOk result (λ more. app_of more ≡ with_files (app_of command.entry)) }
+{
+    let first = with_place(alloc, command, "first")?;
+    with_place(alloc, first, "second")
+}
+
+// The command with a profile and two draws.
+fn with_draws<'a>(alloc: Global, command: Command<'a>) -> Result<Command<'a>, AllocError>
+    ensures { IfOk result (λ more. app_of more ≡ with_draws (app_of command.entry)) }
+{
+    let profile = with_place(alloc, command, "profile")?;
+    let first = with_place(alloc, profile, "first_draw")?;
+    with_place(alloc, first, "second_draw")
+}
+
 /// The command of `clap` that reads arguments of a form.
 pub(crate) fn reader_of<'a>(alloc: Global, form: Form) -> Result<Command<'a>, AllocError>
     ensures { IfOk result (λ command. app_of command ≡ app_of_form form) }
 {
     let bare = Command::new(alloc, "mechdes");
-    let one = with_place(alloc, bare, "first")?;
     match form {
-        Form::One => Ok(one),
-        Form::OneWidth => with_width(alloc, one),
-        Form::Two => with_place(alloc, one, "second"),
+        Form::One => with_place(alloc, bare, "first"),
+        Form::OneWidth => {
+            let one = with_place(alloc, bare, "first")?;
+            with_width(alloc, one)
+        }
+        Form::Two => with_files(alloc, bare),
         Form::TwoWidth => {
-            let two = with_place(alloc, one, "second")?;
+            let two = with_files(alloc, bare)?;
             with_width(alloc, two)
         }
+        Form::Draws => {
+            let two = with_files(alloc, bare)?;
+            with_draws(alloc, two)
+        }
+        Form::Number => with_place(alloc, bare, "number"),
     }
 }

@@ -1,4 +1,4 @@
-//! The words of a call: which command they ask for, with the names of its files and its width.
+//! The words of a call: which command they ask for, with the names of its files, its width and its numbers.
 #![tactic(auto)]
 
 mod command;

@@ -3,7 +3,7 @@ ghost use Rattle.std.specs.Prelude.{◌≡◌, IfOk, IfErr, IsSome, map, option_
 ghost use Rattle.clap.specs.Words.{found_of, rows_of};
 ghost use Rattle.md_words.specs.Commands.{command_in};
 ghost use Rattle.md_words.specs.Orders.{asked};
-ghost use Rattle.md_words.specs.Words.{command_of, order_in, order_of_found, width_in, width_of, width_of_number};
+ghost use Rattle.md_words.specs.Words.{command_of, number_in, number_of, order_in, order_of_found, text_in, width_in, width_of, width_of_number};
 
 use crate::command::{Command, command_in, form};
 use crate::cut::{cut, text_of};
@@ -15,23 +15,31 @@ use std::alloc::Global;
 /// The width where none is asked for.
 const GREATEST_WIDTH: u8 = 62;
 
-/// A command with the names of its files and its width.
+/// A command with what it is asked for. A text is empty, and a number 0, where the command has no such argument.
 #[derive(Clone, Copy, Debug, PartialEq, Eq)]
 pub struct Order<'a> {
     /// What is to be done.
     pub command: Command,
     /// The name of the setting file.
     pub setting: &'a str,
-    /// The name of the second file; empty for a command of one file.
+    /// The name of the second file.
     pub second: &'a str,
     /// The width that is asked for; the greatest one where none is.
     pub width: Width,
+    /// The reports at which an outcome is drawn, as they were typed.
+    pub profile: &'a str,
+    /// The draw of the outcome; of an auction, of the value that wins.
+    pub first_draw: i128,
+    /// The draw of the bidder among those with the value that wins.
+    pub second_draw: i128,
+    /// The number that stands for a setting.
+    pub number: i128,
 }
 
 /// What the words of a call ask for, the first of which names the command.
 ///
 /// None where they are no command: the first is missing or no name, `clap` refuses the rest, a call for help included,
-/// or a width is no whole number from 4 to 62.
+/// a width is no whole number from 4 to 62, or a draw or a number is no whole number of at most 126 bits.
 pub fn order_of<'a>(alloc: Global, words: &'a [String]) -> Result<Option<Order<'a>>, NoMemory>
     // The order that the definition gives for the words, and none where it gives none.
     ensures asked { IfOk result (λ order. option_map asked order ≡ command_of (map string_bytes words.entry.now)) }
@@ -68,10 +76,41 @@ fn order_from<'a>(command: Command, matches: &ArgMatches<'a>) -> Option<Order<'a
 {
     Some(Order {
         command,
-        setting: text_of(matches, "first")?,
-        second: text_of(matches, "second").unwrap_or(""),
+        setting: text_from(matches, "first"),
+        second: text_from(matches, "second"),
         width: width_from(matches)?,
+        profile: text_from(matches, "profile"),
+        first_draw: number_from(matches, "first_draw")?,
+        second_draw: number_from(matches, "second_draw")?,
+        number: number_from(matches, "number")?,
     })
+}
+
+// The text of an argument, or the empty one.
+fn text_from<'a>(matches: &ArgMatches<'a>, id: &str) -> &'a str
+    ensures { result.now ≡ text_in id.now (rows_of (found_of matches.now)) }
+{
+    text_of(matches, id).unwrap_or("")
+}
+
+// The number that an argument says, or 0.
+fn number_from(matches: &ArgMatches<'_>, id: &str) -> Option<i128>
+    ensures { result ≡ number_in id.now (rows_of (found_of matches.now)) }
+{
+    match text_of(matches, id) {
+        Some(text) => read_number(text),
+        None => Some(0),
+    }
+}
+
+// The number that a text says.
+fn read_number(text: &str) -> Option<i128>
+    ensures { result ≡ number_of text.now }
+{
+    match read_whole(text.as_bytes(), 126) {
+        Ok(number) => Some(number),
+        Err(_) => None,
+    }
 }
 
 // The width that was asked for, or the greatest one.

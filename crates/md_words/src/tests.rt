@@ -7,7 +7,7 @@ use std::test::Fail;
 // What words are expected to ask for: the command, the two names and the width; none where they are no command.
 type Expected = Option<(Command, &'static str, &'static str, u8)>;
 
-static CASES: [(&[&str], Expected); 32] = [
+static CASES: [(&[&str], Expected); 35] = [
     (&["audit", "a", "b"], Some((Command::Audit, "a", "b", 62))),
     (&["check", "a", "b"], Some((Command::Check, "a", "b", 62))),
     (&["rows", "a"], Some((Command::Rows, "a", "", 62))),
@@ -43,6 +43,9 @@ static CASES: [(&[&str], Expected); 32] = [
     (&["fair", "a", "b"], None),
     (&["fair", "a", "--width", "63"], None),
     (&["fairest", "a"], None),
+    (&["run", "a", "b", "c", "1"], None),
+    (&["run", "a", "b", "c", "1", "2", "--width", "4"], None),
+    (&["drill", "1", "--width", "4"], None),
     (&["audit", "a"], None),
     (&["audit", "a", "b", "c"], None),
     (&["rows", "-1"], None),
@@ -73,6 +76,8 @@ fn matches(order: &Option<Order<'_>>, expected: &Expected) -> bool {
                 && order.setting == *setting
                 && order.second == *second
                 && Some(order.width) == Width::new(*bits)
+                && order.profile.is_empty()
+                && (order.first_draw, order.second_draw, order.number) == (0, 0, 0)
         }
         (None, None) => true,
         _ => false,
@@ -86,6 +91,79 @@ fn reads_what_is_asked(rt: HostRuntime) -> Result<(), Fail> {
         let words = words(alloc, texts)?;
         match order_of(alloc, &words) {
             Ok(order) => assert!(rt; matches(&order, expected), "at {texts:?}"),
+            Err(error) => return Err(error.into()),
+        }
+    }
+    Ok(())
+}
+
+// What words of a draw or a number are expected to ask for: the command, the profile, the two draws and the number.
+type Numbers = Option<(Command, &'static str, i128, i128, i128)>;
+
+static NUMBERS: [(&[&str], Numbers); 18] = [
+    (
+        &["run", "a", "b", "l,r", "3", "0"],
+        Some((Command::Run, "l,r", 3, 0, 0)),
+    ),
+    (
+        &["run", "a", "b", "", "0", "7"],
+        Some((Command::Run, "", 0, 7, 0)),
+    ),
+    (
+        &["run", "--", "a", "b", "-l", "-3", "-1"],
+        Some((Command::Run, "-l", -3, -1, 0)),
+    ),
+    (&["run", "a", "b", "l", "-3", "0"], None),
+    (&["run", "a", "b", "l", "3", "00"], None),
+    (&["run", "a", "b", "l", "+3", "0"], None),
+    (&["run", "a", "b", "l", "3.0", "0"], None),
+    (&["run", "a", "b", "l", "", "0"], None),
+    (&["make", "0"], Some((Command::Make, "", 0, 0, 0))),
+    (
+        &["make", "1000000"],
+        Some((Command::Make, "", 0, 0, 1_000_000)),
+    ),
+    (&["make", "--", "-1"], Some((Command::Make, "", 0, 0, -1))),
+    (&["make", "-1"], None),
+    (&["make", "x"], None),
+    (&["make"], None),
+    (&["make", "1", "2"], None),
+    (
+        &["drill", "85070591730234615865843651857942052863"],
+        Some((
+            Command::Drill,
+            "",
+            0,
+            0,
+            85_070_591_730_234_615_865_843_651_857_942_052_863,
+        )),
+    ),
+    // two to the power of 126 has 127 bits
+    (&["drill", "85070591730234615865843651857942052864"], None),
+    (&["drill", "--help"], None),
+];
+
+fn has_numbers(order: &Option<Order<'_>>, expected: &Numbers) -> bool {
+    match (order, expected) {
+        (Some(order), Some((command, profile, first, second, number))) => {
+            order.command == *command
+                && order.profile == *profile
+                && order.first_draw == *first
+                && order.second_draw == *second
+                && order.number == *number
+        }
+        (None, None) => true,
+        _ => false,
+    }
+}
+
+#[test]
+fn reads_draws_and_numbers(rt: HostRuntime) -> Result<(), Fail> {
+    let alloc = rt.alloc();
+    for (texts, expected) in &NUMBERS {
+        let words = words(alloc, texts)?;
+        match order_of(alloc, &words) {
+            Ok(order) => assert!(rt; has_numbers(&order, expected), "at {texts:?}"),
             Err(error) => return Err(error.into()),
         }
     }
