@@ -1,0 +1,4 @@
+pub mod Words
+pub mod Files
+pub mod Texts
+pub mod Called
