@@ -41,7 +41,7 @@ use Rattle.md_fair.specs.FairPoints.{fair_point_of}
 use Rattle.md_fair.specs.FairProgram.{fair_forms, level_in, IsFairProgram}
 use Rattle.md_fair.specs.Least.{IsLeastValueOf}
 use Rattle.md_fair.specs.Shown.{IsSo}
-use Rattle.md_fair.specs.Solved.{TellsCertificate, TellsRun}
+use Rattle.md_fair.specs.Solved.{IsFairlyLeft, TellsCertificate, TellsRun}
 use Rattle.md_fair.specs.declared.fair_answer.FairAnswer.{FairAnswer}
 use Rattle.md_fair.specs.declared.fair_answer.FairAnswer.TheVariants.{Optimal, Infeasible, Unbounded}
 use Rattle.md_fair.proofs.Claims.{certified-fair, fairest, grows-fair, none-admissible}
@@ -58,6 +58,10 @@ tells-same s p q width answer a b h = record { end = h.end; run = run-same p q (
 pub left-same : (p q : Program) (width : ℕ) (error : SimplexError) → IsSameProgram p q → IsLeft p width error → IsLeft q width error
 left-same p q width (TooWide first second) h left = (first_wide-same p q h Forward width first.path first.entry left.0, first_wide-same p q h Backward width second.path second.entry left.1)
 left-same p q width Memory h left = tt
+
+pub fairly-left : (s : GeneralSetting) (p : Program) (width : ℕ) (error : SimplexError) → IsFairProgram s p → IsLeft p width error → IsFairlyLeft s width error
+fairly-left s p width (TooWide first second) is left = record { program = p; is_program = is; forward = left.0; backward = left.1 }
+fairly-left s p width Memory is left = tt
 
 -- ---- claims
 

@@ -1,14 +1,19 @@
--- The fair answer to a setting: what is read off the last dictionary of the taken path of its fair program.
+-- The fair answer to a setting: what is read off the last dictionary of the taken path of its fair program; or that program's
+-- first wide bases, where it has no taken path.
 use Rattle.std.specs.Prelude.{◌≡◌, ℕ}
 use Rattle.md_math.specs.Lists.{number_at}
 use Rattle.md_setting.specs.Setting.{GeneralSetting}
 use Rattle.md_lp.specs.Program.{Program}
+use Rattle.md_lp.specs.declared.wide.Wide.{Wide}
 use Rattle.md_cert.specs.declared.certificate.Certificate.{Certificate}
 use Rattle.md_cert.specs.declared.certificate.Certificate.TheVariants as certificates
 use Rattle.md_rows.specs.Points.{mechanism_of}
 use Rattle.md_claims.specs.Rays.{pays_along}
 use Rattle.md_simplex.specs.declared.end.End.{End}
-use Rattle.md_simplex.specs.Runs.{IsRun}
+use Rattle.md_simplex.specs.declared.order.Order.TheVariants.{Forward, Backward}
+use Rattle.md_simplex.specs.declared.simplex_error.SimplexError.{SimplexError}
+use Rattle.md_simplex.specs.declared.simplex_error.SimplexError.TheVariants as errors
+use Rattle.md_simplex.specs.Runs.{IsFirstWideOf, IsRun}
 use Rattle.md_fair.specs.FairProgram.{IsFairProgram}
 use Rattle.md_fair.specs.Least.{IsLeastValueOf}
 use Rattle.md_fair.specs.declared.fair_answer.FairAnswer.{FairAnswer}
@@ -33,3 +38,15 @@ pub record IsFairlySolved (s : GeneralSetting) (width : ℕ) (answer : FairAnswe
   pub program : Program
   pub is_program : IsFairProgram s program
   pub tells : TellsRun s program width answer
+
+-- each path of the setting's fair program has a wide basis, and these are the first ones
+pub record IsFairlyWide (s : GeneralSetting) (width : ℕ) (first second : Wide) : Type 0 where
+  pub program : Program
+  pub is_program : IsFairProgram s program
+  pub forward : IsFirstWideOf Forward program width first
+  pub backward : IsFirstWideOf Backward program width second
+
+-- there is no answer, since the setting's fair program has no taken path; memory may run out at any time
+abbrev pub IsFairlyLeft : GeneralSetting → ℕ → SimplexError → Type 0
+IsFairlyLeft s width (errors.TooWide first second) = IsFairlyWide s width first second
+IsFairlyLeft s width errors.Memory = Unit {0}

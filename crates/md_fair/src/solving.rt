@@ -18,7 +18,7 @@ ghost use Rattle.md_fair.specs.FairProgram.{IsFairProgram};
 ghost use Rattle.md_fair.specs.Fairest.{GrowsFair, IsOptimalFair};
 ghost use Rattle.md_fair.specs.Least.{HasLeast, IsLeastValueOf};
 ghost use Rattle.md_fair.specs.Shown.{IsSo};
-ghost use Rattle.md_fair.specs.Solved.{IsFairlySolved, TellsRun};
+ghost use Rattle.md_fair.specs.Solved.{IsFairlyLeft, IsFairlySolved, TellsRun};
 ghost use Rattle.md_fair.specs.declared.fair_answer.FairAnswer.{FairAnswer};
 
 use crate::answers::told;
@@ -61,9 +61,11 @@ pub fn solve_fair(
     ensures taken { (p : Program) (order : Order) (pivots : List Pivot) (step : Step) → IsFairProgram setting.now p → IsTaken order p width pivots step → MatchResult result (ClaimsEnd step) (λ error. error ≡ SimplexError.Memory) }
     ensures none { IfOk result (λ answer. ClaimsInfeasible answer ↔ IsInfeasible setting.now) }
 
-    // Where a basis of each path is wide there is no answer. The first one of each is told, and nothing else.
+    // Where a basis of each path is wide there is no answer. The first one of each is told, and nothing else, and it is told
+    // nowhere else.
     ensures wide { (p : Program) → IsFairProgram setting.now p → MeetsWideBasis Order.Forward p width → MeetsWideBasis Order.Backward p width → IfOk result (λ _. ⊥) }
-    ensures left { (p : Program) → IsFairProgram setting.now p → IfErr result (IsLeft p width) }
+    ensures left { IfErr result (IsFairlyLeft setting.now width) }
+    ensures every_left { (p : Program) → IsFairProgram setting.now p → IfErr result (IsLeft p width) }
     ensures first_wide { (p : Program) (first second : Wide) → IsFairProgram setting.now p → IsFirstWideOf Order.Forward p width first → IsFirstWideOf Order.Backward p width second → IfErr result (TellsOf first second) }
 
     // In whatever terms the fair program is written, its paths give this answer, which is a certificate of its claim.

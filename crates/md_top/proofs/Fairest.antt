@@ -20,7 +20,7 @@ use Rattle.md_fair.specs.FairProgram.{IsFairProgram}
 use Rattle.md_fair.specs.Fairest.{GrowsFair, IsOptimalFair}
 use Rattle.md_fair.specs.Least.{IsLeastValueOf}
 use Rattle.md_fair.specs.Shown.{IsSo}
-use Rattle.md_fair.specs.Solved.{IsFairlySolved}
+use Rattle.md_fair.specs.Solved.{IsFairlySolved, IsFairlyWide}
 use Rattle.md_top.specs.Fair.{IsFairSaying, status_of_fair, text_of_fair, text_of_wide}
 use Rattle.md_top.specs.Headline.{IsEndStatus}
 use Rattle.md_top.specs.Saying.{Saying}
@@ -93,14 +93,16 @@ not_memory first second same = let e = same in cc
 
 -- both paths have a wide basis, so that none is taken
 pub of_wide : (s : GeneralSetting) (width : ℕ) (saying : Saying) (first second : Wide)
+    → IsFairlyWide s width first second
     → ((p : Program) → IsFairProgram s p → IsLeft p width (errors.TooWide first second))
     → ((p : Program) (order : Order) (pivots : List Pivot) (step : Step) → IsFairProgram s p → IsTaken order p width pivots step → errors.TooWide first second ≡ errors.Memory)
     → saying.status ≡ 12 → saying.text ≡ text_of_wide first second → IsFairSaying s width saying
-of_wide s width saying first second left taken is text =
+of_wide s width saying first second wide left taken is text =
     record {
       told = inr (record {
         first = first;
         second = second;
+        wide = wide;
         forward = λ p program. (left p program).0;
         backward = λ p program. (left p program).1;
         status = is;

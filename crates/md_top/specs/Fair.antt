@@ -22,7 +22,7 @@ use Rattle.md_fair.specs.Answered.{WhereUnbounded}
 use Rattle.md_fair.specs.Certifies.{IsCertifiedAnswer}
 use Rattle.md_fair.specs.FairProgram.{IsFairProgram}
 use Rattle.md_fair.specs.Shown.{IsSo}
-use Rattle.md_fair.specs.Solved.{IsFairlySolved}
+use Rattle.md_fair.specs.Solved.{IsFairlySolved, IsFairlyWide}
 use Rattle.md_top.specs.Headline.{IsEndStatus}
 use Rattle.md_top.specs.Saying.{Saying}
 
@@ -74,10 +74,12 @@ pub record IsFairestSaying (s : GeneralSetting) (width : ℕ) (saying : Saying) 
 
 -- ---- no answer within the width
 
--- of the forward path of the fair program and of the backward one, the pivots to the first wide basis and its first wide entry
+-- of the forward path of the fair program and of the backward one, the pivots to the first wide basis and its first wide
+-- entry, in whatever terms that program is written
 pub record IsFairTooWide (s : GeneralSetting) (width : ℕ) (saying : Saying) : Type 0 where
   pub first : Wide
   pub second : Wide
+  pub wide : IsFairlyWide s width first second
   pub forward : (p : Program) → IsFairProgram s p → IsFirstWideOf Forward p width first
   pub backward : (p : Program) → IsFairProgram s p → IsFirstWideOf Backward p width second
   pub status : saying.status ≡ 12

@@ -9,9 +9,9 @@ use Rattle.md_simplex.proofs.SamePaths.{first_wide-same, meets-same, taken-same}
 use Rattle.md_fair.specs.Answered.{ClaimsInfeasible, WhereUnbounded}
 use Rattle.md_fair.specs.Certifies.{IsCertifiedAnswer}
 use Rattle.md_fair.specs.Shown.{IsSo}
-use Rattle.md_fair.specs.Solved.{IsFairlySolved, TellsRun}
+use Rattle.md_fair.specs.Solved.{IsFairlyLeft, IsFairlySolved, TellsRun}
 use Rattle.md_fair.proofs.LeastLaws.{has-least}
-use Rattle.md_fair.proofs.OneAnswer.{certified-every, exactly_infeasible, if_both, if_err, left-same, one_answer, same_program, so-admissible, tells-same}
+use Rattle.md_fair.proofs.OneAnswer.{certified-every, exactly_infeasible, fairly-left, if_both, if_err, left-same, one_answer, same_program, so-admissible, tells-same}
 use Rattle.md_fair.proofs.Sizes.{some-agent}
 use Rattle.md_fair.proofs.solving.solve_fair.Goals as goal
 
@@ -66,6 +66,12 @@ returns-clause-wide c =
 
 pub returns-clause-left : goal.returns-clause-left
 returns-clause-left c =
+    let s = c.args.setting.now in
+    let lp = c.in-Ok.lp in
+    if_err c.answer.result (IsLeft lp c.args.width) (IsFairlyLeft s c.args.width) (λ e h. fairly-left s lp c.args.width e c.in-Ok.ensures.program h) c.answer.ensures.left
+
+pub returns-clause-every_left : goal.returns-clause-every_left
+returns-clause-every_left c =
     let s = c.args.setting.now in
     let lp = c.in-Ok.lp in
     λ p is. if_err c.answer.result (IsLeft lp c.args.width) (IsLeft p c.args.width) (λ e h. left-same lp p c.args.width e (same_program s lp p c.in-Ok.ensures.program is) h) c.answer.ensures.left

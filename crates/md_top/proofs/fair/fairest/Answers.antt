@@ -25,4 +25,4 @@ pub returns-in_ok-wide_text-in-Err-TooWide-clause-fair : goal.returns-in_ok-wide
 returns-in_ok-wide_text-in-Err-TooWide-clause-fair c =
     let h = rw c.in-Err-TooWide.field-0-is at c.in-Err-TooWide.ensures in
     of_wide c.args.setting.now c.args.width record { status = 12; text = c.in_ok-wide_text-in-Err-TooWide.field-0.items } c.in-Err-TooWide.first c.in-Err-TooWide.second
-    h.left h.taken refl c.in_ok-wide_text-in-Err-TooWide.ensures
+    h.left h.every_left h.taken refl c.in_ok-wide_text-in-Err-TooWide.ensures
