@@ -69,7 +69,6 @@ point-nonneg a pools x shaped p at j b = elim (cases_lt j (value_count a)) [
   | inl l ↦ omega (arith, linear, at.odds j l, odds-nonneg a pools j)
   | inr g ↦ elim (cases_lt j (2 * value_count a)) [
     | inl l ↦
-        let v = j - value_count a in
         let back : value_count a + (j - value_count a) ≡ j = omega (arith, g) in
         let inside : j - value_count a < value_count a = omega (arith, l, g) in
         let pays = at.pays (j - value_count a) inside in
@@ -144,7 +143,6 @@ pub row-by : (a : SymmetricAuction) (pools : Pools) (divisor : ℕ → ℤ) (row
     → ((s : ℕ) → row ≡ cut_row s → row_right a row ≡ divisor s *ℤ line.right) → IsBy row divisor r.by
 row-by a pools divisor (truth_row v w) line r shaped inside divided =
     let (b, l, d) = inside in
-    let c = value_count a + w in
     let above : pos 0 <ℤ r.by = IsDivisorFor-positive (suc (column_count a)) (number_of (row_form a (truth_row v w))) r.by r.divisor in
     let here : utility_in a (unit (value_count a + w)) v w ≡ neg_ℤ (pos 1) = utility-at a (value_count a + w) v w (pos 1) l (omega arith) (pay-here a w l) in
     let there : utility_in a (unit (value_count a + w)) v v ≡ neg_ℤ (pos 0) = utility-at a (value_count a + w) v v (pos 0) b (omega arith) (pay-other a w v l b (λ e. d (sym e))) in

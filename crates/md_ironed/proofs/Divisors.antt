@@ -55,7 +55,6 @@ divisor_of a s = (family_gcd (suc (column_count a)) (number_of (row_form a (cut_
 pub divisor_of-is : (a : SymmetricAuction) (s : ℕ) → IsAuction a → s < value_count a → IsDivisorFor (suc (column_count a)) (number_of (row_form a (cut_row s))) (divisor_of a s)
 unfolding divisor_of
 divisor_of-is a s shaped b =
-    let numbers = number_of (row_form a (cut_row s)) in
     let (g, q) = family_gcd (suc (column_count a)) (number_of (row_form a (cut_row s))) in
     IsDivisorFor-gcd (suc (column_count a)) (number_of (row_form a (cut_row s))) g q.is_gcd
     (λ e. not_none (row_right a (cut_row s)) (cut-right-positive a s shaped b) (zero-Divides (row_right a (cut_row s)) (subst (λ d. Divides d (row_right a (cut_row s))) e (q.is_gcd.common.at 0 (omega arith)))))

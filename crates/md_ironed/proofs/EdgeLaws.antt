@@ -130,7 +130,6 @@ pub edges-sum : (k : ℕ) (v worth gap : ℕ → ℤ) (times : ℤ) (up down x p
     → sum_to k (edge_of v x pay up down)
     ≡ sum_to k (λ j. (pull_of v worth gap times j -ℤ pull_of v worth gap times (suc j)) *ℤ x j) +ℤ sum_to k (λ j. (worth j -ℤ worth (suc j)) *ℤ pay j)
 edges-sum k v worth gap times up down x pay are =
-    let pull = pull_of v worth gap times in
     let each : sum_to k (edge_of v x pay up down) ≡ sum_to k (λ j. pull_of v worth gap times j *ℤ step_of x j +ℤ worth j *ℤ step_of pay j) =
     sum_to-same k _ _ (edge-is k v worth gap times up down x pay are) in
     let split : sum_to k (λ j. pull_of v worth gap times j *ℤ step_of x j +ℤ worth j *ℤ step_of pay j) ≡ sum_to k (λ j. pull_of v worth gap times j *ℤ step_of x j) +ℤ sum_to k (λ j. worth j *ℤ step_of pay j) =

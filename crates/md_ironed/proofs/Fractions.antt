@@ -53,7 +53,6 @@ rational-fraction b h r t u f p q = rw (p, q) (simp ring (omega (arith, linear))
 cut-fraction : (n w l h d m1 m0 s1 s0 y1 y0 : ℤ) → m1 *ℤ y1 ≡ l *ℤ s1 → m0 *ℤ y0 ≡ l *ℤ s0
     → ((s1 *ℤ m0 -ℤ s0 *ℤ m1) *ℤ d) *ℤ (((n *ℤ w) *ℤ l) *ℤ h) ≡ ((m1 *ℤ m0) *ℤ (n *ℤ h)) *ℤ (d *ℤ (w *ℤ (y1 -ℤ y0)))
 cut-fraction n w l h d m1 m0 s1 s0 y1 y0 p q =
-    let factor = (n *ℤ h) *ℤ (d *ℤ w) in
     let left : ((s1 *ℤ m0 -ℤ s0 *ℤ m1) *ℤ d) *ℤ (((n *ℤ w) *ℤ l) *ℤ h) ≡ ((n *ℤ h) *ℤ (d *ℤ w)) *ℤ ((l *ℤ s1) *ℤ m0 -ℤ (l *ℤ s0) *ℤ m1) = simp ring (omega (arith, linear)) in
     let right : ((m1 *ℤ m0) *ℤ (n *ℤ h)) *ℤ (d *ℤ (w *ℤ (y1 -ℤ y0))) ≡ ((n *ℤ h) *ℤ (d *ℤ w)) *ℤ ((m1 *ℤ y1) *ℤ m0 -ℤ (m0 *ℤ y0) *ℤ m1) = simp ring (omega (arith, linear)) in
     left ∙ sym (right ∙ ap₂ (λ y z. ((n *ℤ h) *ℤ (d *ℤ w)) *ℤ (y *ℤ m0 -ℤ z *ℤ m1)) p q)

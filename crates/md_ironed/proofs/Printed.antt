@@ -25,7 +25,6 @@ pub printed-point : (a : SymmetricAuction) (pools : Pools) → IsAuction a → I
     → (interim_of a pools).odds ++ (map plus_part (interim_of a pools).pays ++ map minus_part (interim_of a pools).pays) ≡ closed_point a pools
 printed-point a pools shaped p =
     let k = value_count a in
-    let pay = pay_in_pools a pools in
     ap₂ (λ xs ys. (interim_of a pools).odds ++ (xs ++ ys))
     (map-list_to plus_part k (pay_in_pools a pools) ∙ list_to-same k (λ v. plus_part (pay_in_pools a pools v)) (pay_in_pools a pools) (λ v b. plus-same (pay_in_pools a pools v) (pays-bounds a pools shaped p v b).0))
     (map-list_to minus_part k (pay_in_pools a pools) ∙ list_to-same k (λ v. minus_part (pay_in_pools a pools v)) (λ _. pos 0) (λ v b. minus-none (pay_in_pools a pools v) (pays-bounds a pools shaped p v b).0))

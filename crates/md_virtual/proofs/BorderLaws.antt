@@ -45,7 +45,6 @@ open-more n in_set q rest j s o = record { most = omega (arith, o.most) }
 close : (n : ℕ) (in_set q : ℕ → ℕ) (rest j s ws we : ℕ) → s ≤ suc j → ws ≤ weight_before in_set s + rest → we ≤ weight_before in_set (suc j) + rest → q j ≤ share n ws we
     → IsOpen n in_set q rest (suc j) s (q j) → IsClosed n in_set q rest (suc j)
 close n in_set q rest j s ws we l h k m o =
-    let c = weight_before in_set s + rest in
     let grown : weight_before in_set s + rest ≤ weight_before in_set (suc j) + rest = omega (arith, weight_before-up in_set s (suc j) l) in
     record { most = omega (arith, o.most, pool-step n ws we (weight_before in_set s + rest) (weight_before in_set (suc j) + rest) (q j) h k grown m) }
 
@@ -61,8 +60,6 @@ closed-at : (kinds n : ℕ) (f in_set others : ℕ → ℕ) (weight sum : ℕ �
     → (j : ℕ) → j < kinds → pools.stop j ≡ suc j → IsOpen n in_set (pool_odds n f pools) (weight_before others kinds) j (pools.first j) (pool_odds n f pools j)
     → IsClosed n in_set (pool_odds n f pools) (weight_before others kinds) (suc j)
 closed-at kinds n f in_set others weight sum pools p parts j b end o =
-    let q = pool_odds n f pools in
-    let rest = weight_before others kinds in
     let (low, high, inside) = p.place j b in
     let start : weight_before f (pools.first j) ≤ weight_before in_set (pools.first j) + weight_before others kinds = reaches kinds f in_set others parts (pools.first j) (omega (arith, low, b)) in
     let stop : weight_before f (suc j) ≤ weight_before in_set (suc j) + weight_before others kinds = reaches kinds f in_set others parts (suc j) b in

@@ -80,7 +80,6 @@ right-side a set shaped =
 pub demands-inside : (a : SymmetricAuction) (pools : Pools) (x : ℕ → ℤ) (set : ℕ) → IsAuction a → IsPooledAuction a pools → ((v : ℕ) → v < value_count a → x v ≡ odds_in a pools v)
     → sum_to (value_count a) (λ v. if member set v then pos (a.bidders * weight_given a v) *ℤ x v else pos 0) ≤ℤ (share_den a *ℤ right_of a set)
 demands-inside a pools x set shaped p are =
-    let k = value_count a in
     let n = a.bidders in
     let won = weight_before (λ v. inside set (slice_index a.weights) v * pool_odds a pools v) (value_count a) in
     let rest = weight_before (outside set a.weights) (value_count a) in
@@ -135,7 +134,6 @@ pub demands-full : (a : SymmetricAuction) (pools : Pools) (x : ℕ → ℤ) (s :
     → sum_to (value_count a) (λ v. if nat_lt v s then pos 0 else pos (a.bidders * weight_given a v) *ℤ x v) ≡ share_den a *ℤ right_of a (set_from (value_count a) s)
 demands-full a pools x s shaped p are b buys first =
     let n = a.bidders in
-    let f = slice_index a.weights in
     let won = weight_before (tail s (λ v. slice_index a.weights v * pool_odds a pools v)) (value_count a) in
     let whole : weight_before (slice_index a.weights) (value_count a) ^ a.bidders ≡ total_weight a.weights ^ a.bidders = ap (λ m. m ^ a.bidders) (total-before a shaped) in
     let full = full-from (value_count a) a.bidders (slice_index a.weights) (weight_to a) (virtual_to a) pools p s b buys first in
