@@ -1,5 +1,5 @@
 -- What the answer of the solver to an auction shows, by its kind.
-use Rattle.std.proofs.Common.{◌≡◌, ℕ, List, Ok, Option, None, Some, sym, subst, inl, inr, arith}
+use Rattle.std.proofs.Common.{◌≡◌, ℕ, List, Ok, None, Some, inl, inr, arith}
 use Rattle.md_num.specs.declared.frac.Frac.{Frac}
 use Rattle.md_setting.specs.Auction.{SymmetricAuction}
 use Rattle.md_lp.specs.Program.{Program}

@@ -7,3 +7,5 @@ pub mod Outcomes
 pub mod Works
 pub mod Promises
 pub mod VerdictRows
+pub mod Profiles
+pub mod Drilled

@@ -61,6 +61,9 @@ refusal_test refusal.AnswerTooLong = refl
 refusal_test (refusal.Answer _) = refl
 refusal_test refusal.NoTable = refl
 refusal_test (refusal.Pivot _) = refl
+refusal_test refusal.Profile = refl
+refusal_test refusal.Draw = refl
+refusal_test refusal.Number = refl
 refusal_test refusal.ReadFault = refl
 refusal_test refusal.Memory = refl
 

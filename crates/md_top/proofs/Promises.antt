@@ -8,7 +8,7 @@ use Rattle.md_ports.specs.Faults.{Rose}
 use Rattle.md_words.specs.Commands.{command_in}
 use Rattle.md_words.specs.Words.{Order, command_of}
 use Rattle.md_words.specs.declared.command.Command.{Command}
-use Rattle.md_words.specs.declared.command.Command.TheVariants.{Audit, Rows, Check, Solve, Replay, Realise, Fair}
+use Rattle.md_words.specs.declared.command.Command.TheVariants.{Audit, Rows, Check, Solve, Replay, Realise, Fair, Run, Make, Drill}
 use Rattle.md_setting.specs.declared.file.SettingFile.{SettingFile}
 use Rattle.md_setting.specs.declared.file.SettingFile.TheVariants.{General, Auction}
 use Rattle.md_top.specs.declared.refusal.Refusal.{Refusal}
@@ -38,6 +38,9 @@ refusal_least refusal.AnswerTooLong = omega arith
 refusal_least (refusal.Answer _) = omega arith
 refusal_least refusal.NoTable = omega arith
 refusal_least (refusal.Pivot _) = omega arith
+refusal_least refusal.Profile = omega arith
+refusal_least refusal.Draw = omega arith
+refusal_least refusal.Number = omega arith
 refusal_least refusal.ReadFault = omega arith
 refusal_least refusal.Memory = omega arith
 
@@ -91,26 +94,29 @@ module _ (width : ℕ) (saying : Saying) (status : ℕ) (out err : SinkChange) (
   not_shown (Ok file) high = λ low. absurd (omega (arith, high, low))
   not_shown (Err e) high = high
 
-headline-of_command : (command : Command) (setting second : List ℕ) (width : ℕ) (content : List ℕ → Option (List ℕ)) (before after : List ℕ → ℕ) (saying : Saying) (status : ℕ) (out err : SinkChange)
-    → IsSaidOfOrder record { command = command; setting = setting; second = second; width = width } content before after saying → IsDelivered saying status out err
-    → IsHeadlineBy command setting width content status out
-headline-of_command Audit setting second width content before after saying status out err said delivered = tt
-headline-of_command Rows setting second width content before after saying status out err said delivered = tt
-headline-of_command Check setting second width content before after saying status out err said delivered = tt
-headline-of_command Solve setting second width content before after saying status out err (inl reply) delivered =
-    λ bytes told. shown width saying status out err delivered (setting_in is_any bytes) (reply.0.said_of bytes told)
-headline-of_command Solve setting second width content before after saying status out err (inr (inl fault)) delivered =
-    λ bytes told. not_shown width saying status out err delivered (setting_in is_any bytes) (refused-above refusal.ReadFault saying status out err fault.0 delivered)
-headline-of_command Solve setting second width content before after saying status out err (inr (inr memory)) delivered =
-    λ bytes told. not_shown width saying status out err delivered (setting_in is_any bytes) (refused-above refusal.Memory saying status out err memory.0 delivered)
-headline-of_command Replay setting second width content before after saying status out err said delivered = tt
-headline-of_command Realise setting second width content before after saying status out err said delivered = tt
-headline-of_command Fair setting second width content before after saying status out err said delivered = tt
+headline-of_command : (command : Command) (order : Order) (content : List ℕ → Option (List ℕ)) (before after : List ℕ → ℕ) (saying : Saying) (status : ℕ) (out err : SinkChange)
+    → IsSaidOfOrder (record order { command = command }) content before after saying → IsDelivered saying status out err
+    → IsHeadlineBy command order.setting order.width content status out
+headline-of_command Audit order content before after saying status out err said delivered = tt
+headline-of_command Rows order content before after saying status out err said delivered = tt
+headline-of_command Check order content before after saying status out err said delivered = tt
+headline-of_command Solve order content before after saying status out err (inl reply) delivered =
+    λ bytes told. shown order.width saying status out err delivered (setting_in is_any bytes) (reply.0.said_of bytes told)
+headline-of_command Solve order content before after saying status out err (inr (inl fault)) delivered =
+    λ bytes told. not_shown order.width saying status out err delivered (setting_in is_any bytes) (refused-above refusal.ReadFault saying status out err fault.0 delivered)
+headline-of_command Solve order content before after saying status out err (inr (inr memory)) delivered =
+    λ bytes told. not_shown order.width saying status out err delivered (setting_in is_any bytes) (refused-above refusal.Memory saying status out err memory.0 delivered)
+headline-of_command Replay order content before after saying status out err said delivered = tt
+headline-of_command Realise order content before after saying status out err said delivered = tt
+headline-of_command Fair order content before after saying status out err said delivered = tt
+headline-of_command Run order content before after saying status out err said delivered = tt
+headline-of_command Make order content before after saying status out err said delivered = tt
+headline-of_command Drill order content before after saying status out err said delivered = tt
 
 headline-by : {A : Type 0} (named : Option A) (order : Option Order) (content : List ℕ → Option (List ℕ)) (before after : List ℕ → ℕ) (saying : Saying) (status : ℕ) (out err : SinkChange)
     → IsSaidBy named order content before after saying → IsDelivered saying status out err → IsHeadlineOf order content status out
 headline-by named None content before after saying status out err said delivered = tt
-headline-by named (Some order) content before after saying status out err said delivered = headline-of_command order.command order.setting order.second order.width content before after saying status out err said delivered
+headline-by named (Some order) content before after saying status out err said delivered = headline-of_command order.command order content before after saying status out err said delivered
 
 pub headline-from : (words : List (List ℕ)) (content : List ℕ → Option (List ℕ)) (before after : List ℕ → ℕ) (status : ℕ) (out err : SinkChange)
     → (saying : Saying) × (IsSaid words content before after saying × IsDelivered saying status out err) → IsHeadlineOf (command_of words) content status out

@@ -10,7 +10,7 @@ use Rattle.md_top.specs.Reading.{answer_limit, file_of, file_said, second_in, se
 use Rattle.md_top.specs.Refused.{status_of}
 use Rattle.md_top.specs.Saying.{Saying}
 use Rattle.md_ports.specs.Faults.{Rose}
-use Rattle.md_top.specs.Works.{HasFaultedIn, IsCarriedOut, two_files, IsOutcome, IsReplyToOne, IsReplyToTwo, IsWorked}
+use Rattle.md_top.specs.Works.{HasFaultedIn, IsCarriedOut, no_file, two_files, IsOutcome, IsReplyToNone, IsReplyToOne, IsReplyToTwo, IsWorked}
 
 -- what was read is no refusal
 pub read-not_refused : {T E : Type 0} (x : T) (e : E) → Ok x ≢ Err e
@@ -74,6 +74,24 @@ worked-no_fault Says IsOwn (Err e) (inr worked) failed = not_fault e 67 (omega a
 pub worked-status : (Says : Saying → Type 0) (IsOwn : ℕ → Type 0) (result : Result Answered Refusal) → IsWorked Says IsOwn result → IfOk result (λ answered. answered.status < 64)
 worked-status Says IsOwn (Ok answered) h = h.1.1
 worked-status Says IsOwn (Err e) h = tt
+
+-- ---- no file
+
+module _ (P : Saying → Type 0) (IsOwn : ℕ → Type 0) where
+  none-worked : (result : Result Answered Refusal) → IsWorked P IsOwn result → IsOutcome (IsReplyToNone P IsOwn) result
+  none-worked (Ok answered) worked = record { status = worked.1.0; said_of = worked.0 }
+  none-worked (Err e) (inl memory) = inr (inr memory)
+  none-worked (Err e) (inr worked) =
+      inl (record { status = subst IsOwn (sym worked.1.1) worked.1.0; said_of = worked.0 }, not_fault e 67 (omega arith) worked.1.1)
+
+  pub none-carried_out : (a b : List ℕ) (content : List ℕ → Option (List ℕ)) (faults : List ℕ → ℕ) (result : Result Answered Refusal) → IsWorked P IsOwn result
+      → IsCarriedOut (no_file P IsOwn) a b content faults faults result
+  none-carried_out a b content faults result worked = record {
+    outcome = none-worked result worked;
+    fault = worked-no_fault P IsOwn result worked;
+    quiet = λ n _. refl;
+    status = worked-status P IsOwn result worked;
+  }
 
 -- ---- one file
 

@@ -13,5 +13,9 @@ pub mod Solving
 pub mod Replaying
 pub mod Realising
 pub mod Fair
+pub mod Drawing
+pub mod Numbers
+pub mod Making
+pub mod Drilling
 pub mod Reply
 pub mod Promises

@@ -2,8 +2,10 @@
 use Rattle.std.specs.Prelude.{◌≡◌, ◌⊎◌, ℕ, List, codes}
 use Rattle.md_parts.specs.declared.refusal.AnswerRefusal.{AnswerRefusal}
 use Rattle.md_parts.specs.declared.refusal.AnswerRefusal.TheVariants as answer
+use Rattle.md_run.specs.declared.refusal.DrawRefusal.{DrawRefusal}
+use Rattle.md_run.specs.declared.refusal.DrawRefusal.TheVariants as draw
 use Rattle.md_top.specs.declared.refusal.Refusal.{Refusal}
-use Rattle.md_top.specs.declared.refusal.Refusal.TheVariants.{Usage, SettingTooLong, Setting, OtherKind, AnswerTooLong, Answer, NoTable, Pivot, ReadFault, Memory}
+use Rattle.md_top.specs.declared.refusal.Refusal.TheVariants.{Usage, SettingTooLong, Setting, OtherKind, AnswerTooLong, Answer, NoTable, Pivot, Profile, Draw, Number, ReadFault, Memory}
 use Rattle.md_top.specs.Saying.{Saying}
 use Rattle.md_top.specs.Texts.{line, want_of_memory, setting_text, answer_text, pivot_text}
 
@@ -16,6 +18,9 @@ status_of AnswerTooLong = 66
 status_of (Answer _) = 66
 status_of NoTable = 66
 status_of (Pivot _) = 67
+status_of Profile = 67
+status_of Draw = 67
+status_of Number = 67
 status_of ReadFault = 70
 status_of Memory = 72
 
@@ -28,6 +33,9 @@ text_of AnswerTooLong = line (codes "answer refused: too long")
 text_of (Answer refusal) = answer_text refusal
 text_of NoTable = line (codes "answer refused: no table")
 text_of (Pivot number) = pivot_text number
+text_of Profile = line (codes "profile refused")
+text_of Draw = line (codes "draw refused")
+text_of Number = line (codes "number refused")
 text_of ReadFault = line (codes "read fault")
 text_of Memory = want_of_memory
 
@@ -42,6 +50,13 @@ answer_refused (answer.Cell n k) = Answer (answer.Cell n k)
 answer_refused (answer.Sum n) = Answer (answer.Sum n)
 answer_refused (answer.End n) = Answer (answer.End n)
 
+-- a refusal to draw
+abbrev pub draw_refused : DrawRefusal → Refusal
+draw_refused draw.NoTable = NoTable
+draw_refused draw.Profile = Profile
+draw_refused draw.Draw = Draw
+draw_refused draw.Memory = Memory
+
 -- a word or a number goes into the line of a refusal, which is made in memory
 abbrev pub HasMadeLine : Refusal → Type 0
 HasMadeLine (Setting _) = Unit {0}
@@ -52,6 +67,9 @@ HasMadeLine SettingTooLong = ⊥
 HasMadeLine OtherKind = ⊥
 HasMadeLine AnswerTooLong = ⊥
 HasMadeLine NoTable = ⊥
+HasMadeLine Profile = ⊥
+HasMadeLine Draw = ⊥
+HasMadeLine Number = ⊥
 HasMadeLine ReadFault = ⊥
 HasMadeLine Memory = ⊥
 

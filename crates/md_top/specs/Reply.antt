@@ -2,7 +2,7 @@
 use Rattle.std.specs.Prelude.{◌≡◌, ◌⊎◌, ℕ, List, Option, None, Some, IsSome}
 use Rattle.md_words.specs.Commands.{command_in}
 use Rattle.md_words.specs.declared.command.Command.{Command}
-use Rattle.md_words.specs.declared.command.Command.TheVariants.{Audit, Rows, Check, Solve, Replay, Realise, Fair}
+use Rattle.md_words.specs.declared.command.Command.TheVariants.{Audit, Rows, Check, Solve, Replay, Realise, Fair, Run, Make, Drill}
 use Rattle.md_words.specs.Words.{Order, command_of}
 use Rattle.md_mech.specs.declared.mechanism.Mechanism.{Mechanism}
 use Rattle.md_border.specs.declared.interim.Interim.{Interim}
@@ -12,7 +12,7 @@ use Rattle.md_top.specs.declared.refusal.Refusal.TheVariants as refusal
 use Rattle.md_top.specs.Saying.{Saying}
 use Rattle.md_top.specs.Reading.{is_any, is_auction, is_general}
 use Rattle.md_top.specs.Refused.{refused}
-use Rattle.md_top.specs.Works.{Work, one_file, two_files, IsReplyTo, HasFaultedIn}
+use Rattle.md_top.specs.Works.{Work, no_file, one_file, two_files, IsReplyTo, HasFaultedIn}
 use Rattle.md_top.specs.Headline.{IsSolveStatus}
 use Rattle.md_top.specs.Auditing.{mechanism_in, IsAudit, IsAuditStatus}
 use Rattle.md_top.specs.Listing.{IsRows, IsRowsStatus}
@@ -21,19 +21,25 @@ use Rattle.md_top.specs.Solving.{IsSolve}
 use Rattle.md_top.specs.Replaying.{pivots_in, IsReplay, IsReplayStatus}
 use Rattle.md_top.specs.Realising.{odds_in, IsRealise, IsRealiseStatus}
 use Rattle.md_top.specs.Fair.{IsFair}
+use Rattle.md_top.specs.Drawing.{drawable_in, IsRun, IsRunStatus}
+use Rattle.md_top.specs.Making.{IsMake, IsMakeStatus}
+use Rattle.md_top.specs.Drilling.{IsDrill, IsDrillStatus}
 
 -- the commands: the files of each, what it says of them, and its statuses
-abbrev pub work_by : Command → ℕ → Work
-work_by Audit width = two_files Mechanism is_general mechanism_in IsAudit IsAuditStatus
-work_by Rows width = one_file is_any IsRows IsRowsStatus
-work_by Check width = two_files Answer is_any answer_in IsCheck IsCheckStatus
-work_by Solve width = one_file is_any (IsSolve width) IsSolveStatus
-work_by Replay width = two_files Pivots is_any pivots_in (IsReplay width) IsReplayStatus
-work_by Realise width = two_files Interim is_auction odds_in IsRealise IsRealiseStatus
-work_by Fair width = one_file is_general (IsFair width) IsSolveStatus
+abbrev pub work_by : Command → Order → Work
+work_by Audit order = two_files Mechanism is_general mechanism_in IsAudit IsAuditStatus
+work_by Rows order = one_file is_any IsRows IsRowsStatus
+work_by Check order = two_files Answer is_any answer_in IsCheck IsCheckStatus
+work_by Solve order = one_file is_any (IsSolve order.width) IsSolveStatus
+work_by Replay order = two_files Pivots is_any pivots_in (IsReplay order.width) IsReplayStatus
+work_by Realise order = two_files Interim is_auction odds_in IsRealise IsRealiseStatus
+work_by Fair order = one_file is_general (IsFair order.width) IsSolveStatus
+work_by Run order = two_files Answer is_any drawable_in (IsRun order.profile order.first_draw order.second_draw) IsRunStatus
+work_by Make order = no_file (IsMake order.number) IsMakeStatus
+work_by Drill order = no_file (IsDrill order.number) IsDrillStatus
 
 abbrev pub work_of : Order → Work
-work_of order = work_by order.command order.width
+work_of order = work_by order.command order
 
 -- what a command says, by what the shelf tells under each name
 abbrev pub IsReply : Order → (List ℕ → Option (List ℕ)) → Saying → Type 0

@@ -10,9 +10,10 @@ use Rattle.md_top.specs.Reading.{setting_in, second_in}
 use Rattle.md_top.specs.Refused.{refused, status_of}
 use Rattle.md_top.specs.Saying.{Saying, said}
 
--- A command of one file serves some settings, says something of each, and has statuses of its own. One of two files reads
--- the second by the setting that the first one says, and says something of both.
+-- A command of no file says something, and has statuses of its own. One of one file serves some settings, and says something
+-- of each. One of two files reads the second by the setting that the first one says, and says something of both.
 pub data Work : Type 1 where
+  no_file : (Saying → Type 0) → (ℕ → Type 0) → Work
   one_file : (SettingFile → Bool) → (SettingFile → Saying → Type 0) → (ℕ → Type 0) → Work
   two_files : (T : Type 0) → (SettingFile → Bool) → (SettingFile → List ℕ → Result T Refusal) → (SettingFile → T → Saying → Type 0) → (ℕ → Type 0) → Work
 
@@ -30,6 +31,11 @@ IsSaidOfBoth reading P (Err e) second saying = saying ≡ refused e
 IsSaidOfBoth reading P (Ok file) second saying =
     (saying.status ≢ 65) × ForSome second (λ bytes. IsSaidOf (P file) (second_in (reading file) bytes) saying)
 
+-- a reply of a command that reads no file
+pub record IsReplyToNone (P : Saying → Type 0) (IsOwn : ℕ → Type 0) (saying : Saying) : Type 0 where
+  pub status : IsOwn saying.status
+  pub said_of : P saying
+
 -- a reply about the setting of this name, by what the shelf tells
 pub record IsReplyToOne (serves : SettingFile → Bool) (P : SettingFile → Saying → Type 0) (IsOwn : ℕ → Type 0) (setting : List ℕ) (content : List ℕ → Option (List ℕ)) (saying : Saying) : Type 0 where
   pub status : IsOwn saying.status ⊎ (saying.status ≡ 65)
@@ -42,12 +48,14 @@ pub record IsReplyToTwo {T : Type 0} (serves : SettingFile → Bool) (reading : 
 
 -- what a command says of the files of these names, by what the shelf tells under each
 abbrev pub IsReplyTo : Work → List ℕ → List ℕ → (List ℕ → Option (List ℕ)) → Saying → Type 0
+IsReplyTo (no_file P IsOwn) setting second content saying = IsReplyToNone P IsOwn saying
 IsReplyTo (one_file serves P IsOwn) setting second content saying = IsReplyToOne serves P IsOwn setting content saying
 IsReplyTo (two_files T serves reading P IsOwn) setting second content saying = IsReplyToTwo serves reading P IsOwn setting second content saying
 
--- The count of one of the command's files rose. The second file is looked at only where the first one says a setting that
+-- The count of one of the command's files rose; of a command of no file none ever does. The second file is looked at only where the first one says a setting that
 -- the command serves, as far as the shelf tells.
 abbrev pub HasFaultedIn : Work → List ℕ → List ℕ → (List ℕ → Option (List ℕ)) → (List ℕ → ℕ) → (List ℕ → ℕ) → Type 0
+HasFaultedIn (no_file P IsOwn) setting second content before after = ⊥
 HasFaultedIn (one_file serves P IsOwn) setting second content before after = Rose (before setting) (after setting)
 HasFaultedIn (two_files T serves reading P IsOwn) setting second content before after =
     Rose (before setting) (after setting)

@@ -2,20 +2,19 @@
 #![tactic(auto)]
 
 mod answered;
-#[cfg(test)]
-mod auction_tests;
 mod audit;
 mod call;
 mod check;
+mod draw;
+mod drill;
 mod fair;
-#[cfg(test)]
-mod fair_tests;
 mod fair_text;
+mod make;
+mod no_file;
 mod one_file;
+mod profile;
 mod read;
 mod realise;
-#[cfg(test)]
-mod realising_tests;
 mod refusal;
 mod replay;
 mod rows;
@@ -23,12 +22,6 @@ mod run;
 mod send;
 mod setting_file;
 mod solve;
-#[cfg(test)]
-mod solving_tests;
-#[cfg(test)]
-mod test_settings;
-#[cfg(test)]
-mod tests;
 mod two_files;
 
 pub use call::mechdes;

@@ -29,6 +29,12 @@ pub enum Refusal {
     NoTable,
     /// The listed pivot of this number, counted from 1, cannot be carried out.
     Pivot(u64),
+    /// The reports at which an outcome is drawn are no profile.
+    Profile,
+    /// A draw is out of its range.
+    Draw,
+    /// The number stands for no setting.
+    Number,
     /// A file could not be read.
     ReadFault,
     /// There is no memory left.
@@ -139,7 +145,7 @@ impl Refusal {
             Refusal::Usage => 64,
             Refusal::SettingTooLong | Refusal::Setting(_) | Refusal::OtherKind => 65,
             Refusal::AnswerTooLong | Refusal::Answer(_) | Refusal::NoTable => 66,
-            Refusal::Pivot(_) => 67,
+            Refusal::Pivot(_) | Refusal::Profile | Refusal::Draw | Refusal::Number => 67,
             Refusal::ReadFault => 70,
             Refusal::Memory => 72,
         }
@@ -156,6 +162,9 @@ impl Refusal {
             Refusal::OtherKind => Some("mechdes: setting refused: other kind\n"),
             Refusal::AnswerTooLong => Some("mechdes: answer refused: too long\n"),
             Refusal::NoTable => Some("mechdes: answer refused: no table\n"),
+            Refusal::Profile => Some("mechdes: profile refused\n"),
+            Refusal::Draw => Some("mechdes: draw refused\n"),
+            Refusal::Number => Some("mechdes: number refused\n"),
             Refusal::ReadFault => Some("mechdes: read fault\n"),
             Refusal::Memory => Some(want_of_memory()),
             Refusal::Setting(_) | Refusal::Answer(_) | Refusal::Pivot(_) => None,

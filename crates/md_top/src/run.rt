@@ -6,7 +6,11 @@ ghost use Rattle.md_top.specs.Works.{IsCarriedOut};
 use crate::answered::Answered;
 use crate::audit::Audit;
 use crate::check::Check;
+use crate::draw::Draw;
+use crate::drill::Drill;
 use crate::fair::Fair;
+use crate::make::Make;
+use crate::no_file::of_none;
 use crate::one_file::of_one;
 use crate::realise::Realise;
 use crate::refusal::Refusal;
@@ -31,6 +35,10 @@ pub(crate) fn run<F: Shelf>(
         setting,
         second,
         width,
+        profile,
+        first_draw,
+        second_draw,
+        number,
     } = *order;
     match command {
         Command::Audit => of_two(alloc, &Audit, setting, second, shelf),
@@ -40,5 +48,15 @@ pub(crate) fn run<F: Shelf>(
         Command::Replay => of_two(alloc, &Replay { width }, setting, second, shelf),
         Command::Realise => of_two(alloc, &Realise, setting, second, shelf),
         Command::Fair => of_one(alloc, &Fair { width }, setting, shelf),
+        Command::Run => {
+            let draw = Draw {
+                profile,
+                first: first_draw,
+                second: second_draw,
+            };
+            of_two(alloc, &draw, setting, second, shelf)
+        }
+        Command::Make => of_none(alloc, &Make { number }),
+        Command::Drill => of_none(alloc, &Drill { number }),
     }
 }

@@ -36,8 +36,8 @@ impl OneFile for Solve {
     }
 }
 
-// The answer to a setting within a width.
-fn solved(alloc: Global, file: &SettingFile, width: Width) -> Result<Answered, NoMemory>
+/// The answer to a setting within a width.
+pub(crate) fn solved(alloc: Global, file: &SettingFile, width: Width) -> Result<Answered, NoMemory>
     ensures solving { IfOk result (λ answered. IsSolve width file.now (said answered)) }
     ensures status { IfOk result (λ answered. IsSolveStatus answered.status) }
 {

@@ -1,3 +1,6 @@
+use Rattle.std.proofs.Common.{rules, FitsSigned}
+use Rattle.std.proofs.lemmas.Int.{to_z-of_z}
+use mir.Syntax.{w128}
 use Rattle.md_top.proofs.run.run.Goals as goal
 
 pub returns-in-Rows : goal.returns-in-Rows
@@ -8,3 +11,19 @@ returns-in-Solve g c = rw c.in-Solve.is (c.of_one-in-Solve.ensures c.args.order.
 
 pub returns-in-Fair : goal.returns-in-Fair
 returns-in-Fair g c = rw c.in-Fair.is (c.of_one-in-Fair.ensures c.args.order.now.second.now)
+
+pub returns-in-Make : goal.returns-in-Make
+returns-in-Make g c =
+    let number = c.args.order.now.number in
+    let fits : FitsSigned w128 number = search rules in
+    rw c.in-Make.is
+    (rw (to_z-of_z w128 number fits) at
+    (c.of_none.ensures c.args.order.now.setting.now c.args.order.now.second.now (g.F.Shelf.content c.args.shelf.now) (g.F.Shelf.faults c.args.shelf.now)))
+
+pub returns-in-Drill : goal.returns-in-Drill
+returns-in-Drill g c =
+    let number = c.args.order.now.number in
+    let fits : FitsSigned w128 number = search rules in
+    rw c.in-Drill.is
+    (rw (to_z-of_z w128 number fits) at
+    (c.of_none-in-Drill.ensures c.args.order.now.setting.now c.args.order.now.second.now (g.F.Shelf.content c.args.shelf.now) (g.F.Shelf.faults c.args.shelf.now)))

@@ -1,11 +1,11 @@
 //! The commands over files in memory.
-use crate::mechdes;
 use crate::test_settings::{
     CORRELATED, INTERDEPENDENT, INTERDEPENDENT_BESIDE_UTILITY, INTERDEPENDENT_FIRST_VERSION,
     INTERDEPENDENT_INTERIM, ONE_TYPE, OUT_OF_REACH, PAYING, POSTED_PRICE, TAKING, TWO_OUTCOMES,
     VOTE,
 };
 use md_ports::{CleanShelf, CleanSink, MemShelf, MemSink};
+use md_top::mechdes;
 use std::alloc::{AllocError, Global};
 use std::test::Fail;
 

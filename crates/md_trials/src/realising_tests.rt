@@ -1,8 +1,8 @@
 //! Interim odds realised, over files in memory, and which file is looked at first.
-use crate::mechdes;
 use crate::test_settings::{HONEST, POSTED_PRICE, THREE_BIDDERS, TWO_BIDDERS};
 use crate::tests::words;
 use md_ports::{MemShelf, MemSink};
+use md_top::mechdes;
 use std::test::Fail;
 
 const NONE: &str = "interim,1\nodds,0,0\nend\n";
@@ -96,20 +96,28 @@ fn realises_odds(rt: HostRuntime) -> Result<(), Fail> {
     Ok(())
 }
 
+static LOOKS: [&[&str]; 5] = [
+    &["audit", "setting", "absent"],
+    &["check", "setting", "absent"],
+    &["replay", "setting", "absent"],
+    &["realise", "setting", "absent"],
+    &["run", "setting", "absent", "t", "0", "0"],
+];
+
 // A setting that is refused is told before the second file is looked at, which is not there.
 #[test]
 fn looks_at_the_setting_first(rt: HostRuntime) -> Result<(), Fail> {
     let alloc = rt.alloc();
-    for command in &["audit", "check", "replay", "realise"] {
-        let words = words(alloc, &[command, "setting", "absent"])?;
+    for texts in &LOOKS {
+        let words = words(alloc, texts)?;
         let mut shelf = MemShelf::new(alloc);
         shelf.put("setting", HONEST.as_bytes())?;
         let mut out = MemSink::new(alloc, 100)?;
         let mut err = MemSink::new(alloc, 100)?;
         let got = mechdes(alloc, &words, &mut shelf, &mut out, &mut err);
-        assert_eq!(rt; got, 65, "at {command}");
+        assert_eq!(rt; got, 65, "at {texts:?}");
         let said = "mechdes: setting refused: unknown word truth\n";
-        assert!(rt; err.bytes() == said.as_bytes(), "at {command}");
+        assert!(rt; err.bytes() == said.as_bytes(), "at {texts:?}");
     }
     Ok(())
 }

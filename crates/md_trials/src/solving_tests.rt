@@ -1,11 +1,11 @@
 //! Settings solved, answers checked after they were written, and pivots carried out, over files in memory.
-use crate::mechdes;
 use crate::test_settings::{
     CORRELATED, HONEST, INDEPENDENT, INTERDEPENDENT, OUT_OF_REACH, PAYING, POSTED_PRICE,
     POSTED_PRICE_FRONT, TAKING, TWO_OUTCOMES, WELFARE_VOTE,
 };
 use crate::tests::words;
 use md_ports::{MemShelf, MemSink};
+use md_top::mechdes;
 use std::alloc::{AllocError, Global};
 use std::test::Fail;
 
@@ -148,7 +148,7 @@ pub(crate) struct Reply {
     pub(crate) err: MemSink,
 }
 
-/// Carries a command out over two files.
+/// Carries a command out over two files, with room for the masses of many counts.
 pub(crate) fn carried_out(
     alloc: Global,
     texts: &[&str],
@@ -159,7 +159,7 @@ pub(crate) fn carried_out(
     let mut shelf = MemShelf::new(alloc);
     shelf.put("setting", setting.as_bytes())?;
     shelf.put("second", second)?;
-    let mut out = MemSink::new(alloc, 2000)?;
+    let mut out = MemSink::new(alloc, 40_000)?;
     let mut err = MemSink::new(alloc, 100)?;
     let status = mechdes(alloc, &words, &mut shelf, &mut out, &mut err);
     Ok(Reply { status, out, err })
@@ -253,7 +253,7 @@ type Fault = (
 const VALID: &str =
     "answer,1,general,optimal\nvalue,3,2\ntable,1\nlottery,low,1,0\nlottery,high,0,1\npay,low,0\npay,high,3\nbound,2\nrow,1,0,1\nrow,2,0,3\nrow,3,0,1\nrow,5,0,6\nend\n";
 
-static FAULTS: [Fault; 14] = [
+static FAULTS: [Fault; 20] = [
     (
         &["audit", "setting", "second"],
         VALID,
@@ -367,6 +367,58 @@ static FAULTS: [Fault; 14] = [
         "",
     ),
     (&["solve", "setting"], "", 1, 1, 3, 71, "", "mec"),
+    (
+        &["run", "setting", "second", "high", "0", "0"],
+        VALID,
+        1,
+        0,
+        0,
+        70,
+        "",
+        "mechdes: read fault\n",
+    ),
+    (
+        &["run", "setting", "second", "high", "0", "0"],
+        VALID,
+        2,
+        0,
+        0,
+        70,
+        "",
+        "mechdes: read fault\n",
+    ),
+    (
+        &["run", "setting", "second", "high", "0", "0"],
+        VALID,
+        0,
+        1,
+        9,
+        71,
+        "outcome,s",
+        "",
+    ),
+    // No file is read, so that no read can fail.
+    (
+        &["make", "1000000"],
+        "",
+        1,
+        0,
+        0,
+        67,
+        "",
+        "mechdes: number refused\n",
+    ),
+    (&["make", "2"], "", 1, 1, 0, 71, "", ""),
+    (
+        &["drill", "1"],
+        "",
+        1,
+        1,
+        30,
+        71,
+        "drill,1,auction,optimal,727535",
+        "",
+    ),
 ];
 
 #[test]

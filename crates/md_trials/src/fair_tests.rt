@@ -1,8 +1,8 @@
 //! The fairest mechanisms of settings, over files in memory. What each has is worked out by hand.
-use crate::mechdes;
 use crate::test_settings::{OUT_OF_REACH, POSTED_PRICE_FRONT, TAKING, TWO_BIDDERS, WELFARE_VOTE};
 use crate::tests::words;
 use md_ports::{MemShelf, MemSink};
+use md_top::mechdes;
 use std::test::Fail;
 
 // A setting by its front and its end, the width, the status, what is printed, and what is said on the other stream.

@@ -1,0 +1,21 @@
+//! The commands tried over files in memory: their texts and statuses, with expected values from outside.
+//!
+//! There is nothing here but tests. They stand apart from the crate of the commands, so that this one is proved once.
+#![tactic(auto)]
+
+#[cfg(test)]
+mod auction_tests;
+#[cfg(test)]
+mod drawing_tests;
+#[cfg(test)]
+mod fair_tests;
+#[cfg(test)]
+mod number_tests;
+#[cfg(test)]
+mod realising_tests;
+#[cfg(test)]
+mod solving_tests;
+#[cfg(test)]
+mod test_settings;
+#[cfg(test)]
+mod tests;
