@@ -1,5 +1,6 @@
 //! Auctions solved, their answers checked after they were written, their reduced programs listed and pivots carried out on
 //! them, over files in memory.
+use crate::calls::{ONE_BUYER, ONE_BUYER_ANSWER};
 use crate::solving_tests::carried_out;
 use crate::test_settings::{THREE_BIDDERS, TWO_BIDDERS};
 use std::test::Fail;
@@ -46,13 +47,6 @@ static MEANT: [(&str, &str, &str); 6] = [
         ",optimal\nvalue,7,4\n",
     ),
 ];
-
-// One bidder with the value 1 or 3. The item is worth 2 where it is kept.
-const ONE_BUYER: &str =
-    "format = \"mechanism-setting\"\nversion = 1\nkind = \"auction\"\nbidders = 1\nvalues = [1, 3]\nweights = [1, 1]\nkeep = 2\n";
-
-const ONE_BUYER_ANSWER: &str =
-    "answer,1,auction,optimal\nvalue,5,2\ninterim,1\nodds,0,1\npays,0,3\nmass,0,1,0,1\nmass,1,0,0,0\ncut,1\ncut,2\nbound,1\nrow,2,0,1\nrow,3,0,1\nrow,5,0,1\nend\n";
 
 // The words, the setting, the second file, the status, what is printed or how it begins, and what is said.
 type Case = (

@@ -6,9 +6,19 @@
 #[cfg(test)]
 mod auction_tests;
 #[cfg(test)]
+mod calls;
+#[cfg(test)]
 mod drawing_tests;
 #[cfg(test)]
+mod early_ends;
+#[cfg(test)]
+mod failing;
+#[cfg(test)]
 mod fair_tests;
+#[cfg(test)]
+mod forged;
+#[cfg(test)]
+mod limits;
 #[cfg(test)]
 mod number_tests;
 #[cfg(test)]

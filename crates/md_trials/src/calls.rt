@@ -1,0 +1,156 @@
+//! One call of each command over files in memory, with what it says. What is printed is worked out by hand, but for the long
+//! texts, of which the begin stands here.
+use crate::test_settings::{ONE_TYPE, OUT_OF_REACH, POSTED_PRICE, TWO_BIDDERS, VOTE};
+use md_ports::MemShelf;
+use std::alloc::{AllocError, Global};
+
+/// A call: its words, how many files it reads, its status, and how what it says begins.
+pub(crate) type Call = (&'static [&'static str], u32, u8, &'static str);
+
+/// One bidder with the value 1 or 3. The item is worth 2 where it is kept.
+pub(crate) const ONE_BUYER: &str =
+    "format = \"mechanism-setting\"\nversion = 1\nkind = \"auction\"\nbidders = 1\nvalues = [1, 3]\nweights = [1, 1]\nkeep = 2\n";
+
+/// The item is sold at 3. It brings 3 in one of two profiles, and 2 in the other.
+pub(crate) const ONE_BUYER_ANSWER: &str =
+    "answer,1,auction,optimal\nvalue,5,2\ninterim,1\nodds,0,1\npays,0,3\nmass,0,1,0,1\nmass,1,0,0,0\ncut,1\ncut,2\nbound,1\nrow,2,0,1\nrow,3,0,1\nrow,5,0,1\nend\n";
+
+/// The item is sold at 3, and brings that in one of two profiles.
+pub(crate) const POSTED_PRICE_ANSWER: &str =
+    "answer,1,general,optimal\nvalue,3,2\ntable,1\nlottery,low,1,0\nlottery,high,0,1\npay,low,0\npay,high,3\nbound,2\nrow,1,0,1\nrow,2,0,3\nrow,3,0,1\nrow,5,0,6\nend\n";
+
+/// The price is above the buyer's value.
+pub(crate) const PRICE_ABOVE_VALUE: &str =
+    "answer,1,general,table\ntable,1\nlottery,low,1,0\nlottery,high,0,1\npay,low,0\npay,high,4\nend\n";
+
+/// The first voter decides.
+pub(crate) const FIRST_VOTER: &str =
+    "answer,1,general,table\ntable,1\nlottery,l,l,1,0\nlottery,l,r,1,0\nlottery,r,l,0,1\nlottery,r,r,0,1\nend\n";
+
+const ONE_TYPE_TABLE: &str = "answer,1,general,table\ntable,1\nlottery,t,1\nend\n";
+
+const PIVOTS: &str = "pivot,4,0\npivot,1,1\nend\n";
+
+const HIGHER_VALUE: &str = "interim,4\nodds,0,3\nend\n";
+
+const ALWAYS: &str = "interim,1\nodds,1,1\nend\n";
+
+static FILES: [(&str, &str); 14] = [
+    ("one", ONE_TYPE),
+    ("one-table", ONE_TYPE_TABLE),
+    ("price", POSTED_PRICE),
+    ("price-answer", POSTED_PRICE_ANSWER),
+    ("above", PRICE_ABOVE_VALUE),
+    ("pivots", PIVOTS),
+    ("vote", VOTE),
+    ("first", FIRST_VOTER),
+    ("reach", OUT_OF_REACH),
+    ("buyer", ONE_BUYER),
+    ("buyer-answer", ONE_BUYER_ANSWER),
+    ("bidders", TWO_BIDDERS),
+    ("higher", HIGHER_VALUE),
+    ("always", ALWAYS),
+];
+
+/// The calls. The last ones are refused.
+pub(crate) static CALLS: [Call; 25] = [
+    (&["audit", "one", "one-table"], 2, 0, "admissible\n"),
+    (
+        &["audit", "price", "above"],
+        2,
+        20,
+        "broken,truth/buyer/high/low/high,-1,0\n",
+    ),
+    (&["check", "price", "price-answer"], 2, 0, "valid\n"),
+    (&["check", "buyer", "buyer-answer"], 2, 0, "valid\n"),
+    (&["solve", "price"], 1, 0, POSTED_PRICE_ANSWER),
+    (&["solve", "buyer"], 1, 0, ONE_BUYER_ANSWER),
+    (
+        &["solve", "reach"],
+        1,
+        10,
+        "answer,1,general,infeasible\nrow,0,1\nend\n",
+    ),
+    (
+        &["fair", "reach"],
+        1,
+        10,
+        "answer,1,fair,infeasible\nrow,0,1\nend\n",
+    ),
+    (
+        &["rows", "reach"],
+        1,
+        0,
+        "program,1,2\ncost\nrow,0,rational/a/t,atmost,-1\nrow,1,profile/t,exact,1,0,1\nend\n",
+    ),
+    (&["rows", "buyer"], 1, 0, "program,6,6\ncost,0,-2,1,-2,"),
+    (&["replay", "price", "pivots"], 2, 0, "basis,0,1,4\n"),
+    (
+        &["realise", "bidders", "higher"],
+        2,
+        0,
+        "realise,4\nmass,0,2,0,4\nmass,1,1,0,8\nmass,2,0,0,0\nend\n",
+    ),
+    (&["realise", "bidders", "always"], 2, 21, "violated,3,4,1\n"),
+    (
+        &["run", "vote", "first", "r,l", "0", "0"],
+        2,
+        0,
+        "outcome,b\n",
+    ),
+    (
+        &["run", "price", "price-answer", "high", "0", "0"],
+        2,
+        0,
+        "outcome,sell\npays,1,3\n",
+    ),
+    (
+        &["run", "buyer", "buyer-answer", "3", "0", "0"],
+        2,
+        0,
+        "outcome,1\npays,1,3\n",
+    ),
+    (&["make", "2"], 0, 0, "format = \"mechanism-setting\"\n"),
+    (&["drill", "2"], 0, 0, "drill,2,general,optimal,"),
+    (&["solve"], 0, 64, "mechdes: usage\n"),
+    (&["make", "1000000"], 0, 67, "mechdes: number refused\n"),
+    (
+        &["run", "vote", "first", "r,m", "0", "0"],
+        2,
+        67,
+        "mechdes: profile refused\n",
+    ),
+    (
+        &["audit", "buyer", "buyer-answer"],
+        1,
+        65,
+        "mechdes: setting refused: other kind\n",
+    ),
+    (
+        &["solve", "pivots"],
+        1,
+        65,
+        "mechdes: setting refused: not toml\n",
+    ),
+    (
+        &["check", "price", "pivots"],
+        2,
+        66,
+        "mechdes: answer refused: line 1: record\n",
+    ),
+    (
+        &["replay", "price", "one-table"],
+        2,
+        66,
+        "mechdes: answer refused: line 1: record\n",
+    ),
+];
+
+/// The files of all calls.
+pub(crate) fn shelf(alloc: Global) -> Result<MemShelf, AllocError> {
+    let mut shelf = MemShelf::new(alloc);
+    for (name, text) in &FILES {
+        shelf.put(name, text.as_bytes())?;
+    }
+    Ok(shelf)
+}
