@@ -4,6 +4,7 @@
 //! quotes belongs to its field, records may have different lengths, and there is no header row.
 #![tactic(auto)]
 
+mod ahead;
 mod record;
 mod records;
 mod row;

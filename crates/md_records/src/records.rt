@@ -4,6 +4,7 @@ ghost use Rattle.std.specs.Prelude.{◌≡◌, [], ◌∷◌, ◌≤◌, length,
 ghost use Rattle.md_records.specs.Text.{records_of};
 
 use crate::Record;
+use crate::ahead::fields_ahead;
 use csv::{ByteRecord, Reader, ReaderBuilder};
 use md_num::NoMemory;
 use std::alloc::Global;
@@ -13,6 +14,7 @@ use std::marker::Model;
 #[derive(Drop)]
 pub struct Records<'a> {
     alloc: Global,
+    text: &'a [u8],
     reader: Reader<&'a [u8]>,
     ended: bool,
 }
@@ -40,6 +42,7 @@ impl<'a> Records<'a> {
             .from_reader(alloc, text);
         Records {
             alloc,
+            text,
             reader,
             ended: false,
         }
@@ -53,7 +56,7 @@ impl<'a> Records<'a> {
         if self.ended {
             return Ok(None);
         }
-        let mut fields = ByteRecord::new(self.alloc);
+        let mut fields = self.room();
         match self.reader.read_byte_record(&mut fields) {
             Ok(true) => Ok(Some(Record { fields })),
             Ok(false) => {
@@ -65,5 +68,14 @@ impl<'a> Records<'a> {
                 Err(NoMemory)
             }
         }
+    }
+
+    // A record with no field yet, and with room for those of the next one where there is memory for it. A record that
+    // grows takes twice the room that it had, beside that of before: too much where one record is the whole text.
+    fn room(&self) -> ByteRecord {
+        let start = usize::try_from(self.reader.position().byte()).unwrap_or(usize::MAX);
+        let ahead = self.text.get(start..).unwrap_or_default();
+        ByteRecord::with_capacity(self.alloc, 0, fields_ahead(ahead))
+            .unwrap_or(ByteRecord::new(self.alloc))
     }
 }
