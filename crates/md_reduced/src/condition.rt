@@ -10,7 +10,7 @@ use md_setting::Auction;
 
 /// A condition, each with a row in the reduced program.
 #[derive(Clone, Copy, Debug, PartialEq, Eq)]
-pub(crate) enum ReducedCondition {
+pub enum ReducedCondition {
     /// That a bidder with a value does not gain by telling another one.
     Truth {
         /// The kind of its value.
@@ -40,7 +40,7 @@ pub fn row_count(auction: &Auction, cuts: &Sets) -> u32
 }
 
 /// The condition of a row. It takes no memory.
-pub(crate) fn condition_at(auction: &Auction, cuts: &Sets, row: u32) -> ReducedCondition
+pub fn condition_at(auction: &Auction, cuts: &Sets, row: u32) -> ReducedCondition
     requires cuts { AreCuts (value_count auction.now) cuts.now }
     requires row { row < length (conditions_of (value_count auction.now) cuts.now) }
     ensures { IsAt (value_count auction.now) (conditions_of (value_count auction.now) cuts.now) row result }

@@ -10,7 +10,7 @@ mod reduced;
 mod rows;
 mod terms;
 
-pub use condition::row_count;
+pub use condition::{ReducedCondition, condition_at, row_count};
 pub use interim::interim_of;
 pub use names::row_name;
 pub use reduced::program;
