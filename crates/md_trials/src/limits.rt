@@ -22,7 +22,7 @@ type Limit = (
 const GENERAL: &str =
     "format = \"mechanism-setting\"\nversion = 1\nkind = \"general\"\ntruth = \"dominant\"\nrational = \"none\"\npayments = false\noutcomes = [\"only\"]\n";
 
-static GENERAL_LIMITS: [Limit; 16] = [
+static GENERAL_LIMITS: [Limit; 19] = [
     (
         "[[agent]]\nname = \"a\"\ntypes = [\"t\"]\nweights = [1]\nutility = [[",
         "]]\n",
@@ -135,6 +135,28 @@ static GENERAL_LIMITS: [Limit; 16] = [
         "999999",
         "1000000",
         "weight total",
+    ),
+    // Names of 32 and of 33 bytes, and of one and of none.
+    (
+        "[[agent]]\ntypes = [\"t\"]\nweights = [1]\nutility = [[0]]\nname = \"",
+        "\"\n",
+        "an_agent_whose_name_has_32_bytes",
+        "an_agent_whose_name_has_33_bytes_",
+        "bad name",
+    ),
+    (
+        "[[agent]]\nname = \"a\"\nweights = [1]\nutility = [[0]]\ntypes = [\"",
+        "\"]\n",
+        "a_type_of_which_the_name_has_32b",
+        "a_type_of_which_the_name_has_33b_",
+        "bad name",
+    ),
+    (
+        "[[agent]]\nname = \"a\"\nweights = [1]\nutility = [[0]]\ntypes = [\"",
+        "\"]\n",
+        "t",
+        "",
+        "bad name",
     ),
 ];
 
