@@ -75,7 +75,7 @@ impl<'a> Records<'a> {
     fn room(&self) -> ByteRecord {
         let start = usize::try_from(self.reader.position().byte()).unwrap_or(usize::MAX);
         let ahead = self.text.get(start..).unwrap_or_default();
-        ByteRecord::with_capacity(self.alloc, 0, fields_ahead(ahead))
-            .unwrap_or(ByteRecord::new(self.alloc))
+        let none = ByteRecord::new(self.alloc);
+        ByteRecord::with_capacity(self.alloc, 0, fields_ahead(ahead)).unwrap_or(none)
     }
 }
