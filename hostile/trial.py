@@ -31,6 +31,8 @@ CALLS = [
     "realise two-bidders.toml two-bidders-odds-too-often.csv",
     "run two-goods.toml two-goods-answer.csv v3_3 0 0",
     "run auction-single.toml auction-single-answer.csv 8 0 0",
+    "report bilateral-trade.toml bilateral-trade-answer.csv",
+    "report auction-single.toml auction-single-answer.csv",
     "make 1",
     "make 2",
     "drill 1",

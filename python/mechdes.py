@@ -19,8 +19,8 @@ import pathlib
 import tomllib
 from fractions import Fraction
 
-__all__ = ["Answer", "Ended", "audit", "call", "check", "drill", "fair", "make", "read", "realise", "replay", "rows", "run",
-           "solve", "solve_all"]
+__all__ = ["Answer", "Ended", "audit", "call", "check", "drill", "fair", "make", "read", "realise", "replay", "report", "rows",
+           "run", "solve", "solve_all"]
 
 
 class Ended(Exception):
@@ -123,6 +123,11 @@ def run(setting, answer, profile, first, second=0):
     """The outcome that two draws give at a profile of reports, a list of names or values."""
     words = ["run", "setting", "answer", ",".join(map(str, profile)), str(first), str(second)]
     return _text({0}, words, setting, answer)
+
+
+def report(setting, answer):
+    """What the mechanism of an answer does, and how far it is from truthful, as records."""
+    return _text({0}, ["report", "setting", "answer"], setting, answer)
 
 
 def make(number):

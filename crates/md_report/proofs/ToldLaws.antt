@@ -49,7 +49,7 @@ ex_post-length s i = singles (profile_count (sizes_of s)) (λ r. ex_post_row i (
 pub interim-length : (s : GeneralSetting) (i : ℕ) → length (rational_of Interim s i) ≡ slice_index (sizes_of s) i
 interim-length s i = singles (slice_index (sizes_of s) i) (interim_row i)
 
-no-false_report : (a n : ℕ) → 0 < a → 0 < n → (a * (n - 1) ≡ 0) ↔ (n ≡ 1)
+pub no-false_report : (a n : ℕ) → 0 < a → 0 < n → (a * (n - 1) ≡ 0) ↔ (n ≡ 1)
 no-false_report a (suc zero) p q = ((λ _. refl), (λ _. omega arith))
 no-false_report a (suc (suc n)) p q = ((λ e. absurd (let some : 0 < a * (suc (suc n) - 1) = mul-pos p (omega arith) in omega (arith, e))), (λ e. absurd (omega (arith, e))))
 no-false_report a zero p q = absurd (omega (arith, q))
@@ -71,10 +71,10 @@ rational-none Interim s i shaped h = ((λ e. absurd (let some = types-some s i s
 
 -- ---- what is told is told where there is a condition
 
-some-rows : {X : Type 0} (rows : List X) (k : ℕ) (x : X) → slice_get rows k ≡ Some x → length rows ≡ 0 → ⊥
+pub some-rows : {X : Type 0} (rows : List X) (k : ℕ) (x : X) → slice_get rows k ≡ Some x → length rows ≡ 0 → ⊥
 some-rows rows k x e none = (let l : k < length rows = slice_get_within rows k x e in omega (arith, l, none))
 
-nil-length : {X : Type 0} (rows : List X) → rows ≡ [] → length rows ≡ 0
+pub nil-length : {X : Type 0} (rows : List X) → rows ≡ [] → length rows ≡ 0
 nil-length rows e = ap length e
 
 told-where : (s : GeneralSetting) (m : Mechanism) (rows : List Condition) (told : Option Worst) → IsWorstOf s m rows told → IsNone told ↔ (length rows ≡ 0)
@@ -109,7 +109,7 @@ deficit-about : (s : GeneralSetting) (m : Mechanism) (told : Option Deficit) →
 deficit-about s m None off = tt
 deficit-about s m (Some deficit) (on, is) = is.rank.inside
 
-tight-row : (n r : ℕ) (b : Bool) → r < n → All (λ x. x < n) (if b then r ∷ [] else [])
+pub tight-row : (n r : ℕ) (b : Bool) → r < n → All (λ x. x < n) (if b then r ∷ [] else [])
 tight-row n r true h = all-one (λ x. x < n) r h
 tight-row n r false h = All-nil (λ x. x < n)
 

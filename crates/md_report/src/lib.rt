@@ -22,10 +22,11 @@ mod worst_records;
 mod worst_rows;
 
 pub use deficit::Deficit;
-pub use records::report_text;
+pub use records::{number_record, report_text};
 pub use report::Report;
 pub use type_numbers::TypeNumbers;
 pub use worst::Worst;
+pub use worst_records::with_fraction;
 
 #[cfg(test)]
 mod tests;

@@ -50,7 +50,8 @@ fn heads(alloc: Global, report: &Report) -> Result<Vec<Row>, NoMemory>
     Ok(rows)
 }
 
-fn number_record(alloc: Global, word: &[u8], value: Frac) -> Result<Row, NoMemory>
+/// A record of a word and a fraction.
+pub fn number_record(alloc: Global, word: &[u8], value: Frac) -> Result<Row, NoMemory>
     ensures { IfOk result (λ row. row ≡ number_record word.now value) }
 {
     let head = Row::new(alloc).with(word)?;

@@ -81,8 +81,8 @@ fn worst_record(alloc: Global, setting: &Setting, worst: &Worst) -> Result<Row, 
     with_fraction(head, worst.shortfall)
 }
 
-// A record with the numbers of a fraction at its end.
-pub(crate) fn with_fraction(fields: Row, value: Frac) -> Result<Row, NoMemory>
+/// A record with the numbers of a fraction at its end.
+pub fn with_fraction(fields: Row, value: Frac) -> Result<Row, NoMemory>
     ensures { IfOk result (λ row. row ≡ fields ++ fraction value) }
 {
     let begun = fields.with_number(value.num)?;

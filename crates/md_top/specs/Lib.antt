@@ -14,6 +14,7 @@ pub mod Replaying
 pub mod Realising
 pub mod Fair
 pub mod Drawing
+pub mod Reporting
 pub mod Numbers
 pub mod Making
 pub mod Drilling

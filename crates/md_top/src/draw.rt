@@ -61,8 +61,8 @@ impl TwoFiles for Draw<'_> {
     }
 }
 
-// An answer of which something can be drawn.
-fn drawable(answer: Answer) -> Result<Answer, Refusal>
+/// An answer of which something can be drawn: one with a mechanism.
+pub(crate) fn drawable(answer: Answer) -> Result<Answer, Refusal>
     ensures { MatchResult result (λ same. (same ≡ answer) × (has_table answer ≡ true)) (λ e. (e ≡ refusal.NoTable) × (has_table answer ≡ false)) }
 {
     if !has_table(&answer) {

@@ -17,6 +17,7 @@ mod read;
 mod realise;
 mod refusal;
 mod replay;
+mod report;
 mod rows;
 mod run;
 mod send;

@@ -15,6 +15,7 @@ use crate::one_file::of_one;
 use crate::realise::Realise;
 use crate::refusal::Refusal;
 use crate::replay::Replay;
+use crate::report::Tell;
 use crate::rows::Rows;
 use crate::solve::Solve;
 use crate::two_files::of_two;
@@ -56,6 +57,7 @@ pub(crate) fn run<F: Shelf>(
             };
             of_two(alloc, &draw, setting, second, shelf)
         }
+        Command::Report => of_two(alloc, &Tell, setting, second, shelf),
         Command::Make => of_none(alloc, &Make { number }),
         Command::Drill => of_none(alloc, &Drill { number }),
     }

@@ -24,6 +24,8 @@ mod number_tests;
 #[cfg(test)]
 mod realising_tests;
 #[cfg(test)]
+mod reporting_tests;
+#[cfg(test)]
 mod solving_tests;
 #[cfg(test)]
 mod test_settings;

@@ -23,6 +23,8 @@ pub enum Command {
     Fair,
     /// `run SETTING ANSWER PROFILE DRAW1 DRAW2` draws an outcome of an answer at a profile of reports.
     Run,
+    /// `report SETTING ANSWER` tells what the mechanism of an answer does, and how far it is from truthful.
+    Report,
     /// `make NUMBER` prints the setting that a number stands for.
     Make,
     /// `drill NUMBER` solves the setting that a number stands for, and checks the answer.
@@ -49,6 +51,7 @@ fn named(word: &str) -> Option<Command>
         "realise" => Some(Command::Realise),
         "fair" => Some(Command::Fair),
         "run" => Some(Command::Run),
+        "report" => Some(Command::Report),
         "make" => Some(Command::Make),
         "drill" => Some(Command::Drill),
         _ => None,
@@ -62,7 +65,7 @@ pub(crate) fn form(command: Command) -> Form
     match command {
         Command::Rows => Form::One,
         Command::Solve | Command::Fair => Form::OneWidth,
-        Command::Audit | Command::Check | Command::Realise => Form::Two,
+        Command::Audit | Command::Check | Command::Realise | Command::Report => Form::Two,
         Command::Replay => Form::TwoWidth,
         Command::Run => Form::Draws,
         Command::Make | Command::Drill => Form::Number,

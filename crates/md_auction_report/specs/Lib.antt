@@ -1,0 +1,11 @@
+pub mod Utility
+pub mod Amounts
+pub mod Averages
+pub mod Shortfalls
+pub mod Greatest
+pub mod Tight
+pub mod Types
+pub mod ReportOf
+pub mod Admissible
+pub mod Tellable
+pub mod Records
