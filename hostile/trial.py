@@ -33,6 +33,7 @@ CALLS = [
     "run auction-single.toml auction-single-answer.csv 8 0 0",
     "report bilateral-trade.toml bilateral-trade-answer.csv",
     "report auction-single.toml auction-single-answer.csv",
+    "iron auction-single.toml",
     "make 1",
     "make 2",
     "drill 1",

@@ -19,8 +19,8 @@ import pathlib
 import tomllib
 from fractions import Fraction
 
-__all__ = ["Answer", "Ended", "audit", "call", "check", "drill", "fair", "make", "read", "realise", "replay", "report", "rows",
-           "run", "solve", "solve_all"]
+__all__ = ["Answer", "Ended", "audit", "call", "check", "drill", "fair", "iron", "make", "read", "realise", "replay", "report",
+           "rows", "run", "solve", "solve_all"]
 
 
 class Ended(Exception):
@@ -107,6 +107,11 @@ def rows(setting):
 def fair(setting, width=62):
     """The mechanism under which the agent that gets least gets most."""
     return _text({0, 10, 11, 12}, ["fair", "setting", "--width", str(width)], setting)
+
+
+def iron(setting):
+    """An optimal mechanism of an auction in closed form; or undecided, where its multipliers are too long."""
+    return _text({0, 22}, ["iron", "setting"], setting)
 
 
 def replay(setting, pivots, width=62):

@@ -9,3 +9,4 @@ pub mod Promises
 pub mod VerdictRows
 pub mod Profiles
 pub mod Drilled
+pub mod Closed

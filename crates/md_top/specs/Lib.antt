@@ -15,6 +15,7 @@ pub mod Realising
 pub mod Fair
 pub mod Drawing
 pub mod Reporting
+pub mod Ironing
 pub mod Numbers
 pub mod Making
 pub mod Drilling

@@ -2,7 +2,7 @@
 use Rattle.std.specs.Prelude.{◌≡◌, ◌⊎◌, ℕ, List, Option, None, Some, IsSome}
 use Rattle.md_words.specs.Commands.{command_in}
 use Rattle.md_words.specs.declared.command.Command.{Command}
-use Rattle.md_words.specs.declared.command.Command.TheVariants.{Audit, Rows, Check, Solve, Replay, Realise, Fair, Run, Report, Make, Drill}
+use Rattle.md_words.specs.declared.command.Command.TheVariants.{Audit, Rows, Check, Solve, Replay, Realise, Fair, Run, Report, Iron, Make, Drill}
 use Rattle.md_words.specs.Words.{Order, command_of}
 use Rattle.md_mech.specs.declared.mechanism.Mechanism.{Mechanism}
 use Rattle.md_border.specs.declared.interim.Interim.{Interim}
@@ -23,6 +23,7 @@ use Rattle.md_top.specs.Realising.{odds_in, IsRealise, IsRealiseStatus}
 use Rattle.md_top.specs.Fair.{IsFair}
 use Rattle.md_top.specs.Drawing.{drawable_in, IsRun, IsRunStatus}
 use Rattle.md_top.specs.Reporting.{IsReporting, IsReportStatus}
+use Rattle.md_top.specs.Ironing.{IsIron, IsIronStatus}
 use Rattle.md_top.specs.Making.{IsMake, IsMakeStatus}
 use Rattle.md_top.specs.Drilling.{IsDrill, IsDrillStatus}
 
@@ -37,6 +38,7 @@ work_by Realise order = two_files Interim is_auction odds_in IsRealise IsRealise
 work_by Fair order = one_file is_general (IsFair order.width) IsSolveStatus
 work_by Run order = two_files Answer is_any drawable_in (IsRun order.profile order.first_draw order.second_draw) IsRunStatus
 work_by Report order = two_files Answer is_any drawable_in IsReporting IsReportStatus
+work_by Iron order = one_file is_auction IsIron IsIronStatus
 work_by Make order = no_file (IsMake order.number) IsMakeStatus
 work_by Drill order = no_file (IsDrill order.number) IsDrillStatus
 

@@ -9,6 +9,7 @@ mod draw;
 mod drill;
 mod fair;
 mod fair_text;
+mod iron;
 mod make;
 mod no_file;
 mod one_file;

@@ -9,6 +9,7 @@ use crate::check::Check;
 use crate::draw::Draw;
 use crate::drill::Drill;
 use crate::fair::Fair;
+use crate::iron::Iron;
 use crate::make::Make;
 use crate::no_file::of_none;
 use crate::one_file::of_one;
@@ -58,6 +59,7 @@ pub(crate) fn run<F: Shelf>(
             of_two(alloc, &draw, setting, second, shelf)
         }
         Command::Report => of_two(alloc, &Tell, setting, second, shelf),
+        Command::Iron => of_one(alloc, &Iron, setting, shelf),
         Command::Make => of_none(alloc, &Make { number }),
         Command::Drill => of_none(alloc, &Drill { number }),
     }

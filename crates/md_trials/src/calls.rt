@@ -53,7 +53,7 @@ static FILES: [(&str, &str); 14] = [
 ];
 
 /// The calls. The last ones are refused.
-pub(crate) static CALLS: [Call; 27] = [
+pub(crate) static CALLS: [Call; 28] = [
     (&["audit", "one", "one-table"], 2, 0, "admissible\n"),
     (
         &["audit", "price", "above"],
@@ -112,6 +112,12 @@ pub(crate) static CALLS: [Call; 27] = [
     ),
     (&["report", "price", "above"], 2, 0, "value,2,1\n"),
     (&["report", "buyer", "buyer-answer"], 2, 0, "value,5,2\n"),
+    (
+        &["iron", "buyer"],
+        1,
+        0,
+        "answer,1,auction,optimal\nvalue,5,2\n",
+    ),
     (&["make", "2"], 0, 0, "format = \"mechanism-setting\"\n"),
     (&["drill", "2"], 0, 0, "drill,2,general,optimal,"),
     (&["solve"], 0, 64, "mechdes: usage\n"),

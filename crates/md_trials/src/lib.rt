@@ -18,6 +18,8 @@ mod fair_tests;
 #[cfg(test)]
 mod forged;
 #[cfg(test)]
+mod ironing_tests;
+#[cfg(test)]
 mod limits;
 #[cfg(test)]
 mod number_tests;

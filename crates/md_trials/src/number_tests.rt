@@ -80,6 +80,24 @@ fn made_settings_are_read_back_and_solved(rt: HostRuntime) -> Result<(), Fail> {
     Ok(())
 }
 
+// `iron` gives the auctions among them the same values.
+#[test]
+fn made_auctions_have_these_values_in_closed_form(rt: HostRuntime) -> Result<(), Fail> {
+    let alloc = rt.alloc();
+    for (number, kind, value) in &VALUES {
+        let made = carried_out(alloc, &["make", number], "", b"")?;
+        let answer = carried_out(alloc, &["iron", "second"], "", made.out.bytes())?;
+        let printed = format!(in alloc; "answer,1,auction,optimal\nvalue,{value}\n")?;
+        let holds = if *kind == "auction" {
+            answer.out.bytes().starts_with(printed.as_bytes())
+        } else {
+            answer.status == 65
+        };
+        assert!(rt; holds, "at {number}");
+    }
+    Ok(())
+}
+
 // The draws of 1 are 149, 11249, 57305, 38044, 35283 and 24819 for the values, and 26463, 18689, 25472, 9901, 21742 and
 // 57836 for the weights.
 #[test]

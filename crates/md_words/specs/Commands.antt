@@ -9,13 +9,14 @@
 --   fair SETTING [--width W]
 --   run SETTING ANSWER PROFILE DRAW1 DRAW2
 --   report SETTING ANSWER
+--   iron SETTING
 --   make NUMBER
 --   drill NUMBER
 use Rattle.std.specs.Prelude.{List, [], ◌∷◌, Option, Some, None, codes, if◌then◌else◌}
 use Rattle.std.specs.Str.{bytes_eq}
 use Rattle.clap.specs.Words.{Text}
 use Rattle.md_words.specs.declared.command.Command.{Command}
-use Rattle.md_words.specs.declared.command.Command.TheVariants.{Audit, Rows, Check, Solve, Replay, Realise, Fair, Run, Report, Make, Drill}
+use Rattle.md_words.specs.declared.command.Command.TheVariants.{Audit, Rows, Check, Solve, Replay, Realise, Fair, Run, Report, Iron, Make, Drill}
 use Rattle.md_words.specs.declared.form.Form.{Form}
 use Rattle.md_words.specs.declared.form.Form.TheVariants.{One, OneWidth, Two, TwoWidth, Draws, Number}
 
@@ -32,9 +33,10 @@ command_named word =
     else (if bytes_eq word (codes "fair") then Some Fair
     else (if bytes_eq word (codes "run") then Some Run
     else (if bytes_eq word (codes "report") then Some Report
+    else (if bytes_eq word (codes "iron") then Some Iron
     else (if bytes_eq word (codes "make") then Some Make
     else (if bytes_eq word (codes "drill") then Some Drill
-    else None))))))))))
+    else None)))))))))))
 
 -- the command that the first word names; none where there is no word, or it is no name
 abbrev pub command_in : List Text → Option Command
@@ -52,5 +54,6 @@ form_of Realise = Two
 form_of Fair = OneWidth
 form_of Run = Draws
 form_of Report = Two
+form_of Iron = One
 form_of Make = Number
 form_of Drill = Number

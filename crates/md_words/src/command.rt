@@ -25,6 +25,8 @@ pub enum Command {
     Run,
     /// `report SETTING ANSWER` tells what the mechanism of an answer does, and how far it is from truthful.
     Report,
+    /// `iron SETTING` gives an optimal mechanism of an auction in closed form.
+    Iron,
     /// `make NUMBER` prints the setting that a number stands for.
     Make,
     /// `drill NUMBER` solves the setting that a number stands for, and checks the answer.
@@ -52,6 +54,7 @@ fn named(word: &str) -> Option<Command>
         "fair" => Some(Command::Fair),
         "run" => Some(Command::Run),
         "report" => Some(Command::Report),
+        "iron" => Some(Command::Iron),
         "make" => Some(Command::Make),
         "drill" => Some(Command::Drill),
         _ => None,
@@ -63,7 +66,7 @@ pub(crate) fn form(command: Command) -> Form
     ensures { result ≡ form_of command }
 {
     match command {
-        Command::Rows => Form::One,
+        Command::Rows | Command::Iron => Form::One,
         Command::Solve | Command::Fair => Form::OneWidth,
         Command::Audit | Command::Check | Command::Realise | Command::Report => Form::Two,
         Command::Replay => Form::TwoWidth,

@@ -7,7 +7,7 @@ use std::test::Fail;
 // What words are expected to ask for: the command, the two names and the width; none where they are no command.
 type Expected = Option<(Command, &'static str, &'static str, u8)>;
 
-static CASES: [(&[&str], Expected); 38] = [
+static CASES: [(&[&str], Expected); 41] = [
     (&["audit", "a", "b"], Some((Command::Audit, "a", "b", 62))),
     (&["check", "a", "b"], Some((Command::Check, "a", "b", 62))),
     (&["rows", "a"], Some((Command::Rows, "a", "", 62))),
@@ -37,6 +37,9 @@ static CASES: [(&[&str], Expected); 38] = [
     ),
     (&["report", "a", "b"], Some((Command::Report, "a", "b", 62))),
     (&["report", "a"], None),
+    (&["iron", "a"], Some((Command::Iron, "a", "", 62))),
+    (&["iron"], None),
+    (&["iron", "a", "b"], None),
     (&["report", "a", "b", "--width", "4"], None),
     (&["fair", "a"], Some((Command::Fair, "a", "", 62))),
     (

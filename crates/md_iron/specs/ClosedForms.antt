@@ -1,0 +1,37 @@
+-- Optimal auctions in closed form (Myerson 1981): what is answered of one, and why nothing is.
+use Rattle.std.specs.Prelude.{◌≡◌, ℕ, List}
+use Rattle.md_num.specs.declared.frac.Frac.{Frac}
+use Rattle.md_setting.specs.Auction.{SymmetricAuction, value_count}
+use Rattle.md_border.specs.declared.interim.Interim.{Interim}
+use Rattle.md_border.specs.Worth.{IsWorthOf}
+use Rattle.md_expost.specs.declared.masses.Masses.{Masses}
+use Rattle.md_expost.specs.Implementing.{Implements}
+use Rattle.md_cert.specs.declared.bound.Bound.{Bound}
+use Rattle.md_virtual.specs.Pools.{Pools}
+use Rattle.md_virtual.specs.VirtualValues.{IsPooledAuction}
+use Rattle.md_virtual.specs.Odds.{interim_of}
+use Rattle.md_virtual.specs.Cuts.{cuts_of}
+use Rattle.md_answer.specs.declared.answer.Answer.{Answer}
+use Rattle.md_answer.specs.declared.answer.Answer.TheVariants.{AuctionOptimal}
+use Rattle.md_iron.specs.ShortBounds.{HasNoShortBound, IsClosedBound}
+
+-- the odds, the payments and the cuts are those of pools by virtual values, the value is theirs in least terms, the masses have
+-- the odds, and the multipliers are those of the pools
+pub record IsClosedForm (a : SymmetricAuction) (value : Frac) (interim : Interim) (masses : Masses) (cuts : List ℕ) (bound : Bound) : Type 0 where
+  pub pools : Pools
+  pub pooled : IsPooledAuction a pools
+  pub interim_is : interim ≡ interim_of a pools
+  pub value_is : IsWorthOf a interim value
+  pub implements : Implements a interim masses
+  pub cuts_are : cuts ≡ cuts_of (value_count a) pools
+  pub bound_is : IsClosedBound a pools bound
+
+abbrev pub IsClosedAnswer : SymmetricAuction → Answer → Type 0
+IsClosedAnswer a (AuctionOptimal value interim masses cuts bound) = IsClosedForm a value interim masses cuts bound
+IsClosedAnswer a _ = ⊥
+
+-- the multipliers of some pools by virtual values have more than 62 bits over each denominator
+pub record HasLongMultipliers (a : SymmetricAuction) : Type 0 where
+  pub pools : Pools
+  pub pooled : IsPooledAuction a pools
+  pub long : HasNoShortBound a pools

@@ -1,0 +1,6 @@
+pub mod Multiples
+pub mod Shares
+pub mod RowMultipliers
+pub mod ShortBounds
+pub mod ClosedForms
+pub mod Ironings

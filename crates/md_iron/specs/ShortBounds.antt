@@ -1,0 +1,32 @@
+-- Whether the multipliers that certify an auction which sells by pools have at most 62 bits over some denominator.
+use Rattle.std.specs.Prelude.{◌≡◌, ℕ, ◌-◌, ◌^◌, ◌<◌, ℤ, pos, length}
+use Rattle.md_math.specs.Lists.{number_at, list_to}
+use Rattle.md_math.specs.Sizes.{IsWithin}
+use Rattle.md_setting.specs.Auction.{SymmetricAuction, value_count}
+use Rattle.md_lp.specs.Program.{Program, row_count}
+use Rattle.md_cert.specs.declared.bound.Bound.{Bound}
+use Rattle.md_reduced.specs.ProgramOf.{IsReducedProgram}
+use Rattle.md_virtual.specs.Pools.{Pools}
+use Rattle.md_virtual.specs.Cuts.{cuts_of}
+use Rattle.md_ironed.specs.Multipliers.{AreMultipliers}
+
+-- the multipliers `main` over `over` of the rows are those that certify the pools, and all these numbers have at most 62 bits
+pub record AreShortMultipliers (a : SymmetricAuction) (pools : Pools) (p : Program) (divisor : ℕ → ℤ) (over : ℤ) (main : ℕ → ℤ) : Type 0 where
+  pub multipliers : AreMultipliers a pools p divisor over main
+  pub over_short : IsWithin (2 ^ 62 - 1) over
+  pub short : (r : ℕ) → r < row_count p → IsWithin (2 ^ 62 - 1) (main r)
+
+-- the bound has these multipliers, one for each row of the reduced program, and no face multipliers
+pub record IsClosedBound (a : SymmetricAuction) (pools : Pools) (bound : Bound) : Type 0 where
+  pub program : Program
+  pub is_program : IsReducedProgram a 1 (cuts_of (value_count a) pools) program
+  pub divisor : ℕ → ℤ
+  pub short : AreShortMultipliers a pools program divisor bound.den (number_at bound.main)
+  pub one_each : length bound.main ≡ row_count program
+  pub face_is : bound.face ≡ list_to (row_count program) (λ _. pos 0)
+
+-- there are no such multipliers, over whatever denominator
+pub record HasNoShortBound (a : SymmetricAuction) (pools : Pools) : Type 0 where
+  pub program : Program
+  pub is_program : IsReducedProgram a 1 (cuts_of (value_count a) pools) program
+  pub none : (divisor : ℕ → ℤ) (over : ℤ) (main : ℕ → ℤ) → ¬ AreShortMultipliers a pools program divisor over main

@@ -1,0 +1,11 @@
+//! What comes of the closed form of an auction.
+use md_answer::Answer;
+
+/// What comes of the closed form of an auction.
+#[derive(Debug, Drop)]
+pub enum Ironed {
+    /// An optimal mechanism with its value, and the multipliers that certify it.
+    Optimal(Answer),
+    /// The multipliers that certify it have more than 62 bits over each denominator.
+    Undecided,
+}

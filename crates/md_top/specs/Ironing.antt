@@ -1,0 +1,36 @@
+-- What `iron` says of an auction.
+use Rattle.std.specs.Prelude.{◌≡◌, ◌⊎◌, ℕ, List}
+use Rattle.md_setting.specs.Auction.{SymmetricAuction}
+use Rattle.md_setting.specs.declared.file.SettingFile.{SettingFile}
+use Rattle.md_setting.specs.declared.file.SettingFile.TheVariants.{General, Auction}
+use Rattle.md_iron.specs.ClosedForms.{HasLongMultipliers, IsClosedForm}
+use Rattle.md_top.specs.AuctionHeadline.{PrintsAuctionOptimal}
+use Rattle.md_top.specs.Saying.{Saying}
+use Rattle.md_top.specs.Verdicts.{undecided_text}
+
+-- an answer whose mechanism is optimal and which the checker finds valid, and it is that of the auction's pools
+pub record PrintsClosedForm (a : SymmetricAuction) (text : List ℕ) : Type 0 where
+  pub prints : PrintsAuctionOptimal a text
+  pub closed : IsClosedForm a prints.value prints.interim prints.masses prints.cuts prints.bound
+
+-- An answer with 0; or that nothing is answered with 22, and then the multipliers that certify the pools have more than 62 bits
+-- over each denominator.
+pub record IsClosed (a : SymmetricAuction) (saying : Saying) : Type 0 where
+  pub status : saying.status ≡ 0
+  pub shows : PrintsClosedForm a saying.text
+
+pub record IsUndecided (a : SymmetricAuction) (saying : Saying) : Type 0 where
+  pub status : saying.status ≡ 22
+  pub text : saying.text ≡ undecided_text
+  pub long : HasLongMultipliers a
+
+abbrev pub IsIroning : SymmetricAuction → Saying → Type 0
+IsIroning a saying = IsClosed a saying ⊎ IsUndecided a saying
+
+abbrev pub IsIron : SettingFile → Saying → Type 0
+IsIron (General s) saying = ⊥
+IsIron (Auction a) saying = IsIroning a saying
+
+-- the statuses of what is answered
+abbrev pub IsIronStatus : ℕ → Type 0
+IsIronStatus status = (status ≡ 0) ⊎ (status ≡ 22)

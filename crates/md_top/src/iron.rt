@@ -1,0 +1,53 @@
+//! The command `iron`: an optimal mechanism of an auction in closed form.
+ghost use Rattle.std.specs.Prelude.{◌≡◌, true, IfOk};
+ghost use Rattle.md_top.specs.Ironing.{IsIron, IsIronStatus};
+ghost use Rattle.md_top.specs.Reading.{is_auction};
+ghost use Rattle.md_top.specs.Saying.{said};
+
+use crate::answered::Answered;
+use crate::one_file::OneFile;
+use crate::refusal::Refusal;
+use crate::setting_file::is_auction;
+use md_answer::write_answer;
+use md_iron::{Ironed, iron};
+use md_num::NoMemory;
+use md_setting::SettingFile;
+use std::alloc::Global;
+
+/// `iron SETTING`
+#[derive(Drop)]
+pub(crate) struct Iron;
+
+impl OneFile for Iron {
+    ghost is_served = { is_auction };
+
+    ghost says = { λ _. IsIron };
+
+    ghost own = { IsIronStatus };
+
+    fn serves(&self, file: &SettingFile) -> bool {
+        is_auction(file)
+    }
+
+    fn answer(&self, alloc: Global, file: &SettingFile) -> Result<Answered, Refusal> {
+        Ok(ironed(alloc, file)?)
+    }
+}
+
+// The closed form of an auction, or that its multipliers are too long.
+fn ironed(alloc: Global, file: &SettingFile) -> Result<Answered, NoMemory>
+    requires { is_auction file.now ≡ true }
+    ensures iron { IfOk result (λ answered. IsIron file.now (said answered)) }
+    ensures status { IfOk result (λ answered. IsIronStatus answered.status) }
+{
+    match iron(alloc, file)? {
+        Ironed::Optimal(answer) => Ok(Answered {
+            status: 0,
+            text: write_answer(alloc, file, &answer)?,
+        }),
+        Ironed::Undecided => Ok(Answered {
+            status: 22,
+            text: b"undecided\n".to_vec(alloc)?,
+        }),
+    }
+}
