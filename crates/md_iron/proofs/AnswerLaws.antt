@@ -1,10 +1,9 @@
 -- An answer in closed form: its certificate, and its sizes.
-use Rattle.std.proofs.Common.{◌≡◌, ℕ, ◌+◌, ◌-◌, ◌*◌, ◌^◌, ◌<◌, ◌≤◌, ℤ, pos, ◌≤ℤ◌, ◌<ℤ◌, List, length, refl, sym, ap, ap₂, subst, ◌∙◌, arith}
+use Rattle.std.proofs.Common.{◌≡◌, ℕ, ◌-◌, ◌^◌, ◌<◌, ℤ, pos, ◌≤ℤ◌, ◌<ℤ◌, List, length, sym, ap, subst, ◌∙◌, arith}
 use Rattle.std.proofs.lemmas.Int.{ints}
 use Rattle.std.proofs.lemmas.List.{length-map}
-use Rattle.md_math.specs.Lists.{number_at, list_to}
-use Rattle.md_math.specs.Sizes.{IsWithin, AllWithin}
-use Rattle.md_math.specs.FirstFailure.{HoldsBelow}
+use Rattle.md_math.specs.Lists.{number_at}
+use Rattle.md_math.specs.Sizes.{IsWithin}
 use Rattle.md_math.proofs.Builders.{length-list_to, get_or-list_to}
 use Rattle.md_math.proofs.SizeLaws.{IsWithin-zero, IsWithin-wider}
 use Rattle.md_num.specs.declared.frac.Frac.{Frac}
@@ -12,7 +11,7 @@ use Rattle.md_setting.specs.Auction.{SymmetricAuction, value_count}
 use Rattle.md_setting.specs.AuctionShaped.{IsAuction}
 use Rattle.md_border.specs.declared.interim.Interim.{Interim}
 use Rattle.md_lp.specs.Cuts.{AreCuts}
-use Rattle.md_lp.specs.Program.{row_count}
+use Rattle.md_lp.specs.Program.{Program, row_count}
 use Rattle.md_border.specs.Odds.{IsInterim}
 use Rattle.md_expost.specs.declared.masses.Masses.{Masses}
 use Rattle.md_expost.specs.Masses.{AreMasses}
@@ -33,7 +32,7 @@ use Rattle.md_answer.specs.declared.answer.Answer.TheVariants.{AuctionOptimal}
 use Rattle.md_virtual.proofs.DemandLaws.{excess-none}
 use Rattle.md_ironed.proofs.Lists.{closed-certified}
 use Rattle.md_ironed.proofs.Printed.{printed-point}
-use Rattle.md_iron.specs.ShortBounds.{IsClosedBound}
+use Rattle.md_iron.specs.ShortBounds.{IsBoundIn, IsClosedBound}
 use Rattle.md_iron.proofs.BoundLaws.{rows-count}
 use Rattle.md_iron.proofs.ConditionRows.{condition_in, conditions-rows}
 
@@ -42,30 +41,30 @@ pub pools-border : (a : SymmetricAuction) (pools : Pools) (interim : Interim) �
 pools-border a pools interim shaped pooled e = subst (MeetsBorder a) (sym e) (record { none_over = λ set b. excess-none a pools shaped pooled set })
 
 -- the multipliers with the point of the pools are a certificate
-pub closed-certificate : (a : SymmetricAuction) (pools : Pools) (interim : Interim) (bound : Bound) → IsAuction a → IsPooledAuction a pools → interim ≡ interim_of a pools → (is : IsClosedBound a pools bound)
-    → Certified is.program (auction_certificate interim bound)
-closed-certificate a pools interim bound shaped pooled e is =
-    subst (λ i. Certified is.program (auction_certificate i bound)) (sym e)
-    (let closed = closed-certified a pools is.program is.divisor bound shaped pooled is.is_program is.short.multipliers none in
+pub closed-certificate : (a : SymmetricAuction) (pools : Pools) (p : Program) (interim : Interim) (bound : Bound) → IsAuction a → IsPooledAuction a pools → interim ≡ interim_of a pools → IsReducedProgram a 1 (cuts_of (value_count a) pools) p
+    → IsBoundIn a pools p bound → Certified p (auction_certificate interim bound)
+closed-certificate a pools p interim bound shaped pooled e program is =
+    subst (λ i. Certified p (auction_certificate i bound)) (sym e)
+    (let closed = closed-certified a pools p is.divisor bound shaped pooled program is.short.multipliers none in
     rw (printed-point a pools shaped pooled) closed)
   where
-    none : (r : ℕ) → r < row_count is.program → number_at bound.face r ≡ pos 0
-    none r b = ap (λ xs. number_at xs r) is.face_is ∙ get_or-list_to (row_count is.program) (λ _. pos 0) r (pos 0) b
+    none : (r : ℕ) → r < row_count p → number_at bound.face r ≡ pos 0
+    none r b = ap (λ xs. number_at xs r) is.face_is ∙ get_or-list_to (row_count p) (λ _. pos 0) r (pos 0) b
 
 -- its multipliers are as many as there are rows, and small
-pub closed-fits : (a : SymmetricAuction) (pools : Pools) (bound : Bound) (rows : ℕ) → (is : IsClosedBound a pools bound) → row_count is.program ≡ rows → IsBoundOver rows bound
-closed-fits a pools bound rows is count = record {
+pub closed-fits : (a : SymmetricAuction) (pools : Pools) (p : Program) (bound : Bound) (rows : ℕ) → IsBoundIn a pools p bound → row_count p ≡ rows → IsBoundOver rows bound
+closed-fits a pools p bound rows is count = record {
   den = record { positive = is.short.multipliers.positive; size = is.short.over_short };
   main = record {
     one_each = is.one_each ∙ count;
     sizes = record { at = λ k b. is.short.short k (omega (arith, b, is.one_each)) };
   };
   face = record {
-    one_each = ap length is.face_is ∙ length-list_to (row_count is.program) (λ _. pos 0) ∙ count;
+    one_each = ap length is.face_is ∙ length-list_to (row_count p) (λ _. pos 0) ∙ count;
     sizes = record {
       at = λ k b.
-          let inside : k < row_count is.program = omega (arith, b, ap length is.face_is, length-list_to (row_count is.program) (λ (i : ℕ). pos 0)) in
-          subst (IsWithin (2 ^ 62 - 1)) (sym (ap (λ xs. number_at xs k) is.face_is ∙ get_or-list_to (row_count is.program) (λ _. pos 0) k (pos 0) inside)) (IsWithin-zero (2 ^ 62 - 1));
+          let inside : k < row_count p = omega (arith, b, ap length is.face_is, length-list_to (row_count p) (λ (i : ℕ). pos 0)) in
+          subst (IsWithin (2 ^ 62 - 1)) (sym (ap (λ xs. number_at xs k) is.face_is ∙ get_or-list_to (row_count p) (λ _. pos 0) k (pos 0) inside)) (IsWithin-zero (2 ^ 62 - 1));
     };
   };
 }
@@ -84,7 +83,7 @@ closed-writable a pools value interim masses cuts bound is same above num den fi
   are,
   one_den,
   cut,
-  closed-fits a pools bound (length (conditions_of (value_count a) cuts)) is (count is.is_program),
+  closed-fits a pools is.program bound (length (conditions_of (value_count a) cuts)) (is.holds is.program is.is_program) (count is.is_program),
 )
   where
     one_from_positive : (z : ℤ) → pos 0 <ℤ z → pos 1 ≤ℤ z

@@ -1,10 +1,9 @@
 -- Multipliers over one denominator, from fractions for each row, and back.
-use Rattle.std.proofs.Common.{◌≡◌, ℕ, ◌-◌, ◌^◌, ◌<◌, ℤ, pos, ◌*ℤ◌, ◌<ℤ◌, List, length, map, get_or, Option, Some, None, Result, Ok, Err, IfOk, MatchOption, refl, sym, ap, subst, ◌∙◌, arith}
+use Rattle.std.proofs.Common.{◌≡◌, ℕ, ◌<◌, ℤ, pos, ◌*ℤ◌, ◌<ℤ◌, List, length, map, Option, Some, None, Result, Ok, Err, IfOk, MatchOption, sym, ap, subst, ◌∙◌, arith}
 use Rattle.std.specs.Prelude.{slice_get}
 use Rattle.std.proofs.lemmas.Option.{slice_get-get_or}
 use Rattle.std.proofs.lemmas.List.{length-map}
 use Rattle.md_math.specs.Lists.{number_at, list_to}
-use Rattle.md_math.specs.Sizes.{IsWithin}
 use Rattle.md_math.proofs.Order.{*ℤ_cancel}
 use Rattle.md_math.proofs.Ring.{ring}
 use Rattle.md_num.specs.declared.frac.Frac.{Frac}
@@ -12,20 +11,23 @@ use Rattle.md_num.specs.declared.no_memory.NoMemory.{NoMemory}
 use Rattle.md_setting.specs.Auction.{SymmetricAuction, value_count}
 use Rattle.md_setting.specs.AuctionShaped.{IsAuction}
 use Rattle.md_lp.specs.Program.{Program, row_count}
+use Rattle.md_lp.proofs.Dividing.{IsDivisorFor-same}
+use Rattle.md_forms.specs.Forms.{unit}
 use Rattle.md_forms.proofs.BuiltLaws as forms
+use Rattle.md_forms.proofs.OneProgram.{same_program}
 use Rattle.md_cert.specs.declared.bound.Bound.{Bound}
 use Rattle.md_reduced.specs.ProgramOf.{column_count, IsReducedProgram}
 use Rattle.md_reduced.specs.Sides.{cost_of}
 use Rattle.md_virtual.specs.Pools.{Pools}
 use Rattle.md_virtual.specs.Cuts.{cuts_of}
 use Rattle.md_virtual.specs.VirtualValues.{IsPooledAuction}
-use Rattle.md_ironed.specs.Rows.{ProgramRow, rows_of, row_form}
-use Rattle.md_ironed.specs.Multipliers.{multiplier_num, multiplier_den, AreMultipliers}
+use Rattle.md_ironed.specs.Rows.{rows_of, row_form}
+use Rattle.md_ironed.specs.Multipliers.{multiplier_num, multiplier_den}
 use Rattle.md_ironed.proofs.Certificates.{row_in, row-inside, factor-positive}
 use Rattle.md_ironed.proofs.Divisors.{row-below, divisor_of, divisor_of-divides}
 use Rattle.md_ironed.proofs.Fractions.{den-positive}
 use Rattle.md_ironed.proofs.ProgramForms.{is-program}
-use Rattle.md_iron.specs.RowMultipliers.{IsDividedBy, IsMultiplierOf, AreRowMultipliers}
+use Rattle.md_iron.specs.RowMultipliers.{IsDividedBy, AreRowMultipliers}
 use Rattle.md_iron.specs.Shares.{fraction_in, AreLeastFractions, AreOver}
 use Rattle.md_iron.specs.ShortBounds.{AreShortMultipliers, IsClosedBound, HasNoShortBound}
 
@@ -86,6 +88,23 @@ are-over a pools p divisor fractions over main shaped pooled is long rows h = re
   };
 }
 
+-- ---- any program of the same meaning
+
+same-short : (a : SymmetricAuction) (pools : Pools) (p q : Program) (divisor : ℕ → ℤ) (over : ℤ) (main : ℕ → ℤ) → IsReducedProgram a 1 (cuts_of (value_count a) pools) p → IsReducedProgram a 1 (cuts_of (value_count a) pools) q
+    → AreShortMultipliers a pools p divisor over main → AreShortMultipliers a pools q divisor over main
+same-short a pools p q divisor over main is its h =
+    let same = same_program (column_count a) (map (row_form a) (rows_of (value_count a) pools)) (cost_of a) p q (is-program a pools p is) (is-program a pools q its) in
+    let factor : p.factor ≡ q.factor = IsDivisorFor-same (column_count a) (λ j. cost_of a (unit j)) p.factor q.factor is.has_cost.factor its.has_cost.factor in
+    record {
+      multipliers = record {
+        positive = h.multipliers.positive;
+        divided = λ number s e. h.multipliers.divided number s e ∙ ap (λ z. divisor s *ℤ z) (same.rights number);
+        at = λ number row e. subst (λ f. main number *ℤ multiplier_den a pools f row ≡ over *ℤ multiplier_num a pools divisor row) factor (h.multipliers.at number row e);
+      };
+      over_short = h.over_short;
+      short = λ r b. h.short r (omega (arith, b, same.rows));
+    }
+
 -- ---- a bound, or none
 
 pub closed-bound : (a : SymmetricAuction) (pools : Pools) (p : Program) (fractions : List Frac) (bound : Bound) → IsAuction a → IsReducedProgram a 1 (cuts_of (value_count a) pools) p
@@ -94,10 +113,15 @@ pub closed-bound : (a : SymmetricAuction) (pools : Pools) (p : Program) (fractio
 closed-bound a pools p fractions bound shaped is least long rows over one_each face = record {
   program = p;
   is_program = is;
-  divisor = divisor_of a;
-  short = short-multipliers a pools p (divisor_of a) fractions bound.den (number_at bound.main) is least long rows (record { at = divisor_of-divides a pools p shaped is }) over;
-  one_each = one_each ∙ long;
-  face_is = face ∙ ap (λ n. list_to n (λ _. pos 0)) long;
+  holds = λ q its.
+      let same : length fractions ≡ row_count q = long ∙ rows-count a pools p is ∙ sym (rows-count a pools q its) in
+      record {
+        divisor = divisor_of a;
+        short = same-short a pools p q (divisor_of a) bound.den (number_at bound.main) is its
+            (short-multipliers a pools p (divisor_of a) fractions bound.den (number_at bound.main) is least long rows (record { at = divisor_of-divides a pools p shaped is }) over);
+        one_each = one_each ∙ same;
+        face_is = face ∙ ap (λ n. list_to n (λ _. pos 0)) same;
+      };
 }
 
 pub no-short-bound : (a : SymmetricAuction) (pools : Pools) (p : Program) (fractions : List Frac) → IsAuction a → IsPooledAuction a pools → IsReducedProgram a 1 (cuts_of (value_count a) pools) p → length fractions ≡ row_count p
@@ -105,7 +129,7 @@ pub no-short-bound : (a : SymmetricAuction) (pools : Pools) (p : Program) (fract
 no-short-bound a pools p fractions shaped pooled is long rows none = record {
   program = p;
   is_program = is;
-  none = λ divisor over main h. none over main (are-over a pools p divisor fractions over main shaped pooled is long rows h);
+  holds = λ q its divisor over main h. none over main (are-over a pools p divisor fractions over main shaped pooled is long rows (same-short a pools q p divisor over main its is h));
 }
 
 -- what is made of the fractions is such a bound, or says that there is none

@@ -1,9 +1,8 @@
 -- The conditions of the reduced program with the cuts of pools, and the rows that they are.
-use Rattle.std.proofs.Common.{◌≡◌, ℕ, ◌+◌, ◌-◌, ◌*◌, ◌^◌, ◌<◌, ◌≤◌, Bool, true, false, if◌then◌else◌, ℤ, pos, ◌*ℤ◌, ◌<ℤ◌, List, [], ◌∷◌, ◌++◌, length, map, Option, Some, None, inl, inr, refl, sym, ap, subst, ◌∙◌, arith, lit<}
+use Rattle.std.proofs.Common.{◌≡◌, ℕ, ◌^◌, ◌<◌, ◌≤◌, Bool, true, false, if◌then◌else◌, ℤ, pos, ◌*ℤ◌, ◌<ℤ◌, List, [], ◌∷◌, ◌++◌, map, Option, Some, None, inl, inr, refl, sym, ap, subst, ◌∙◌, arith}
 use Rattle.std.specs.Prelude.{slice_get, option_map}
 use Rattle.std.specs.Int.{trailing_zeros, bit_at, w32}
 use Rattle.std.proofs.lemmas.Bool.{cases_lt}
-use Rattle.std.proofs.lemmas.Int.{ints}
 use Rattle.std.proofs.lemmas.Nat.Bits.{bit_at-trailing_zeros, bit_at_mask_below, bit_at_mask_inside}
 use Rattle.std.proofs.lemmas.Option.{slice_get-map}
 use Rattle.std.proofs.Math.Nat.{pow-le-pow_right}
@@ -20,19 +19,18 @@ use Rattle.md_mech.specs.Rows.{by_report}
 use Rattle.md_num.specs.declared.frac.Frac.{Frac}
 use Rattle.md_lp.specs.Program.{Program, right_at}
 use Rattle.md_lp.proofs.Dividing.{IsDivisorFor-positive}
-use Rattle.md_forms.specs.Forms.{number_of}
 use Rattle.md_border.specs.Sides.{right_by_counts}
 use Rattle.md_reduced.specs.declared.condition.ReducedCondition.{ReducedCondition}
 use Rattle.md_reduced.specs.declared.condition.ReducedCondition.TheVariants.{Truth, Rational, Cut}
-use Rattle.md_reduced.specs.Conditions.{conditions_of, IsAt}
-use Rattle.md_reduced.specs.ProgramOf.{column_count, IsReducedProgram}
+use Rattle.md_reduced.specs.Conditions.{conditions_of}
+use Rattle.md_reduced.specs.ProgramOf.{IsReducedProgram}
 use Rattle.md_virtual.specs.Pools.{Pools}
 use Rattle.md_virtual.specs.Cuts.{begins, set_from, cuts_of}
-use Rattle.md_ironed.specs.Rows.{ProgramRow, truth_row, rational_row, cut_row, cut_rows, rows_of, row_right, row_form}
+use Rattle.md_ironed.specs.Rows.{ProgramRow, truth_row, rational_row, cut_row, cut_rows, rows_of, row_right}
 use Rattle.md_ironed.proofs.Divisors.{row-in, line-of, cut-right-positive}
 use Rattle.md_ironed.proofs.Lists.{map-cut_rows}
 use Rattle.md_ironed.proofs.ProgramForms.{map-parts}
-use Rattle.md_iron.specs.RowMultipliers.{IsDividedBy, IsMultiplierOf, IsMultiplierAt}
+use Rattle.md_iron.specs.RowMultipliers.{IsMultiplierOf, IsMultiplierAt}
 
 -- ---- all conditions
 

@@ -1,5 +1,5 @@
 -- Fractions in least terms over a denominator.
-use Rattle.std.proofs.Common.{◌≡◌, ℕ, ◌+◌, ◌-◌, ◌*◌, ◌^◌, ◌<◌, ◌≤◌, ℤ, pos, ◌*ℤ◌, ◌<ℤ◌, ◌⊎◌, unsigned_abs, List, [], ◌∷◌, ◌++◌, length, Option, Some, None, MatchOption, inl, inr, refl, sym, ap, ◌∙◌, subst, arith, to_z, of_z, lit<}
+use Rattle.std.proofs.Common.{◌≡◌, ℕ, ◌+◌, ◌-◌, ◌^◌, ◌<◌, ◌≤◌, ℤ, pos, ◌*ℤ◌, ◌<ℤ◌, ◌⊎◌, List, [], ◌∷◌, ◌++◌, length, Option, Some, None, MatchOption, inl, inr, sym, ap, ◌∙◌, subst, arith, to_z, of_z, lit<}
 use Rattle.std.proofs.lemmas.Int.{ints}
 use Rattle.std.proofs.lemmas.Bool.{cases_lt}
 use Rattle.std.proofs.lemmas.List.{get_or_append_left, get_or_push}
@@ -9,12 +9,12 @@ use mir.Syntax.{w128}
 use Rattle.md_math.proofs.Bits.{read_within}
 use Rattle.md_math.specs.Lists.{number_at}
 use Rattle.md_math.specs.Sizes.{IsWithin}
-use Rattle.md_math.specs.Divisors.{Divides, IsCommonDivisor, IsLeastTerms}
+use Rattle.md_math.specs.Divisors.{Divides, IsLeastTerms}
 use Rattle.md_math.proofs.Builders.{number_at-behind}
-use Rattle.md_math.proofs.Division.{Divides_refl, Divides_trans, Divides-*ℤ, Divides-int_div, Divides-from_product, one-Divides, quotient}
+use Rattle.md_math.proofs.Division.{Divides_trans, Divides-from_product, one-Divides, quotient}
 use Rattle.md_math.proofs.Gcds.{Divides-from_coprime}
 use Rattle.md_math.proofs.Order.{positive_from_*ℤ, *ℤ_cancel}
-use Rattle.md_math.proofs.Ring.{ring, *ℤ_left_comm}
+use Rattle.md_math.proofs.Ring.{ring}
 use Rattle.md_num.specs.declared.frac.Frac.{Frac}
 use Rattle.md_iron.specs.Multiples.{HasShortMultiple, IsMultipleOfTwo}
 use Rattle.md_iron.specs.Shares.{fraction_in, AreLeastFractions, AreOver, AreShares, IsDenominatorOf, IsLeastDenominatorOf, IsLeastFraction, IsShare}
@@ -113,11 +113,13 @@ IsShare-less fraction over q number least above divides is =
     let (share, whole) = quotient fraction.den over divides in
     let big : fraction.den *ℤ (share *ℤ q) ≡ over *ℤ q = (simp ring) ∙ ap (λ z. z *ℤ q) (sym whole) in
     let same : number ≡ (share *ℤ q) *ℤ fraction.num = share-same fraction (over *ℤ q) (share *ℤ q) number least big is.ratio in
-    let turned : number ≡ q *ℤ (share *ℤ fraction.num) = same ∙ (simp ring) in
-    (share *ℤ fraction.num, record {
-      ratio = share-ratio fraction over share (sym whole);
-      short = IsWithin-factor (2 ^ 62 - 1) q (share *ℤ fraction.num) above (subst (IsWithin (2 ^ 62 - 1)) turned is.short);
-    })
+    let turned : number ≡ q *ℤ (share *ℤ fraction.num) = same ∙ (simp ring) in (
+      share *ℤ fraction.num,
+      record {
+        ratio = share-ratio fraction over share (sym whole);
+        short = IsWithin-factor (2 ^ 62 - 1) q (share *ℤ fraction.num) above (subst (IsWithin (2 ^ 62 - 1)) turned is.short);
+      },
+    )
 
 lesser : (fractions : List Frac) (d q : ℤ) (numbers : ℕ → ℤ) → AreLeastFractions fractions → pos 0 <ℤ q → IsDenominatorOf (length fractions) fractions d → AreShares (length fractions) fractions (d *ℤ q) numbers → (k : ℕ)
     → (k < length fractions) ⊎ (length fractions ≤ k) → ℤ

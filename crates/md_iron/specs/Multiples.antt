@@ -1,5 +1,5 @@
 -- Common multiples of two numbers.
-use Rattle.std.specs.Prelude.{ℕ, ◌-◌, ◌^◌, ℤ, pos, ◌<ℤ◌}
+use Rattle.std.specs.Prelude.{◌-◌, ◌^◌, ℤ, pos, ◌<ℤ◌}
 use Rattle.md_math.specs.Divisors.{Divides}
 use Rattle.md_math.specs.Sizes.{IsWithin}
 

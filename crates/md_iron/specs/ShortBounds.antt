@@ -9,6 +9,7 @@ use Rattle.md_reduced.specs.ProgramOf.{IsReducedProgram}
 use Rattle.md_virtual.specs.Pools.{Pools}
 use Rattle.md_virtual.specs.Cuts.{cuts_of}
 use Rattle.md_ironed.specs.Multipliers.{AreMultipliers}
+use Rattle.md_check.specs.Programs.{OfProgram}
 
 -- the multipliers `main` over `over` of the rows are those that certify the pools, and all these numbers have at most 62 bits
 pub record AreShortMultipliers (a : SymmetricAuction) (pools : Pools) (p : Program) (divisor : ℕ → ℤ) (over : ℤ) (main : ℕ → ℤ) : Type 0 where
@@ -16,17 +17,18 @@ pub record AreShortMultipliers (a : SymmetricAuction) (pools : Pools) (p : Progr
   pub over_short : IsWithin (2 ^ 62 - 1) over
   pub short : (r : ℕ) → r < row_count p → IsWithin (2 ^ 62 - 1) (main r)
 
--- the bound has these multipliers, one for each row of the reduced program, and no face multipliers
-pub record IsClosedBound (a : SymmetricAuction) (pools : Pools) (bound : Bound) : Type 0 where
-  pub program : Program
-  pub is_program : IsReducedProgram a 1 (cuts_of (value_count a) pools) program
+-- the bound has these multipliers, one for each row of the program, and no face multipliers
+pub record IsBoundIn (a : SymmetricAuction) (pools : Pools) (p : Program) (bound : Bound) : Type 0 where
   pub divisor : ℕ → ℤ
-  pub short : AreShortMultipliers a pools program divisor bound.den (number_at bound.main)
-  pub one_each : length bound.main ≡ row_count program
-  pub face_is : bound.face ≡ list_to (row_count program) (λ _. pos 0)
+  pub short : AreShortMultipliers a pools p divisor bound.den (number_at bound.main)
+  pub one_each : length bound.main ≡ row_count p
+  pub face_is : bound.face ≡ list_to (row_count p) (λ _. pos 0)
 
--- there are no such multipliers, over whatever denominator
-pub record HasNoShortBound (a : SymmetricAuction) (pools : Pools) : Type 0 where
-  pub program : Program
-  pub is_program : IsReducedProgram a 1 (cuts_of (value_count a) pools) program
-  pub none : (divisor : ℕ → ℤ) (over : ℤ) (main : ℕ → ℤ) → ¬ AreShortMultipliers a pools program divisor over main
+-- so it is in the reduced program with the cuts of the pools
+abbrev pub IsClosedBound : SymmetricAuction → Pools → Bound → Type 0
+IsClosedBound a pools bound = OfProgram (IsReducedProgram a 1 (cuts_of (value_count a) pools)) (λ p. IsBoundIn a pools p bound)
+
+-- there are no such multipliers in it, over whatever denominator
+abbrev pub HasNoShortBound : SymmetricAuction → Pools → Type 0
+HasNoShortBound a pools =
+    OfProgram (IsReducedProgram a 1 (cuts_of (value_count a) pools)) (λ p. (divisor : ℕ → ℤ) (over : ℤ) (main : ℕ → ℤ) → ¬ AreShortMultipliers a pools p divisor over main)

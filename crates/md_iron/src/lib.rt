@@ -14,3 +14,6 @@ mod truth_rows;
 
 pub use ironed::Ironed;
 pub use ironing::iron;
+
+#[cfg(test)]
+mod tests;

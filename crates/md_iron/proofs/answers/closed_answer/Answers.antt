@@ -1,4 +1,3 @@
-use Rattle.std.proofs.Common.{◌≡◌, ap}
 use Rattle.md_pools.specs.Pooling.{pools_of}
 use Rattle.md_iron.proofs.AnswerLaws.{closed-writable, pools-border}
 use Rattle.md_iron.proofs.ShareLaws.{where-some}

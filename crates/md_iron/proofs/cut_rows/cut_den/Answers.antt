@@ -1,4 +1,4 @@
-use Rattle.std.proofs.Common.{◌≡◌, ◌*◌, ◌^◌, ◌<◌, pos, ◌*ℤ◌, ◌<ℤ◌, sym, subst, ◌∙◌, arith, lit<}
+use Rattle.std.proofs.Common.{◌*◌, ◌^◌, pos, ◌*ℤ◌, ◌<ℤ◌, sym, subst, arith, lit<}
 use Rattle.md_math.specs.Sizes.{IsWithin}
 use Rattle.md_math.proofs.Order.{positive-*ℤ}
 use Rattle.md_math.proofs.Readings.{IsRead, read, read_of, read_small, product_fits, product_is}

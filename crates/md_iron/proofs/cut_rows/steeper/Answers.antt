@@ -1,4 +1,4 @@
-use Rattle.std.proofs.Common.{◌≡◌, ◌+◌, ◌*◌, ◌^◌, ◌<◌, ◌≤◌, ◌-ℤ◌, ◌*ℤ◌, to_z, of_z, sym, ap₂, subst, ◌∙◌, arith, lit<}
+use Rattle.std.proofs.Common.{◌≡◌, ◌+◌, ◌*◌, ◌^◌, ◌-ℤ◌, ◌*ℤ◌, to_z, of_z, sym, ap₂, subst, ◌∙◌, arith, lit<}
 use mir.Syntax.{w128}
 use Rattle.md_math.specs.Sizes.{IsWithin}
 use Rattle.md_math.proofs.Bits.{read_result, read_within}

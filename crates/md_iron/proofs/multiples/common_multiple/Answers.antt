@@ -1,4 +1,4 @@
-use Rattle.std.proofs.Common.{◌-◌, ◌^◌, ◌*ℤ◌, refl}
+use Rattle.std.proofs.Common.{◌-◌, ◌^◌, ◌*ℤ◌}
 use Rattle.std.proofs.lemmas.Int.{to_z-of_z}
 use mir.Syntax.{w128}
 use Rattle.md_math.specs.Sizes.{IsWithin}

@@ -1,4 +1,4 @@
-use Rattle.std.proofs.Common.{to_z, ◌+◌, ◌-◌, ◌^◌, ◌<◌, length, subst, sym, arith, lit<}
+use Rattle.std.proofs.Common.{to_z, ◌-◌, ◌^◌, arith, lit<}
 use Rattle.std.proofs.lemmas.Int.{ints}
 use mir.Syntax.{w128}
 use Rattle.md_math.proofs.Bits.{read_within}

@@ -1,7 +1,6 @@
-use Rattle.std.proofs.Common.{◌≡◌, ◌-◌, ◌^◌, ◌*ℤ◌, sym}
+use Rattle.std.proofs.Common.{sym}
 use Rattle.std.proofs.lemmas.Int.{to_z-of_z}
 use mir.Syntax.{w128}
-use Rattle.md_math.specs.Sizes.{IsWithin}
 use Rattle.md_math.proofs.Bits.{read_result}
 use Rattle.md_math.proofs.Division.{quotient}
 use Rattle.md_iron.proofs.ShareLaws.{no-share-num, matched-share, read-den, read-num}

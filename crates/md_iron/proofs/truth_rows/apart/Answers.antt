@@ -1,12 +1,10 @@
-use Rattle.std.proofs.Common.{◌≡◌, ◌+◌, ◌<◌, suc, pos, ◌-ℤ◌, ◌<ℤ◌, sym, ap, subst, ◌∙◌, arith, lit<}
-use Rattle.std.proofs.lemmas.Int.{ints}
+use Rattle.std.proofs.Common.{◌≡◌, suc, pos, ◌-ℤ◌, ◌<ℤ◌, sym, subst, arith, lit<}
 use Rattle.md_math.specs.Lists.{number_at}
 use Rattle.md_math.specs.Sizes.{IsWithin}
 use Rattle.md_math.proofs.Readings.{IsRead, widened, difference_fits, difference_is}
 use Rattle.md_math.proofs.Ring.{linear}
 use Rattle.md_math.proofs.SizeLaws.{IsWithin-difference}
 use Rattle.md_pools.proofs.InterimLaws.{value-within}
-use Rattle.md_setting.specs.Auction.{value_count}
 use Rattle.md_virtual.proofs.AuctionLaws.{values-rise}
 use Rattle.md_ironed.specs.Multipliers.{apart_by}
 use Rattle.md_iron.proofs.truth_rows.apart.Goals as goal

@@ -1,4 +1,4 @@
-use Rattle.std.proofs.Common.{◌≡◌, ◌*◌, ◌^◌, ◌<◌, pos, ◌*ℤ◌, unsigned_abs, sym, subst, ◌∙◌, arith, lit<}
+use Rattle.std.proofs.Common.{◌*◌, pos, ◌*ℤ◌, arith, lit<}
 use Rattle.md_math.specs.Sizes.{IsWithin}
 use Rattle.md_math.proofs.Readings.{IsRead, read, widened, product_fits, product_is}
 use Rattle.md_math.proofs.SizeLaws.{IsWithin-*ℤ}

@@ -1,4 +1,4 @@
-use Rattle.std.proofs.Common.{◌≡◌, ◌*◌, ◌^◌, ◌<◌, ◌*ℤ◌, ap₂, ◌∙◌, lit<}
+use Rattle.std.proofs.Common.{◌^◌, ◌*ℤ◌, ap₂, ◌∙◌, lit<}
 use Rattle.std.proofs.lemmas.Int.{to_z-of_z}
 use mir.Syntax.{w128}
 use Rattle.md_math.proofs.Bits.{read_result, read_within}
