@@ -1,0 +1,82 @@
+// Makes elements of the page and of pictures. Text goes in as text, never as HTML.
+
+const DRAWINGS = "http://www.w3.org/2000/svg";
+
+function filled(element, attributes, children) {
+  for (const [name, content] of Object.entries(attributes)) {
+    if (content !== undefined && content !== null && content !== false) {
+      element.setAttribute(name, content === true ? "" : content);
+    }
+  }
+  element.append(...children.flat(Infinity).filter(isShown));
+  return element;
+}
+
+/** What is no child: what a condition left out. */
+function isShown(child) {
+  return child !== null && child !== undefined && child !== false && child !== "";
+}
+
+/** An element of the page. */
+export function make(name, attributes = {}, ...children) {
+  return filled(document.createElement(name), attributes, children);
+}
+
+/** An element of a picture. */
+export function draw(name, attributes = {}, ...children) {
+  return filled(document.createElementNS(DRAWINGS, name), attributes, children);
+}
+
+/** The element of the page with an id. */
+export function byId(id) {
+  return document.getElementById(id);
+}
+
+/** A button with what it does. */
+export function button(text, onClick, attributes = {}) {
+  const made = make("button", { type: "button", ...attributes }, text);
+  made.addEventListener("click", onClick);
+  return made;
+}
+
+/** A cell of a table: heads name their row, numbers stand to the right. */
+function cell(content) {
+  if (content?.isHead) {
+    return make("th", { scope: "row" }, content.text);
+  }
+  const isNumber = content?.isNumber === true;
+  return make("td", { class: isNumber && "number" }, isNumber ? content.text : content);
+}
+
+export function head(text) {
+  return { isHead: true, text };
+}
+
+export function number(amount) {
+  return { isNumber: true, text: breakable(String(amount)) };
+}
+
+/** A number of many digits, which may break behind the stroke of a fraction. */
+export function breakable(text) {
+  return text.length <= 14 ? text : text.split(/(?<=\/)/).flatMap((part, place) => (place ? [make("wbr"), part] : [part]));
+}
+
+/** A table with its caption, that scrolls where it is wider than the page. A head that begins with `#` stands above numbers. */
+export function table(caption, heads, rows, note = "") {
+  const columns = heads.map((text) =>
+    make("th", { scope: "col", class: text.startsWith("#") && "number" }, text.replace(/^#/, "")),
+  );
+  const title = make("caption", {}, caption, note && make("span", { class: "soft" }, ` ${note}`));
+  const body = rows.map((cells) => make("tr", {}, cells.map(cell)));
+  return scrolling(caption, make("table", {}, title, make("thead", {}, make("tr", {}, columns)), make("tbody", {}, body)));
+}
+
+/** What may be wider than the page: it scrolls by keys too. */
+export function scrolling(label, content) {
+  return make("div", { class: "scroll", role: "region", tabindex: "0", "aria-label": label }, content);
+}
+
+/** A part that is folded away. */
+export function folded(title, ...content) {
+  return make("details", {}, make("summary", {}, title), content);
+}

@@ -1,0 +1,58 @@
+// What the page knows of a setting: its names and sizes. Whether it is one is the program's word alone.
+
+import { readToml } from "./toml.js";
+
+/** The facts of a setting that the program took, or null where the page cannot read it. */
+export function readSetting(text) {
+  try {
+    const file = readToml(text);
+    return file.kind === "auction" ? auctionOf(file) : generalOf(file);
+  } catch {
+    return null;
+  }
+}
+
+function generalOf(file) {
+  return {
+    kind: "general",
+    outcomes: file.outcomes.map(String),
+    agents: file.agent.map(({ name, types }) => ({ name: String(name), types: types.map(String) })),
+    hasPayments: file.payments === true,
+    truth: file.truth,
+    rational: file.rational,
+  };
+}
+
+function auctionOf(file) {
+  return { kind: "auction", bidders: file.bidders, values: file.values.map(BigInt), weights: file.weights.map(BigInt) };
+}
+
+/** All profiles in their order: the last agent's type changes fastest. */
+export function profilesOf(agents) {
+  return agents.reduce((profiles, { types }) => profiles.flatMap((front) => types.map((type) => [...front, type])), [[]]);
+}
+
+/** A setting in a few words. */
+export function summaryOf(setting) {
+  if (setting.kind === "auction") {
+    return `an auction, ${many(setting.bidders, "bidder")}, ${many(setting.values.length, "value")}`;
+  }
+  const profiles = setting.agents.reduce((product, { types }) => product * types.length, 1);
+  const sizes = [many(setting.agents.length, "agent"), many(profiles, "profile"), many(setting.outcomes.length, "outcome")];
+  return `a general setting, ${sizes.join(", ")}`;
+}
+
+function many(count, word) {
+  return `${count.toLocaleString("en")} ${word}${count === 1 ? "" : "s"}`;
+}
+
+/** The comment at the head of a setting's file, as one line. */
+export function remarkOf(text) {
+  const lines = text.split(/\r?\n/);
+  const end = lines.findIndex((line) => !line.startsWith("#"));
+  return lines
+    .slice(0, end < 0 ? lines.length : end)
+    .map((line) => line.replace(/^#+\s*/, ""))
+    .join(" ")
+    .trim();
+}
