@@ -1,7 +1,8 @@
 //! The records of a text, one after another.
 // The records of a text, one after the other.
-ghost use Rattle.std.specs.Prelude.{◌≡◌, [], ◌∷◌, ◌≤◌, length, MatchOption, IfOk, OnErr};
+ghost use Rattle.std.specs.Prelude.{◌≡◌, [], ◌∷◌, ◌≤◌, length, false, MatchOption, IfOk, OnErr};
 ghost use Rattle.md_records.specs.Text.{records_of};
+ghost use Rattle.md_records.specs.Left.{left_of, IsReading};
 
 use crate::Record;
 use crate::ahead::fields_ahead;
@@ -36,14 +37,10 @@ impl<'a> Records<'a> {
         ensures all { result ≡ records_of text.now }
         ensures few { length result ≤ length text.now }
     {
-        let reader = ReaderBuilder::new()
-            .has_headers(false)
-            .flexible(true)
-            .from_reader(alloc, text);
         Records {
             alloc,
             text,
-            reader,
+            reader: reader_of(alloc, text),
             ended: false,
         }
     }
@@ -77,5 +74,21 @@ impl<'a> Records<'a> {
         let ahead = self.text.get(start..).unwrap_or_default();
         let none = ByteRecord::new(self.alloc);
         ByteRecord::with_capacity(self.alloc, 0, fields_ahead(ahead)).unwrap_or(none)
+    }
+}
+
+// A reader of all records of a text. It is given an empty header where there is memory for it, since one that was given
+// none keeps its first record twice, beside the one that it gives out.
+fn reader_of<'a>(alloc: Global, text: &'a [u8]) -> Reader<&'a [u8]>
+    ensures reading { IsReading result }
+    ensures left { left_of false result ≡ records_of text.now }
+{
+    let mut reader = ReaderBuilder::new().flexible(true).from_reader(alloc, text);
+    match reader.set_byte_headers(ByteRecord::new(alloc)) {
+        Ok(()) => reader,
+        Err(_) => ReaderBuilder::new()
+            .has_headers(false)
+            .flexible(true)
+            .from_reader(alloc, text),
     }
 }
