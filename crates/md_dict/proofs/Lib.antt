@@ -27,3 +27,4 @@ mod NewTable
 mod Restoring
 mod Tables
 mod TurningBack
+mod ShortProducts

@@ -5,7 +5,7 @@ ghost use Rattle.md_math.specs.Sizes.{IsWithin};
 ghost use Rattle.md_dict.specs.Dictionary.{basic_value};
 
 use crate::rows::Rows;
-use md_num::{cross_difference, exact_quotient, product};
+use md_num::{exact_quotient, product};
 
 // What a pivot needs to know: how many program rows and how many program and slack columns there are, the row and the kept place of the pivot, the entering and the leaving column, the pivot, the denominator, how large a number may be, and the number by which all is divided.
 #[derive(Clone, Copy)]
@@ -104,7 +104,7 @@ impl Step {
         ensures value { result ≡ raw_number self.now (kept_in self.now rows.now) row place }
         ensures size { unsigned_abs result < 2 ^ 126 }
     {
-        cross_difference(
+        short_cross_difference(
             self.multiplier(row),
             self.old_number(rows, row, place),
             self.factor(rows, row),
@@ -150,4 +150,18 @@ pub fn basic_number(
     } else {
         0
     }
+}
+
+// The difference of two products of numbers of 62 bits, `a * b - c * d`, each by one multiplication of 64 bits.
+fn short_cross_difference(a: i128, b: i128, c: i128, d: i128) -> i128
+    requires a { IsWithin (2 ^ 62) a }
+    requires b { IsWithin (2 ^ 62) b }
+    requires c { IsWithin (2 ^ 62) c }
+    requires d { IsWithin (2 ^ 62) d }
+    ensures value { result ≡ a *ℤ b -ℤ c *ℤ d }
+    ensures size { unsigned_abs result < 2 ^ 126 }
+{
+    let first = i128::from(a as i64) * i128::from(b as i64);
+    let second = i128::from(c as i64) * i128::from(d as i64);
+    first - second
 }
