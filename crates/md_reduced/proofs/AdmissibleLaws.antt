@@ -1,14 +1,15 @@
 -- What a reduced program says of the mechanisms of an auction: which are admissible, and where they stand in it.
-use Rattle.std.proofs.Common.{◌≡◌, ℕ, ◌+◌, ◌-◌, ◌*◌, ◌^◌, ◌<◌, ℤ, pos, ◌+ℤ◌, ◌-ℤ◌, ◌*ℤ◌, ◌≤ℤ◌, neg_ℤ, Bool, true, false, List, ◌++◌, map, All, sym, ap, ap₂, ◌∙◌, subst, arith, inl, inr, ne_eqb}
+use Rattle.std.proofs.Common.{◌≡◌, ℕ, ◌+◌, ◌-◌, ◌*◌, ◌^◌, ◌<◌, ℤ, pos, ◌+ℤ◌, ◌-ℤ◌, ◌*ℤ◌, ◌≤ℤ◌, ◌<ℤ◌, neg_ℤ, Bool, true, false, List, ◌++◌, map, All, sym, ap, ap₂, ◌∙◌, subst, arith, inl, inr, ne_eqb}
 use Rattle.std.proofs.lemmas.Bool.{cases_eq}
 use Rattle.std.specs.Prelude.{slice_index}
 use Rattle.std.proofs.lemmas.Int.{ints}
 use Rattle.std.proofs.Math.IntN.{pos-*ℤ-pos}
+use Rattle.std.proofs.Math.Nat.{mul-pos}
 use lib.IntN.{*ℤ_comm}
 use Rattle.md_math.specs.Lists.{number_at, list_to}
 use Rattle.md_math.specs.Sums.{sum_to}
 use Rattle.md_math.proofs.Builders.{All-left, All-right, All-up_to_at, length-list_to, get_or-list_to}
-use Rattle.md_math.proofs.Order.{*ℤ-le, le_from_*ℤ, nonneg_from_*ℤ, nonneg-*ℤ, *ℤ_cancel, positive_pos}
+use Rattle.md_math.proofs.Order.{le_from_lt, *ℤ-le, le_from_*ℤ, nonneg_from_*ℤ, nonneg-*ℤ, *ℤ_cancel, positive_pos}
 use Rattle.md_math.proofs.Ring.{linear, ring, *ℤ-zero, zero-*ℤ}
 use Rattle.md_math.proofs.SumLaws.{sum_to-single}
 use Rattle.md_space.specs.Profiles.{IsProfile, replaced}
@@ -19,10 +20,11 @@ use Rattle.md_setting.specs.Meaning.{agent_count, sizes_of, weight_of, outside_o
 use Rattle.md_setting.specs.Auction.{SymmetricAuction, value_count, total_weight}
 use Rattle.md_setting.specs.AuctionShaped.{IsAuction}
 use Rattle.md_setting.specs.General.{general_of}
+use Rattle.md_setting.specs.Setting.{GeneralSetting}
 use Rattle.md_setting.proofs.GeneralLaws.{general-truth, general-rational, general-no_deficit, agent_count-general, outcome_count-general, own_utility-general, other_utility-general, outside_of-general}
 use Rattle.md_mech.specs.declared.mechanism.Mechanism.{Mechanism}
 use Rattle.md_mech.specs.Admissible.{IsAdmissible}
-use Rattle.md_mech.specs.Mechanism.{chance_of, pay_of}
+use Rattle.md_mech.specs.Mechanism.{IsMechanism, chance_of, pay_of}
 use Rattle.md_mech.specs.Rationality.{IsInterimRational, IsRationalBy}
 use Rattle.md_mech.specs.Truth.{IsBayesTruth, IsTruthfulBy}
 use Rattle.md_mech.specs.Utility.{expected_utility, weighted_given}
@@ -45,6 +47,7 @@ use Rattle.md_reduced.specs.ProgramOf.{form_of, IsReducedProgram}
 use Rattle.md_reduced.specs.Sides.{pay_in, utility_in}
 use Rattle.md_reduced.proofs.BuiltLaws.{meets-conditions, costs-points}
 use Rattle.md_reduced.proofs.AverageRows.{averages-meet}
+use Rattle.md_reduced.proofs.PointLaws.{others-positive}
 use Rattle.md_reduced.proofs.MeanLaws.{nonneg_pos, times-parts, averaged-cost}
 use Rattle.md_reduced.proofs.Replacing.{given-replaced}
 
@@ -219,8 +222,10 @@ told-by_odds a m den x i v w shaped odds pays b l k =
     second : (x y m o u : ℤ) → x *ℤ (m *ℤ ((y *ℤ o) *ℤ u)) ≡ y *ℤ (m *ℤ ((x *ℤ o) *ℤ u))
     second x y m o u = simp ring
 
-pub admits : (a : SymmetricAuction) (cuts : List ℕ) (p : Program) → IsAuction a → IsReducedProgram a 1 cuts p → AdmitsPoints a p
-admits a cuts p shaped is m den x meets mechanism odds pays = record {
+-- a mechanism with the odds and the payments of a point that keeps the conditions on truth and on taking part is admissible
+pub admits-rows : (a : SymmetricAuction) (m : Mechanism) (den : ℤ) (x : ℕ → ℤ) → IsAuction a → pos 0 <ℤ den → KeepsRows a x → IsMechanism (general_of a) m
+    → HasOdds a m den (list_to (value_count a) x) → HasPays a m den (list_to (value_count a) (pay_in a x)) → IsAdmissible (general_of a) m
+admits-rows a m den x shaped positive rows mechanism odds pays = record {
   mechanism = mechanism;
   truthful = subst (λ (k : TruthKind). IsTruthfulBy k (general_of a) m) (sym (general-truth a)) truthful;
   rational = subst (λ (k : RationalKind). IsRationalBy k (general_of a) m) (sym (general-rational a)) rational;
@@ -229,9 +234,6 @@ admits a cuts p shaped is m den x meets mechanism odds pays = record {
   where
     off_is_on : {P : Type 0} {b : Bool} → b ≡ false → b ≡ true → P
     off_is_on e f = cc
-
-    rows : KeepsRows a x
-    rows = keeps-rows a 1 cuts p den x is meets
 
     bidder : (i : ℕ) → i < agent_count (general_of a) → i < a.bidders
     bidder i h = subst (λ n. i < n) (agent_count-general a) h
@@ -255,7 +257,7 @@ admits a cuts p shaped is m den x meets mechanism odds pays = record {
         *ℤ-le m.den _ _ (some m.den mechanism.den) (*ℤ-le (factor v) _ _ (nonneg_pos (weight_given a v)) (rows.truth v w c (kind i w b k))) in
         subst (λ z. z ≤ℤ weighted_given s i v (λ t. expected_utility s m i t t)) (sym (gains-given a m i v (λ t. replaced t i w) b))
         (subst (λ z. weighted_given s i v (λ t. g (replaced t i w)) ≤ℤ z) (sym (gains-given a m i v (λ t. t) b))
-        (le_from_*ℤ den (weighted_given s i v (λ t. g (replaced t i w))) (weighted_given s i v g) meets.point.positive
+        (le_from_*ℤ den (weighted_given s i v (λ t. g (replaced t i w))) (weighted_given s i v g) positive
         (subst (λ z. z ≤ℤ (den *ℤ weighted_given s i v g)) (sym (told-by_odds a m den x i v w shaped odds pays b c (kind i w b k)))
         (subst (λ z. (m.den *ℤ (factor v *ℤ utility_in a x v w)) ≤ℤ z) (sym (gain-by_odds a m den x i v v odds pays b c)) less))))
 
@@ -267,6 +269,50 @@ admits a cuts p shaped is m den x meets mechanism odds pays = record {
         let g = gain_at a (win_in a m) (paid_in a m) v i in
         subst (λ z. z ≤ℤ weighted_given s i v (λ t. expected_utility s m i t t)) (sym (nothing_outside a m i v b))
         (subst (λ z. pos 0 ≤ℤ z) (sym (gains-given a m i v (λ t. t) b))
-        (nonneg_from_*ℤ den (weighted_given s i v g) meets.point.positive
+        (nonneg_from_*ℤ den (weighted_given s i v g) positive
         (subst (λ z. pos 0 ≤ℤ z) (sym (gain-by_odds a m den x i v v odds pays b c))
         (nonneg-*ℤ m.den _ (some m.den mechanism.den) (nonneg-*ℤ (factor v) _ (nonneg_pos (weight_given a v)) (rows.rational v c))))))
+
+pub admits : (a : SymmetricAuction) (cuts : List ℕ) (p : Program) → IsAuction a → IsReducedProgram a 1 cuts p → AdmitsPoints a p
+admits a cuts p shaped is m den x meets mechanism odds pays = admits-rows a m den x shaped meets.point.positive (keeps-rows a 1 cuts p den x is meets) mechanism odds pays
+
+-- ---- from a mechanism back to its odds and payments
+
+given-positive : (a : SymmetricAuction) (v : ℕ) → IsAuction a → v < value_count a → 0 < weight_given a v
+given-positive a v shaped l =
+    mul-pos {m = slice_index a.weights v} {n = total_weight a.weights ^ (a.bidders - 1)} (shaped.weight v l).0 (others-positive a shaped)
+
+-- the odds and the payments of an admissible mechanism keep the conditions on truth and on taking part, as the first bidder shows
+pub rows-kept : (a : SymmetricAuction) (m : Mechanism) (den : ℤ) (x : ℕ → ℤ) → IsAuction a → pos 0 <ℤ den
+    → HasOdds a m den (list_to (value_count a) x) → HasPays a m den (list_to (value_count a) (pay_in a x)) → IsAdmissible (general_of a) m → KeepsRows a x
+rows-kept a m den x shaped positive odds pays admissible = record {
+  truth = λ v w l k.
+      let told = weighted_given s 0 v (λ t. gain_at a (win_in a m) (paid_in a m) v 0 (replaced t 0 w)) in
+      let own = weighted_given s 0 v (gain_at a (win_in a m) (paid_in a m) v 0) in
+      let less : (den *ℤ told) ≤ℤ (den *ℤ own) = *ℤ-le den told own (le_from_lt (pos 0) den positive) (averaged.truthful 0 v w first l k) in
+      without v (utility_in a x v w) (utility_in a x v v) l
+      (subst (λ z. z ≤ℤ (m.den *ℤ (pos (weight_given a v) *ℤ utility_in a x v v))) (told-by_odds a m den x 0 v w shaped odds pays first l k)
+      (subst (λ z. (den *ℤ told) ≤ℤ z) (gain-by_odds a m den x 0 v v odds pays first l) less));
+  rational = λ v l.
+      nonneg_from_*ℤ (pos (weight_given a v)) (utility_in a x v v) (positive_pos (weight_given a v) (given-positive a v shaped l))
+      (nonneg_from_*ℤ m.den (pos (weight_given a v) *ℤ utility_in a x v v) (above m.den averaged.den_positive)
+      (subst (λ z. pos 0 ≤ℤ z) (gain-by_odds a m den x 0 v v odds pays first l)
+      (nonneg-*ℤ den (weighted_given s 0 v (gain_at a (win_in a m) (paid_in a m) v 0)) (le_from_lt (pos 0) den positive) (averaged.rational 0 v first l))));
+}
+  where
+    s : GeneralSetting
+    s = general_of a
+
+    first : 0 < a.bidders
+    first = shaped.some_bidder
+
+    averaged : IsAdmissibleOnAverage a 1 m.den (win_in a m) (paid_in a m)
+    averaged = mechanism-on_average a m shaped admissible
+
+    above : (z : ℤ) → pos 1 ≤ℤ z → pos 0 <ℤ z
+    above z l = omega (arith, ints)
+
+    without : (v : ℕ) (y z : ℤ) → v < value_count a → (m.den *ℤ (pos (weight_given a v) *ℤ y)) ≤ℤ (m.den *ℤ (pos (weight_given a v) *ℤ z)) → y ≤ℤ z
+    without v y z l h =
+        le_from_*ℤ (pos (weight_given a v)) y z (positive_pos (weight_given a v) (given-positive a v shaped l))
+        (le_from_*ℤ m.den (pos (weight_given a v) *ℤ y) (pos (weight_given a v) *ℤ z) (above m.den averaged.den_positive) h)
