@@ -1,5 +1,6 @@
 pub mod ChordLaws
 pub mod PooledTo
+pub mod RuleLaws
 pub mod Searches
 pub mod Lists
 pub mod Bounds

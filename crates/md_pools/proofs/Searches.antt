@@ -6,7 +6,8 @@ use Rattle.md_math.proofs.Ring.{linear}
 use Rattle.md_virtual.specs.Gaps.{least_to}
 use Rattle.md_virtual.specs.Pools.{IsLow}
 use Rattle.md_virtual.proofs.GapLaws.{least_to-above, least_to-le, least_to-next}
-use Rattle.md_pools.proofs.ChordLaws.{between, IsLow-first, IsLow-stop, IsLow-through}
+use Rattle.md_pools.specs.ByRule.{IsHigher}
+use Rattle.md_pools.proofs.ChordLaws.{between, IsLow-first, IsLow-stop, IsLow-through, IsLow_from_IsHigher, IsHigher-through}
 use Rattle.md_pools.proofs.PooledTo.{IsRising}
 
 -- ---- the lowest place
@@ -43,11 +44,12 @@ IsLowestBefore-moved n sums z h lower = record {
 
 -- ---- the lowest chord
 
--- of the places behind s and before n, one whose chord from s is lowest
+-- of the places behind s and before n, the first one whose chord from s is lowest
 pub record IsLowestChord (n : ℕ) (weights sums : ℕ → ℤ) (s e : ℕ) : Type 0 where
   pub behind : s < e
   pub inside : e < n
   pub low : (x : ℕ) → s ≤ x → x < n → IsLow weights sums s e x
+  pub soonest : (x : ℕ) → s < x → x < e → IsHigher weights sums s e x
 
 pub IsLowestChord-start : (weights sums : ℕ → ℤ) (s n : ℕ) → n ≡ s + 2 → IsLowestChord n weights sums s (s + 1)
 IsLowestChord-start weights sums s n two = record {
@@ -57,6 +59,7 @@ IsLowestChord-start weights sums s n two = record {
     | inl m ↦ (let e : s ≡ x = omega (arith, l, m) in subst (λ y. IsLow weights sums s (s + 1) y) e (IsLow-first weights sums s (s + 1)))
     | inr e ↦ subst (λ y. IsLow weights sums s (s + 1) y) e (IsLow-stop weights sums s (s + 1))
   ];
+  soonest = λ x l b. absurd (omega (arith, l, b));
 }
 
 pub IsLowestChord-kept : (n : ℕ) (weights sums : ℕ → ℤ) (s e : ℕ) → IsLowestChord n weights sums s e → IsLow weights sums s e n → IsLowestChord (n + 1) weights sums s e
@@ -64,6 +67,7 @@ IsLowestChord-kept n weights sums s e h above = record {
   behind = h.behind;
   inside = omega (arith, h.inside);
   low = λ x l b. elim (last_or_before n x b) [ inl m ↦ h.low x l m | inr same ↦ subst (λ y. IsLow weights sums s e y) same above ];
+  soonest = h.soonest;
 }
 
 heavy : (k : ℕ) (weights : ℕ → ℤ) (s x : ℕ) → IsRising k weights → s ≤ x → x ≤ k → pos 0 ≤ℤ between weights s x
@@ -75,15 +79,18 @@ heavy k weights s x h l b = elim (cases_lt s x) [
     none : (z : ℤ) → pos 0 ≤ℤ (z -ℤ z)
     none z = omega (arith, linear)
 
-pub IsLowestChord-moved : (k n : ℕ) (weights sums : ℕ → ℤ) (s e : ℕ) → IsRising k weights → n ≤ k → IsLowestChord n weights sums s e → IsLow weights sums s n e → IsLowestChord (n + 1) weights sums s n
+pub IsLowestChord-moved : (k n : ℕ) (weights sums : ℕ → ℤ) (s e : ℕ) → IsRising k weights → n ≤ k → IsLowestChord n weights sums s e → IsHigher weights sums s n e → IsLowestChord (n + 1) weights sums s n
 IsLowestChord-moved k n weights sums s e rising end h under = record {
   behind = omega (arith, h.behind, h.inside);
   inside = omega arith;
   low = λ x l b. elim (last_or_before n x b) [
     | inl m ↦ IsLow-through weights sums s e n x (rising.some s e h.behind (omega (arith, h.inside, end)))
-        (heavy k weights s n rising (omega (arith, h.behind, h.inside)) end) (heavy k weights s x rising l (omega (arith, m, end))) (h.low x l m) under
+        (heavy k weights s n rising (omega (arith, h.behind, h.inside)) end) (heavy k weights s x rising l (omega (arith, m, end))) (h.low x l m) (IsLow_from_IsHigher weights sums s n e under)
     | inr same ↦ subst (λ y. IsLow weights sums s n y) same (IsLow-stop weights sums s n)
   ];
+  soonest = λ x l b.
+      IsHigher-through weights sums s e n x (rising.some s e h.behind (omega (arith, h.inside, end)))
+      (heavy k weights s n rising (omega (arith, h.behind, h.inside)) end) (rising.some s x l (omega (arith, b, end))) (h.low x (omega (arith, l)) b) under;
 }
 
 -- ---- the least so far

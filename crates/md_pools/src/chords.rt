@@ -5,6 +5,7 @@ ghost use Rattle.md_setting.specs.Auction.{value_count};
 ghost use Rattle.md_setting.specs.AuctionShaped.{IsAuction};
 ghost use Rattle.md_virtual.specs.VirtualValues.{weight_to, virtual_to};
 ghost use Rattle.md_virtual.specs.Pools.{IsLow};
+ghost use Rattle.md_pools.specs.ByRule.{IsHigher};
 
 use crate::sums::{virtual_below, weight_below};
 use md_num::cross_difference;
@@ -43,6 +44,7 @@ pub(crate) fn lowest_stop(auction: &Auction, first: u32) -> u32
     ensures behind { first < result }
     ensures inside { result ≤ value_count auction.now }
     ensures low { (x : ℕ) → first ≤ x → x ≤ value_count auction.now → IsLow (weight_to auction.now) (virtual_to auction.now) first result x }
+    ensures soonest { (x : ℕ) → first < x → x < result → IsHigher (weight_to auction.now) (virtual_to auction.now) first result x }
 {
     let _shaped = auction.kinds();
     let mut stop = first + 1;
@@ -60,7 +62,7 @@ fn is_under(auction: &Auction, first: u32, stop: u32, place: u32) -> bool
     requires stop { stop ≤ value_count auction.now }
     requires place { place ≤ value_count auction.now }
     ensures above { result ≡ false → IsLow (weight_to auction.now) (virtual_to auction.now) first stop place }
-    ensures under { result ≡ true → IsLow (weight_to auction.now) (virtual_to auction.now) first place stop }
+    ensures under { result ≡ true → IsHigher (weight_to auction.now) (virtual_to auction.now) first place stop }
     ensures shaped { IsAuction auction.now }
 {
     gap(auction, first, stop, place) < 0

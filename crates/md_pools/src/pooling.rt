@@ -1,7 +1,10 @@
 //! Pools are found.
 ghost use Rattle.std.specs.Prelude.{◌≡◌, ◌-◌, ◌≤◌, ◌++◌, replicate, IfOk, OnOk};
 ghost use Rattle.md_math.specs.Lists.{list_to};
-ghost use Rattle.md_pools.specs.Pooling.{IsPooling, lone_pool};
+ghost use Rattle.md_setting.specs.Auction.{value_count};
+ghost use Rattle.md_virtual.specs.Pools.{Pools};
+ghost use Rattle.md_pools.specs.ByRule.{AreSamePools, IsAuctionByRule};
+ghost use Rattle.md_pools.specs.Pooling.{IsPooling, lone_pool, pools_of};
 
 use crate::chords::{lowest_place, lowest_stop};
 use crate::pools::{AuctionPools, Pool};
@@ -10,9 +13,12 @@ use md_setting::Auction;
 use std::alloc::Global;
 
 /// The pools of an auction's values: those below the reserve never win, and of the others each pool has the least mean of
-/// virtual values that a pool which begins there can have.
+/// virtual values that a pool which begins there can have. Where values tie, no more of them win and no pool is longer than
+/// must be, and so there is one choice.
 pub fn pool(alloc: Global, auction: &Auction) -> Result<AuctionPools, NoMemory>
-    ensures { IfOk result (IsPooling auction.now) }
+    ensures pooled { IfOk result (IsPooling auction.now) }
+    ensures named { IfOk result (λ kept. IsAuctionByRule auction.now (pools_of kept)) }
+    ensures only { IfOk result (λ kept. (others : Pools) → IsAuctionByRule auction.now others → AreSamePools (value_count auction.now) (pools_of kept) others) }
 {
     let reserve = lowest_place(auction, auction.kinds());
     let mut by_kind = lone_pools(alloc, reserve)?;

@@ -18,7 +18,7 @@ struct Case {
     cuts: &'static [u32],
 }
 
-static CASES: [Case; 6] = [
+static CASES: [Case; 7] = [
     // The virtual values are -1, 1 and 3.
     Case {
         bidders: 3,
@@ -90,6 +90,18 @@ static CASES: [Case; 6] = [
         odds: &[0, 0, 1],
         pays: &[0, 0, 60],
         cuts: &[4],
+    },
+    // They are 4, 4 and 16: values that add as much as each other stay apart.
+    Case {
+        bidders: 2,
+        values: &[8, 10, 16],
+        weights: &[1, 1, 1],
+        keep: 0,
+        reserve: 0,
+        den: 6,
+        odds: &[1, 3, 5],
+        pays: &[8, 28, 60],
+        cuts: &[7, 6, 4],
     },
 ];
 
