@@ -20,13 +20,13 @@ use Rattle.md_auction_report.specs.Utility.{utility_at}
 
 -- ---- the odds and payments as numbers for the columns
 
-odds-column : (a : SymmetricAuction) (interim : Interim) (v : ℕ) → IsInterim a interim → v < value_count a → columns_of interim v ≡ number_at interim.odds v
+pub odds-column : (a : SymmetricAuction) (interim : Interim) (v : ℕ) → IsInterim a interim → v < value_count a → columns_of interim v ≡ number_at interim.odds v
 odds-column a interim v h l = get_or_append_left interim.odds interim.pays (pos 0) v (omega (arith, l, h.one_odds))
 
 less-none : (x y z : ℤ) → x ≡ z → y ≡ pos 0 → x -ℤ y ≡ z
 less-none x y z e f = omega (arith, linear, e, f)
 
-pay-column : (a : SymmetricAuction) (interim : Interim) (v : ℕ) → IsInterim a interim → pay_in a (columns_of interim) v ≡ number_at interim.pays v
+pub pay-column : (a : SymmetricAuction) (interim : Interim) (v : ℕ) → IsInterim a interim → pay_in a (columns_of interim) v ≡ number_at interim.pays v
 pay-column a interim v h =
     let n = value_count a in
     let twice : 2 * n + v ≡ n + (n + v) = omega arith in

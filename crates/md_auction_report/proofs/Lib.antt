@@ -3,6 +3,7 @@ pub mod ColumnLaws
 pub mod GreatestLaws
 pub mod TypeLaws
 pub mod AdmissibleLaws
+pub mod MechanismLaws
 pub mod TightLaws
 pub mod ToldLaws
 pub mod RecordLaws

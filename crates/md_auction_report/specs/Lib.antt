@@ -7,5 +7,6 @@ pub mod Tight
 pub mod Types
 pub mod ReportOf
 pub mod Admissible
+pub mod Mechanisms
 pub mod Tellable
 pub mod Records

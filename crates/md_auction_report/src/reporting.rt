@@ -5,6 +5,7 @@ ghost use Rattle.md_setting.specs.AuctionShaped.{IsAuction};
 ghost use Rattle.md_lp.specs.Cuts.{AreCuts};
 ghost use Rattle.md_border.specs.Odds.{IsInterim};
 ghost use Rattle.md_auction_report.specs.Admissible.{IsTruthfulAndRational, MissesNothing, IsToldWhole};
+ghost use Rattle.md_auction_report.specs.Mechanisms.{JudgesMechanisms};
 ghost use Rattle.md_auction_report.specs.ReportOf.{IsAuctionReportOf};
 ghost use Rattle.md_auction_report.specs.Tellable.{IsAbout};
 
@@ -42,6 +43,10 @@ impl AuctionReport {
 
         // The odds and payments meet all conditions on truth and on taking part exactly where neither gain nor loss is above 0.
         ensures admissible { IfOk result (λ report. IsTruthfulAndRational auction.now interim.now ↔ MissesNothing report) }
+
+        // Each mechanism of the auction with the odds and payments is admissible exactly there.
+        ensures mechanisms { IfOk result (JudgesMechanisms auction.now interim.now) }
+        ensures shaped { IfOk result (λ _. IsAuction auction.now) }
     {
         let report = made(alloc, auction, interim, cuts)?;
         Ok(report)

@@ -1,0 +1,18 @@
+-- What a report says of the mechanisms of its auction, with any denominator and numbers of any size.
+use Rattle.std.specs.Prelude.{◌↔◌}
+use Rattle.md_setting.specs.Auction.{SymmetricAuction}
+use Rattle.md_setting.specs.General.{general_of}
+use Rattle.md_mech.specs.declared.mechanism.Mechanism.{Mechanism}
+use Rattle.md_mech.specs.Mechanism.{IsMechanism}
+use Rattle.md_mech.specs.Admissible.{IsAdmissible}
+use Rattle.md_border.specs.declared.interim.Interim.{Interim}
+use Rattle.md_border.specs.Odds.{HasOdds, HasPays}
+use Rattle.md_auction_report.specs.declared.auction_report.AuctionReport.{AuctionReport}
+use Rattle.md_auction_report.specs.Admissible.{MissesNothing}
+
+-- a mechanism with the odds and the payments, also one that treats bidders differently, is admissible exactly where the report
+-- shows neither a gain nor a loss above 0
+abbrev pub JudgesMechanisms : SymmetricAuction → Interim → AuctionReport → Type 0
+JudgesMechanisms a interim report =
+    (m : Mechanism) → IsMechanism (general_of a) m → HasOdds a m interim.den interim.odds → HasPays a m interim.den interim.pays
+    → IsAdmissible (general_of a) m ↔ MissesNothing report
