@@ -6,3 +6,5 @@ pub mod ConditionRows
 pub mod BoundLaws
 pub mod AnswerLaws
 pub mod SoundLaws
+pub mod SamePools
+pub mod OneForm

@@ -20,7 +20,7 @@ closed-optimal a value interim masses cuts bound shaped h = record {
   add_up = record { holds = λ v b. h.implements.exact v b };
   is_program = subst (λ xs. IsReducedProgram a 1 xs h.bound_is.program) (sym h.cuts_are) h.bound_is.is_program;
   worth = h.value_is.has_worth;
-  certified = closed-certificate a h.pools h.bound_is.program interim bound shaped h.pooled h.interim_is h.bound_is.is_program (h.bound_is.holds h.bound_is.program h.bound_is.is_program);
+  certified = closed-certificate a h.pools h.bound_is.program interim bound shaped h.by_rule.pooled h.interim_is h.bound_is.is_program (h.bound_is.holds h.bound_is.program h.bound_is.is_program);
 }
 
 -- the checker must find it valid

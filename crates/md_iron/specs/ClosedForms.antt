@@ -8,18 +8,18 @@ use Rattle.md_expost.specs.declared.masses.Masses.{Masses}
 use Rattle.md_expost.specs.Implementing.{Implements}
 use Rattle.md_cert.specs.declared.bound.Bound.{Bound}
 use Rattle.md_virtual.specs.Pools.{Pools}
-use Rattle.md_virtual.specs.VirtualValues.{IsPooledAuction}
 use Rattle.md_virtual.specs.Odds.{interim_of}
 use Rattle.md_virtual.specs.Cuts.{cuts_of}
+use Rattle.md_pools.specs.ByRule.{IsAuctionByRule}
 use Rattle.md_answer.specs.declared.answer.Answer.{Answer}
 use Rattle.md_answer.specs.declared.answer.Answer.TheVariants.{AuctionOptimal}
 use Rattle.md_iron.specs.ShortBounds.{HasNoShortBound, IsClosedBound}
 
--- the odds, the payments and the cuts are those of pools by virtual values, the value is theirs in least terms, the masses have
--- the odds, and the multipliers are those of the pools
+-- the odds, the payments and the cuts are those of the pools that the rule names, the value is theirs in least terms, the masses
+-- have the odds, and the multipliers are those of the pools
 pub record IsClosedForm (a : SymmetricAuction) (value : Frac) (interim : Interim) (masses : Masses) (cuts : List ℕ) (bound : Bound) : Type 0 where
   pub pools : Pools
-  pub pooled : IsPooledAuction a pools
+  pub by_rule : IsAuctionByRule a pools
   pub interim_is : interim ≡ interim_of a pools
   pub value_is : IsWorthOf a interim value
   pub implements : Implements a interim masses
@@ -30,8 +30,18 @@ abbrev pub IsClosedAnswer : SymmetricAuction → Answer → Type 0
 IsClosedAnswer a (AuctionOptimal value interim masses cuts bound) = IsClosedForm a value interim masses cuts bound
 IsClosedAnswer a _ = ⊥
 
--- the multipliers of some pools by virtual values have more than 62 bits over each denominator
+-- the multipliers of the pools that the rule names have more than 62 bits over each denominator
 pub record HasLongMultipliers (a : SymmetricAuction) : Type 0 where
   pub pools : Pools
-  pub pooled : IsPooledAuction a pools
+  pub by_rule : IsAuctionByRule a pools
   pub long : HasNoShortBound a pools
+
+-- no other value, odds, payments and cuts are those of a closed form of the auction, and its multipliers are not too long
+pub record IsOneForm (a : SymmetricAuction) (value : Frac) (interim : Interim) (cuts : List ℕ) : Type 0 where
+  pub only : (value' : Frac) (interim' : Interim) (masses' : Masses) (cuts' : List ℕ) (bound' : Bound) → IsClosedForm a value' interim' masses' cuts' bound'
+      → (value' ≡ value) × (interim' ≡ interim) × (cuts' ≡ cuts)
+  pub short : ¬ HasLongMultipliers a
+
+abbrev pub IsOneAnswer : SymmetricAuction → Answer → Type 0
+IsOneAnswer a (AuctionOptimal value interim masses cuts bound) = IsOneForm a value interim cuts
+IsOneAnswer a _ = ⊥

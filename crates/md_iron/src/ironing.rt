@@ -5,7 +5,7 @@ ghost use Rattle.md_answer.specs.AuctionAnswerTo.{IsAuctionAnswer};
 ghost use Rattle.md_check.specs.AuctionVerdicts.{AuctionClaimHolds, IsAuctionVerdict};
 ghost use Rattle.md_check.specs.declared.verdict.Verdict.TheVariants.{Valid};
 ghost use Rattle.md_iron.specs.declared.ironed.Ironed.TheVariants.{Undecided};
-ghost use Rattle.md_iron.specs.ClosedForms.{HasLongMultipliers, IsClosedAnswer};
+ghost use Rattle.md_iron.specs.ClosedForms.{HasLongMultipliers, IsClosedAnswer, IsOneAnswer};
 ghost use Rattle.md_iron.specs.Ironings.{WhereOptimal};
 
 use crate::answers::closed_answer;
@@ -22,8 +22,11 @@ use std::alloc::Global;
 pub fn iron(alloc: Global, file: &SettingFile) -> Result<Ironed, NoMemory>
     requires { ¬ IsGeneral file.now }
 
-    // The odds, payments and cuts are those of pools, the masses have the odds, and the multipliers are those of the pools.
+    // The odds, payments and cuts are those of the pools that the rule names, the masses have the odds, and the multipliers are
+    // those of the pools. There are no others: each such answer has this value and these odds, payments and cuts, and the
+    // multipliers are not too long.
     ensures closed { WhereAuction (λ a. IfOk result (WhereOptimal (IsClosedAnswer a))) file.now }
+    ensures one { WhereAuction (λ a. IfOk result (WhereOptimal (IsOneAnswer a))) file.now }
 
     // The checker finds the answer valid. Its mechanism is optimal over all mechanisms of the auction, has exactly the odds and
     // payments, and has the value.
@@ -33,7 +36,8 @@ pub fn iron(alloc: Global, file: &SettingFile) -> Result<Ironed, NoMemory>
     // The answer can be written, and what is written is read as the same answer.
     ensures writable { WhereAuction (λ a. IfOk result (WhereOptimal (IsAuctionAnswer a))) file.now }
 
-    // There is no answer only where no multipliers of 62 bits, over whatever denominator, are those of the pools.
+    // There is no answer only where no multipliers of 62 bits, over whatever denominator, are those of the pools that the rule
+    // names.
     ensures undecided { WhereAuction (λ a. IfOk result (λ ironed. ironed ≡ Undecided → HasLongMultipliers a)) file.now }
 {
     let SettingFile::Auction(auction) = file else {
