@@ -10,7 +10,7 @@ use Rattle.md_answer.specs.declared.answer.Answer.{Answer}
 use Rattle.md_answer.specs.declared.answer.Answer.TheVariants.{Table, Optimal, Infeasible, Unbounded, AuctionOptimal, TooWide}
 use Rattle.md_check.specs.AuctionVerdicts.{AuctionClaimHolds, IsAuctionVerdict}
 use Rattle.md_check.specs.declared.verdict.Verdict.TheVariants.{Valid}
-use Rattle.md_iron.specs.ClosedForms.{IsClosedAnswer}
+use Rattle.md_iron.specs.ClosedForms.{IsClosedAnswer, IsOneAnswer}
 use Rattle.md_top.specs.Ironing.{PrintsClosedForm}
 use Rattle.md_top.specs.Reading.{is_auction}
 
@@ -19,9 +19,9 @@ pub not-general : (file : SettingFile) → is_auction file ≡ true → ¬ IsGen
 not-general (General s) h = absurd (let e = h in cc)
 not-general (Auction a) h = λ general. general
 
-pub prints-closed : (a : SymmetricAuction) (text : List ℕ) (answer : Answer) → IsClosedAnswer a answer → IsAuctionAnswer a answer
+pub prints-closed : (a : SymmetricAuction) (text : List ℕ) (answer : Answer) → IsClosedAnswer a answer → IsOneAnswer a answer → IsAuctionAnswer a answer
     → IsAuctionVerdict a answer Valid → AuctionClaimHolds a answer → auction_answer_of a text ≡ Ok answer → PrintsClosedForm a text
-prints-closed a text (AuctionOptimal value interim masses cuts bound) closed fits valid claim reads =
+prints-closed a text (AuctionOptimal value interim masses cuts bound) closed one fits valid claim reads =
     record {
       prints = record {
         value = value;
@@ -36,9 +36,10 @@ prints-closed a text (AuctionOptimal value interim masses cuts bound) closed fit
         valid = valid;
       };
       closed = closed;
+      one = one;
     }
-prints-closed a text (Table m) closed fits valid claim reads = absurd closed
-prints-closed a text (Optimal value m bound) closed fits valid claim reads = absurd closed
-prints-closed a text (Infeasible face) closed fits valid claim reads = absurd closed
-prints-closed a text (Unbounded m ray) closed fits valid claim reads = absurd closed
-prints-closed a text (TooWide cuts first second) closed fits valid claim reads = absurd closed
+prints-closed a text (Table m) closed one fits valid claim reads = absurd closed
+prints-closed a text (Optimal value m bound) closed one fits valid claim reads = absurd closed
+prints-closed a text (Infeasible face) closed one fits valid claim reads = absurd closed
+prints-closed a text (Unbounded m ray) closed one fits valid claim reads = absurd closed
+prints-closed a text (TooWide cuts first second) closed one fits valid claim reads = absurd closed

@@ -10,3 +10,4 @@ pub mod VerdictRows
 pub mod Profiles
 pub mod Drilled
 pub mod Closed
+pub mod Judged

@@ -2,11 +2,16 @@
 use Rattle.std.specs.Prelude.{◌≡◌, ◌↔◌, ℕ, List}
 use Rattle.md_setting.specs.Setting.{GeneralSetting}
 use Rattle.md_setting.specs.Auction.{SymmetricAuction}
+use Rattle.md_setting.specs.General.{general_of}
 use Rattle.md_setting.specs.declared.file.SettingFile.{SettingFile}
 use Rattle.md_setting.specs.declared.file.SettingFile.TheVariants.{General, Auction}
 use Rattle.md_mech.specs.Admissible.{IsAdmissible}
 use Rattle.md_mech.specs.declared.mechanism.Mechanism.{Mechanism}
 use Rattle.md_border.specs.declared.interim.Interim.{Interim}
+use Rattle.md_expost.specs.declared.masses.Masses.{Masses}
+use Rattle.md_expost.specs.Masses.{AreMasses}
+use Rattle.md_expost.specs.Implementing.{Implements}
+use Rattle.md_claims.specs.AuctionClaims.{mechanism_in}
 use Rattle.md_answer.specs.declared.answer.Answer.{Answer}
 use Rattle.md_answer.specs.declared.answer.Answer.TheVariants.{Table, Optimal, Infeasible, Unbounded, AuctionOptimal, TooWide}
 use Rattle.md_report.specs.declared.report.Report.{Report}
@@ -15,6 +20,7 @@ use Rattle.md_report.specs.Records.{report_text}
 use Rattle.md_report.specs.ReportOf.{IsReportOf}
 use Rattle.md_auction_report.specs.declared.auction_report.AuctionReport.{AuctionReport}
 use Rattle.md_auction_report.specs.Admissible.{IsTruthfulAndRational, IsToldWhole as IsAuctionToldWhole, MissesNothing as MissesNothingOfAuction}
+use Rattle.md_auction_report.specs.Mechanisms.{JudgesMechanisms}
 use Rattle.md_auction_report.specs.Records.{report_text as auction_report_text}
 use Rattle.md_auction_report.specs.ReportOf.{IsAuctionReportOf}
 use Rattle.md_top.specs.Saying.{Saying}
@@ -28,13 +34,23 @@ pub record IsMechanismText (s : GeneralSetting) (m : Mechanism) (text : List ℕ
   pub admissible : IsAdmissible s m ↔ MissesNothing report
   pub told : text ≡ report_text s report
 
+-- the mechanism of a mass table with these odds, in which each bidder pays what the payments say of its value, is admissible
+-- exactly where the report shows neither a gain nor a loss above 0
+abbrev pub JudgesTables : SymmetricAuction → Interim → AuctionReport → Type 0
+JudgesTables a interim report =
+    (masses : Masses) → AreMasses a masses → Implements a interim masses
+    → IsAdmissible (general_of a) (mechanism_in a interim masses) ↔ MissesNothingOfAuction report
+
 -- The text tells what interim odds and payments do, against the reduced program with some cuts. They meet all conditions on
--- truth and on taking part exactly where the text tells neither a gain nor a loss above 0.
+-- truth and on taking part exactly where the text tells neither a gain nor a loss above 0. Exactly there each mechanism of the
+-- auction with these odds and payments is admissible, and so is that of each mass table with the odds.
 pub record IsInterimText (a : SymmetricAuction) (interim : Interim) (cuts : List ℕ) (text : List ℕ) : Type 0 where
   pub report : AuctionReport
   pub is_report : IsAuctionReportOf a interim cuts report
   pub whole : IsAuctionToldWhole a report
   pub admissible : IsTruthfulAndRational a interim ↔ MissesNothingOfAuction report
+  pub mechanisms : JudgesMechanisms a interim report
+  pub tables : JudgesTables a interim report
   pub told : text ≡ auction_report_text a cuts report
 
 -- of an answer about a general setting its mechanism is told
