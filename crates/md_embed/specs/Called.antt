@@ -4,7 +4,7 @@ use Rattle.std.specs.Str.{IsUtf8}
 use Rattle.md_words.specs.Words.{command_of}
 use Rattle.md_top.specs.Promises.{IsComplete, IsHeadlineOf}
 use Rattle.md_top.specs.Reply.{IsSaid}
-use Rattle.md_top.specs.Saying.{Saying, SinkChange, IsDelivered}
+use Rattle.md_driver.specs.Saying.{Saying, SinkChange, IsDelivered}
 use Rattle.md_embed.specs.Files.{files_in}
 use Rattle.md_embed.specs.Texts.{laid_in}
 use Rattle.md_embed.specs.Words.{words_in}

@@ -1,13 +1,2 @@
-pub mod Files
-pub mod Headlines
-pub mod AuctionHeadlines
-pub mod Fairest
-pub mod Limits
 pub mod Outcomes
-pub mod Works
 pub mod Promises
-pub mod VerdictRows
-pub mod Profiles
-pub mod Drilled
-pub mod Closed
-pub mod Judged

@@ -6,10 +6,10 @@ use Rattle.md_words.specs.declared.command.Command.{Command}
 use Rattle.md_words.specs.declared.command.Command.TheVariants.{Audit, Rows, Check, Solve, Replay, Realise, Fair, Run, Report, Iron, Make, Drill}
 use Rattle.md_words.specs.Words.{Order}
 use Rattle.md_setting.specs.declared.file.SettingFile.{SettingFile}
-use Rattle.md_top.specs.Reading.{is_any, setting_in}
+use Rattle.md_driver.specs.Reading.{is_any, setting_in}
 use Rattle.md_top.specs.Reply.{HasFaulted, IsReply}
-use Rattle.md_top.specs.Saying.{IsDelivered, SinkChange}
-use Rattle.md_top.specs.Solving.{IsShownBy}
+use Rattle.md_driver.specs.Saying.{IsDelivered, SinkChange}
+use Rattle.md_solving.specs.Solving.{IsShownBy}
 
 -- ---- the headline
 

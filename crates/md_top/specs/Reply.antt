@@ -8,24 +8,24 @@ use Rattle.md_mech.specs.declared.mechanism.Mechanism.{Mechanism}
 use Rattle.md_border.specs.declared.interim.Interim.{Interim}
 use Rattle.md_answer.specs.declared.answer.Answer.{Answer}
 use Rattle.md_answer.specs.declared.pivots_file.Pivots.{Pivots}
-use Rattle.md_top.specs.declared.refusal.Refusal.TheVariants as refusal
-use Rattle.md_top.specs.Saying.{Saying}
-use Rattle.md_top.specs.Reading.{is_any, is_auction, is_general}
-use Rattle.md_top.specs.Refused.{refused}
-use Rattle.md_top.specs.Works.{Work, no_file, one_file, two_files, IsReplyTo, HasFaultedIn}
-use Rattle.md_top.specs.Headline.{IsSolveStatus}
-use Rattle.md_top.specs.Auditing.{mechanism_in, IsAudit, IsAuditStatus}
-use Rattle.md_top.specs.Listing.{IsRows, IsRowsStatus}
-use Rattle.md_top.specs.Checking.{answer_in, IsCheck, IsCheckStatus}
-use Rattle.md_top.specs.Solving.{IsSolve}
-use Rattle.md_top.specs.Replaying.{pivots_in, IsReplay, IsReplayStatus}
-use Rattle.md_top.specs.Realising.{odds_in, IsRealise, IsRealiseStatus}
-use Rattle.md_top.specs.Fair.{IsFair}
-use Rattle.md_top.specs.Drawing.{drawable_in, IsRun, IsRunStatus}
-use Rattle.md_top.specs.Reporting.{IsReporting, IsReportStatus}
-use Rattle.md_top.specs.Ironing.{IsIron, IsIronStatus}
-use Rattle.md_top.specs.Making.{IsMake, IsMakeStatus}
-use Rattle.md_top.specs.Drilling.{IsDrill, IsDrillStatus}
+use Rattle.md_driver.specs.declared.refusal.Refusal.TheVariants as refusal
+use Rattle.md_driver.specs.Saying.{Saying}
+use Rattle.md_driver.specs.Reading.{answer_in, is_any, is_auction, is_general}
+use Rattle.md_driver.specs.Refused.{refused}
+use Rattle.md_driver.specs.Works.{Work, no_file, one_file, two_files, IsReplyTo, HasFaultedIn}
+use Rattle.md_solving.specs.Headline.{IsSolveStatus}
+use Rattle.md_using.specs.Auditing.{mechanism_in, IsAudit, IsAuditStatus}
+use Rattle.md_using.specs.Listing.{IsRows, IsRowsStatus}
+use Rattle.md_solving.specs.Checking.{IsCheck, IsCheckStatus}
+use Rattle.md_solving.specs.Solving.{IsSolve}
+use Rattle.md_using.specs.Replaying.{pivots_in, IsReplay, IsReplayStatus}
+use Rattle.md_using.specs.Realising.{odds_in, IsRealise, IsRealiseStatus}
+use Rattle.md_solving.specs.Fair.{IsFair}
+use Rattle.md_using.specs.Drawing.{drawable_in, IsRun, IsRunStatus}
+use Rattle.md_using.specs.Reporting.{IsReporting, IsReportStatus}
+use Rattle.md_solving.specs.Ironing.{IsIron, IsIronStatus}
+use Rattle.md_solving.specs.Making.{IsMake, IsMakeStatus}
+use Rattle.md_solving.specs.Drilling.{IsDrill, IsDrillStatus}
 
 -- the commands: the files of each, what it says of them, and its statuses
 abbrev pub work_by : Command → Order → Work

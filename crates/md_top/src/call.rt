@@ -4,13 +4,13 @@ ghost use Rattle.md_words.specs.Orders.{asked};
 ghost use Rattle.md_words.specs.Words.{command_of};
 ghost use Rattle.md_top.specs.Promises.{IsComplete, IsHeadlineOf};
 ghost use Rattle.md_top.specs.Reply.{IsSaid, IsSaidOfOrder};
-ghost use Rattle.md_top.specs.Saying.{Saying, IsDelivered, IsSent, change_of};
-ghost use Rattle.md_top.specs.Refused.{IsTold, refused};
-ghost use Rattle.md_top.specs.declared.refusal.Refusal.{Refusal};
+ghost use Rattle.md_driver.specs.Saying.{Saying, IsDelivered, IsSent, change_of};
+ghost use Rattle.md_driver.specs.Refused.{IsTold, refused};
+ghost use Rattle.md_driver.specs.declared.refusal.Refusal.{Refusal};
 
-use crate::refusal::{Refusal, want_of_memory};
 use crate::run::run;
 use crate::send::send;
+use md_driver::{Refusal, want_of_memory};
 use md_ports::{Shelf, Sink};
 use md_words::{Order, order_of};
 use std::alloc::Global;

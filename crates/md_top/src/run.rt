@@ -1,26 +1,12 @@
 //! The commands, each carried out over its files.
 ghost use Rattle.md_words.specs.Orders.{asked};
 ghost use Rattle.md_top.specs.Reply.{work_of};
-ghost use Rattle.md_top.specs.Works.{IsCarriedOut};
+ghost use Rattle.md_driver.specs.Works.{IsCarriedOut};
 
-use crate::answered::Answered;
-use crate::audit::Audit;
-use crate::check::Check;
-use crate::draw::Draw;
-use crate::drill::Drill;
-use crate::fair::Fair;
-use crate::iron::Iron;
-use crate::make::Make;
-use crate::no_file::of_none;
-use crate::one_file::of_one;
-use crate::realise::Realise;
-use crate::refusal::Refusal;
-use crate::replay::Replay;
-use crate::report::Tell;
-use crate::rows::Rows;
-use crate::solve::Solve;
-use crate::two_files::of_two;
+use md_driver::{Answered, Refusal, of_none, of_one, of_two};
 use md_ports::Shelf;
+use md_solving::{Check, Drill, Fair, Iron, Make, Solve};
+use md_using::{Audit, Draw, Realise, Replay, Rows, Tell};
 use md_words::{Command, Order};
 use std::alloc::Global;
 

@@ -1,0 +1,5 @@
+pub mod Saying
+pub mod Texts
+pub mod Refused
+pub mod Reading
+pub mod Works

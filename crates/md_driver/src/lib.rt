@@ -1,0 +1,18 @@
+//! What commands have in common: reading a setting and a second file, why a command is not carried out, and the order in which
+//! all of this is done.
+#![tactic(auto)]
+
+mod answered;
+mod no_file;
+mod one_file;
+mod read;
+mod refusal;
+mod setting_file;
+mod two_files;
+
+pub use answered::Answered;
+pub use no_file::{NoFile, of_none};
+pub use one_file::{OneFile, of_one};
+pub use refusal::{Refusal, want_of_memory};
+pub use setting_file::{auction, general, is_auction, is_general};
+pub use two_files::{TwoFiles, of_two};

@@ -1,0 +1,10 @@
+pub mod Verdicts
+pub mod Headline
+pub mod AuctionHeadline
+pub mod Checking
+pub mod Solving
+pub mod Fair
+pub mod Ironing
+pub mod Numbers
+pub mod Making
+pub mod Drilling

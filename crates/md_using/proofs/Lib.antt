@@ -1,0 +1,3 @@
+pub mod Profiles
+pub mod BrokenRows
+pub mod Judged

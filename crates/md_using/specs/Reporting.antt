@@ -1,0 +1,83 @@
+-- What `report` says of a setting and of an answer that has a mechanism.
+use Rattle.std.specs.Prelude.{◌≡◌, ◌↔◌, ℕ, List}
+use Rattle.md_setting.specs.Setting.{GeneralSetting}
+use Rattle.md_setting.specs.Auction.{SymmetricAuction}
+use Rattle.md_setting.specs.General.{general_of}
+use Rattle.md_setting.specs.declared.file.SettingFile.{SettingFile}
+use Rattle.md_setting.specs.declared.file.SettingFile.TheVariants.{General, Auction}
+use Rattle.md_mech.specs.Admissible.{IsAdmissible}
+use Rattle.md_mech.specs.declared.mechanism.Mechanism.{Mechanism}
+use Rattle.md_border.specs.declared.interim.Interim.{Interim}
+use Rattle.md_expost.specs.declared.masses.Masses.{Masses}
+use Rattle.md_expost.specs.Masses.{AreMasses}
+use Rattle.md_expost.specs.Implementing.{Implements}
+use Rattle.md_claims.specs.AuctionClaims.{mechanism_in}
+use Rattle.md_answer.specs.declared.answer.Answer.{Answer}
+use Rattle.md_answer.specs.declared.answer.Answer.TheVariants.{Table, Optimal, Infeasible, Unbounded, AuctionOptimal, TooWide}
+use Rattle.md_report.specs.declared.report.Report.{Report}
+use Rattle.md_report.specs.Admissible.{IsToldWhole, MissesNothing}
+use Rattle.md_report.specs.Records.{report_text}
+use Rattle.md_report.specs.ReportOf.{IsReportOf}
+use Rattle.md_auction_report.specs.declared.auction_report.AuctionReport.{AuctionReport}
+use Rattle.md_auction_report.specs.Admissible.{IsTruthfulAndRational, IsToldWhole as IsAuctionToldWhole, MissesNothing as MissesNothingOfAuction}
+use Rattle.md_auction_report.specs.Mechanisms.{JudgesMechanisms}
+use Rattle.md_auction_report.specs.Records.{report_text as auction_report_text}
+use Rattle.md_auction_report.specs.ReportOf.{IsAuctionReportOf}
+use Rattle.md_driver.specs.Saying.{Saying}
+
+-- The text tells of a mechanism what it does. It is admissible exactly where the text tells no gain and no loss above 0, and
+-- no deficit below.
+pub record IsMechanismText (s : GeneralSetting) (m : Mechanism) (text : List ℕ) : Type 0 where
+  pub report : Report
+  pub is_report : IsReportOf s m report
+  pub whole : IsToldWhole s report
+  pub admissible : IsAdmissible s m ↔ MissesNothing report
+  pub told : text ≡ report_text s report
+
+-- the mechanism of a mass table with these odds, in which each bidder pays what the payments say of its value, is admissible
+-- exactly where the report shows neither a gain nor a loss above 0
+abbrev pub JudgesTables : SymmetricAuction → Interim → AuctionReport → Type 0
+JudgesTables a interim report =
+    (masses : Masses) → AreMasses a masses → Implements a interim masses
+    → IsAdmissible (general_of a) (mechanism_in a interim masses) ↔ MissesNothingOfAuction report
+
+-- The text tells what interim odds and payments do, against the reduced program with some cuts. They meet all conditions on
+-- truth and on taking part exactly where the text tells neither a gain nor a loss above 0. Exactly there each mechanism of the
+-- auction with these odds and payments is admissible, and so is that of each mass table with the odds.
+pub record IsInterimText (a : SymmetricAuction) (interim : Interim) (cuts : List ℕ) (text : List ℕ) : Type 0 where
+  pub report : AuctionReport
+  pub is_report : IsAuctionReportOf a interim cuts report
+  pub whole : IsAuctionToldWhole a report
+  pub admissible : IsTruthfulAndRational a interim ↔ MissesNothingOfAuction report
+  pub mechanisms : JudgesMechanisms a interim report
+  pub tables : JudgesTables a interim report
+  pub told : text ≡ auction_report_text a cuts report
+
+-- of an answer about a general setting its mechanism is told
+abbrev pub IsGeneralText : GeneralSetting → Answer → List ℕ → Type 0
+IsGeneralText s (Table mechanism) text = IsMechanismText s mechanism text
+IsGeneralText s (Optimal value mechanism bound) text = IsMechanismText s mechanism text
+IsGeneralText s (Infeasible face) text = ⊥
+IsGeneralText s (Unbounded mechanism ray) text = IsMechanismText s mechanism text
+IsGeneralText s (AuctionOptimal value interim masses cuts bound) text = ⊥
+IsGeneralText s (TooWide cuts first second) text = ⊥
+
+-- of an answer about an auction its odds and payments are, with the cuts of the answer
+abbrev pub IsAuctionText : SymmetricAuction → Answer → List ℕ → Type 0
+IsAuctionText a (Table mechanism) text = ⊥
+IsAuctionText a (Optimal value mechanism bound) text = ⊥
+IsAuctionText a (Infeasible face) text = ⊥
+IsAuctionText a (Unbounded mechanism ray) text = ⊥
+IsAuctionText a (AuctionOptimal value interim masses cuts bound) text = IsInterimText a interim cuts text
+IsAuctionText a (TooWide cuts first second) text = ⊥
+
+abbrev pub IsReportText : SettingFile → Answer → List ℕ → Type 0
+IsReportText (General s) answer text = IsGeneralText s answer text
+IsReportText (Auction a) answer text = IsAuctionText a answer text
+
+abbrev pub IsReporting : SettingFile → Answer → Saying → Type 0
+IsReporting file answer saying = (saying.status ≡ 0) × IsReportText file answer saying.text
+
+-- the statuses of what is answered
+abbrev pub IsReportStatus : ℕ → Type 0
+IsReportStatus status = status ≡ 0
