@@ -10,7 +10,7 @@ use Rattle.md_driver.specs.Reading.{answer_limit, file_of, file_said, second_in,
 use Rattle.md_driver.specs.Refused.{status_of}
 use Rattle.md_driver.specs.Saying.{Saying}
 use Rattle.md_ports.specs.Faults.{Rose}
-use Rattle.md_driver.specs.Works.{HasFaultedIn, IsCarriedOut, no_file, two_files, IsOutcome, IsReplyToNone, IsReplyToOne, IsReplyToTwo, IsWorked}
+use Rattle.md_driver.specs.Works.{HasFaultedIn, IsCarriedOut, no_file, two_files, IsOutcome, IsReplyToNone, IsReplyToOne, IsReplyToTwo, IsWorked, IsWorkedOnOne}
 
 -- what was read is no refusal
 pub read-not_refused : {T E : Type 0} (x : T) (e : E) → Ok x ≢ Err e
@@ -70,10 +70,24 @@ worked-no_fault Says IsOwn (Ok answered) h failed = cc
 worked-no_fault Says IsOwn (Err e) (inl memory) failed = let same : e ≡ refusal.ReadFault = cc in absurd (let both : refusal.Memory ≡ refusal.ReadFault = sym memory ∙ same in cc)
 worked-no_fault Says IsOwn (Err e) (inr worked) failed = not_fault e 67 (omega arith) worked.1.1 (let same : e ≡ refusal.ReadFault = cc in same)
 
+-- the same of work on a setting alone
+refused-no_fault : (IsOwn : ℕ → Type 0) (e : Refusal) → (IsOwn 67 × (status_of e ≡ 67)) ⊎ (status_of e ≡ 65) → e ≢ refusal.ReadFault
+refused-no_fault IsOwn e (inl h) = not_fault e 67 (omega arith) h.1
+refused-no_fault IsOwn e (inr h) = not_fault e 65 (omega arith) h
+
+pub one-no_fault : (Says : Saying → Type 0) (IsOwn : ℕ → Type 0) (result : Result Answered Refusal) → IsWorkedOnOne Says IsOwn result → result ≢ Err refusal.ReadFault
+one-no_fault Says IsOwn (Ok answered) h failed = cc
+one-no_fault Says IsOwn (Err e) (inl memory) failed = let same : e ≡ refusal.ReadFault = cc in absurd (let both : refusal.Memory ≡ refusal.ReadFault = sym memory ∙ same in cc)
+one-no_fault Says IsOwn (Err e) (inr worked) failed = refused-no_fault IsOwn e worked.1 (let same : e ≡ refusal.ReadFault = cc in same)
+
 -- the statuses of answers lie below 64
 pub worked-status : (Says : Saying → Type 0) (IsOwn : ℕ → Type 0) (result : Result Answered Refusal) → IsWorked Says IsOwn result → IfOk result (λ answered. answered.status < 64)
 worked-status Says IsOwn (Ok answered) h = h.1.1
 worked-status Says IsOwn (Err e) h = tt
+
+pub one-status : (Says : Saying → Type 0) (IsOwn : ℕ → Type 0) (result : Result Answered Refusal) → IsWorkedOnOne Says IsOwn result → IfOk result (λ answered. answered.status < 64)
+one-status Says IsOwn (Ok answered) h = h.1.1
+one-status Says IsOwn (Err e) h = tt
 
 -- ---- no file
 
@@ -103,11 +117,15 @@ module _ (serves : SettingFile → Bool) (P : SettingFile → Saying → Type 0)
       inl (record { status = inr own.0; said_of = λ bytes told. rw (own.1 bytes told) refl }, not_fault e 65 (omega arith) own.0)
 
   pub one-worked : (file : SettingFile) (result : Result Answered Refusal) → ForSome (content a) (λ bytes. setting_in serves bytes ≡ Ok file)
-      → IsWorked (P file) IsOwn result → IsOutcome (IsReplyToOne serves P IsOwn a content) result
+      → IsWorkedOnOne (P file) IsOwn result → IsOutcome (IsReplyToOne serves P IsOwn a content) result
   one-worked file (Ok answered) read worked = record { status = inl worked.1.0; said_of = λ bytes told. rw (read bytes told) worked.0 }
   one-worked file (Err e) read (inl memory) = inr (inr memory)
   one-worked file (Err e) read (inr worked) =
-      inl (record { status = inl (subst IsOwn (sym worked.1.1) worked.1.0); said_of = λ bytes told. rw (read bytes told) worked.0 }, not_fault e 67 (omega arith) worked.1.1)
+      inl (record { status = own worked.1; said_of = λ bytes told. rw (read bytes told) worked.0 }, refused-no_fault IsOwn e worked.1)
+    where
+      own : (IsOwn 67 × (status_of e ≡ 67)) ⊎ (status_of e ≡ 65) → IsOwn (status_of e) ⊎ (status_of e ≡ 65)
+      own (inl h) = inl (subst IsOwn (sym h.1) h.0)
+      own (inr h) = inr h
 
 -- ---- two files
 
