@@ -3,7 +3,7 @@ use Rattle.std.specs.Prelude.{◌≡◌, ◌⊎◌, ℕ, List, codes}
 use Rattle.md_parts.specs.declared.refusal.AnswerRefusal.{AnswerRefusal}
 use Rattle.md_parts.specs.declared.refusal.AnswerRefusal.TheVariants as answer
 use Rattle.md_driver.specs.declared.refusal.Refusal.{Refusal}
-use Rattle.md_driver.specs.declared.refusal.Refusal.TheVariants.{Usage, SettingTooLong, Setting, OtherKind, AnswerTooLong, Answer, NoTable, Pivot, Profile, Draw, Number, ReadFault, Memory}
+use Rattle.md_driver.specs.declared.refusal.Refusal.TheVariants.{Usage, SettingTooLong, Setting, OtherKind, NotASale, AnswerTooLong, Answer, NoTable, Pivot, Profile, Draw, Number, ReadFault, Memory}
 use Rattle.md_driver.specs.Saying.{Saying}
 use Rattle.md_driver.specs.Texts.{line, want_of_memory, setting_text, answer_text, pivot_text}
 
@@ -12,6 +12,7 @@ status_of Usage = 64
 status_of SettingTooLong = 65
 status_of (Setting _) = 65
 status_of OtherKind = 65
+status_of NotASale = 65
 status_of AnswerTooLong = 66
 status_of (Answer _) = 66
 status_of NoTable = 66
@@ -27,6 +28,7 @@ text_of Usage = line (codes "usage")
 text_of SettingTooLong = line (codes "setting refused: too long")
 text_of (Setting refusal) = setting_text refusal
 text_of OtherKind = line (codes "setting refused: other kind")
+text_of NotASale = line (codes "setting refused: not a sale")
 text_of AnswerTooLong = line (codes "answer refused: too long")
 text_of (Answer refusal) = answer_text refusal
 text_of NoTable = line (codes "answer refused: no table")
@@ -56,6 +58,7 @@ HasMadeLine (Pivot _) = Unit {0}
 HasMadeLine Usage = ⊥
 HasMadeLine SettingTooLong = ⊥
 HasMadeLine OtherKind = ⊥
+HasMadeLine NotASale = ⊥
 HasMadeLine AnswerTooLong = ⊥
 HasMadeLine NoTable = ⊥
 HasMadeLine Profile = ⊥

@@ -21,6 +21,8 @@ pub enum Refusal {
     Setting(SettingRefusal),
     /// The command is for the other kind of setting.
     OtherKind,
+    /// The command is for sales, and the setting is none.
+    NotASale,
     /// The second file is longer than its limit.
     AnswerTooLong,
     /// The second file says no answer.
@@ -143,7 +145,10 @@ impl Refusal {
     {
         match self {
             Refusal::Usage => 64,
-            Refusal::SettingTooLong | Refusal::Setting(_) | Refusal::OtherKind => 65,
+            Refusal::SettingTooLong
+            | Refusal::Setting(_)
+            | Refusal::OtherKind
+            | Refusal::NotASale => 65,
             Refusal::AnswerTooLong | Refusal::Answer(_) | Refusal::NoTable => 66,
             Refusal::Pivot(_) | Refusal::Profile | Refusal::Draw | Refusal::Number => 67,
             Refusal::ReadFault => 70,
@@ -160,6 +165,7 @@ impl Refusal {
             Refusal::Usage => Some("mechdes: usage\n"),
             Refusal::SettingTooLong => Some("mechdes: setting refused: too long\n"),
             Refusal::OtherKind => Some("mechdes: setting refused: other kind\n"),
+            Refusal::NotASale => Some("mechdes: setting refused: not a sale\n"),
             Refusal::AnswerTooLong => Some("mechdes: answer refused: too long\n"),
             Refusal::NoTable => Some("mechdes: answer refused: no table\n"),
             Refusal::Profile => Some("mechdes: profile refused\n"),

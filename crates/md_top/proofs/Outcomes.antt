@@ -35,6 +35,7 @@ refusal_test refusal.Usage = refl
 refusal_test refusal.SettingTooLong = refl
 refusal_test (refusal.Setting _) = refl
 refusal_test refusal.OtherKind = refl
+refusal_test refusal.NotASale = refl
 refusal_test refusal.AnswerTooLong = refl
 refusal_test (refusal.Answer _) = refl
 refusal_test refusal.NoTable = refl

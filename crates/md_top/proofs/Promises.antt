@@ -34,6 +34,7 @@ refusal_least refusal.Usage = omega arith
 refusal_least refusal.SettingTooLong = omega arith
 refusal_least (refusal.Setting _) = omega arith
 refusal_least refusal.OtherKind = omega arith
+refusal_least refusal.NotASale = omega arith
 refusal_least refusal.AnswerTooLong = omega arith
 refusal_least (refusal.Answer _) = omega arith
 refusal_least refusal.NoTable = omega arith
