@@ -1,0 +1,10 @@
+pub mod PairLaws
+pub mod PairSums
+pub mod ProductLaws
+pub mod CutLaws
+pub mod SaleLaws
+pub mod SideLaws
+pub mod ConditionLaws
+pub mod BuiltLaws
+pub mod TermForms
+pub mod CostLaws

@@ -1,0 +1,10 @@
+pub mod Pairs
+pub mod Products
+pub mod Values
+pub mod Sale
+pub mod Tested
+pub mod Sides
+pub mod Conditions
+pub mod Forms
+pub mod Costs
+pub mod ProgramOf
