@@ -32,7 +32,7 @@ pub fn marginal_at(setting: &Setting, number: u32) -> i128
 }
 
 /// What it is worth to the designer that the agent of a pair with its type has the item, more than where it is kept.
-pub(crate) fn surplus_at(setting: &Setting, number: u32) -> i128
+pub fn surplus_at(setting: &Setting, number: u32) -> i128
     requires sale { IsSale setting.now }
     requires number_in { number < pairs_of setting.now }
     ensures value { result ≡ surplus_at setting.now number }
