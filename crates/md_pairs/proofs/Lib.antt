@@ -1,0 +1,5 @@
+pub mod NetLaws
+pub mod FlowLaws
+pub mod WeightLaws
+pub mod MechanismLaws
+pub mod Necessity
