@@ -37,7 +37,7 @@ pub(crate) enum SaleCondition {
 }
 
 /// How many rows the program with these cuts has.
-pub(crate) fn row_count(setting: &Setting, cuts: &Sets) -> u32
+pub fn row_count(setting: &Setting, cuts: &Sets) -> u32
     requires sale { IsSale setting.now }
     requires cuts { AreCuts (pairs_of setting.now) cuts.now }
     ensures { result ≡ length (conditions_of setting.now cuts.now) }

@@ -15,6 +15,7 @@ mod sides;
 mod terms;
 mod worth;
 
+pub use condition::row_count;
 pub use pairs::{Pair, pair_at, pair_count, pair_number};
 pub use sale::is_sale;
 pub use sale_program::program;

@@ -1,0 +1,15 @@
+pub mod PairFacts
+pub mod Replacing
+pub mod Utilities
+pub mod RowLaws
+pub mod OnAverage
+pub mod Admitting
+pub mod MeanLaws
+pub mod Necessity
+pub mod MechanismWorth
+pub mod Standing
+pub mod OptimalLaws
+pub mod PointLaws
+pub mod BoundLaws
+pub mod OddsLaws
+pub mod CutRunLaws
