@@ -1,0 +1,3 @@
+mod SalePrograms
+mod SaleEnds
+mod GainLaws

@@ -1,0 +1,3 @@
+pub mod SaleCuts
+pub mod Gains
+pub mod Solved

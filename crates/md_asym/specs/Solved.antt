@@ -1,0 +1,29 @@
+-- When an answer is read off the end of the cut run of a sale, and which mechanism it is.
+use Rattle.std.specs.Prelude.{◌≡◌, ℕ, List}
+use Rattle.md_math.specs.Lists.{number_at}
+use Rattle.md_setting.specs.Setting.{GeneralSetting}
+use Rattle.md_mech.specs.declared.mechanism.Mechanism.{Mechanism}
+use Rattle.md_cuts.specs.declared.optimum.Optimum.{Optimum}
+use Rattle.md_cuts.specs.CutRuns.{EndsSettled, IsShownBy}
+use Rattle.md_pairs.specs.Mechanisms.{mechanism_of}
+use Rattle.md_asym.specs.declared.asym_answer.AsymAnswer.{AsymAnswer}
+use Rattle.md_asym.specs.SaleCuts.{odds_in, pays_in, sale_cutting}
+
+-- the mechanism of the masses, in which each agent pays by its type
+abbrev pub mechanism_in : GeneralSetting → AsymAnswer → Mechanism
+mechanism_in s answer = mechanism_of s answer.den answer.masses answer.pays
+
+-- the cuts, and the odds, the payments and the bound of an optimum
+pub record TellsSale (s : GeneralSetting) (cuts : List ℕ) (optimum : Optimum) (answer : AsymAnswer) : Type 0 where
+  pub same_cuts : answer.cuts ≡ cuts
+  pub same_den : answer.den ≡ optimum.den
+  pub odds : answer.odds ≡ odds_in s (number_at optimum.point)
+  pub pays : answer.pays ≡ pays_in s (number_at optimum.point)
+  pub bound : answer.bound ≡ optimum.bound
+
+-- the cut run of the sale ends with these cuts, and this is what is read off its last program
+pub record IsSolvedSale (s : GeneralSetting) (width : ℕ) (answer : AsymAnswer) : Type 0 where
+  pub optimum : Optimum
+  pub ends : EndsSettled (sale_cutting s) width answer.cuts optimum
+  pub shown : IsShownBy (sale_cutting s) answer.cuts optimum
+  pub tells : TellsSale s answer.cuts optimum answer

@@ -1,0 +1,16 @@
+//! Sales of one item to bidders who differ, solved: the cut run over the programs of a sale, whose cuts are Border's
+//! conditions for sets of pairs of a bidder and one of its types. Its end is an optimal mechanism of the setting.
+#![tactic(auto)]
+
+mod asym_answer;
+mod payments;
+mod sale;
+mod solving;
+mod worth;
+
+pub use asym_answer::AsymAnswer;
+pub use md_cuts::CutsError as AsymError;
+pub use solving::solve_asym;
+
+#[cfg(test)]
+mod tests;
