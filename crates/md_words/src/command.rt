@@ -21,6 +21,8 @@ pub enum Command {
     Realise,
     /// `fair SETTING [--width W]` finds the fairest mechanism of a setting within a width.
     Fair,
+    /// `asym SETTING [--width W]` solves the sale of one item to bidders who differ within a width.
+    Asym,
     /// `run SETTING ANSWER PROFILE DRAW1 DRAW2` draws an outcome of an answer at a profile of reports.
     Run,
     /// `report SETTING ANSWER` tells what the mechanism of an answer does, and how far it is from truthful.
@@ -52,6 +54,7 @@ fn named(word: &str) -> Option<Command>
         "replay" => Some(Command::Replay),
         "realise" => Some(Command::Realise),
         "fair" => Some(Command::Fair),
+        "asym" => Some(Command::Asym),
         "run" => Some(Command::Run),
         "report" => Some(Command::Report),
         "iron" => Some(Command::Iron),
@@ -67,7 +70,7 @@ pub(crate) fn form(command: Command) -> Form
 {
     match command {
         Command::Rows | Command::Iron => Form::One,
-        Command::Solve | Command::Fair => Form::OneWidth,
+        Command::Solve | Command::Fair | Command::Asym => Form::OneWidth,
         Command::Audit | Command::Check | Command::Realise | Command::Report => Form::Two,
         Command::Replay => Form::TwoWidth,
         Command::Run => Form::Draws,

@@ -7,7 +7,7 @@ use std::test::Fail;
 // What words are expected to ask for: the command, the two names and the width; none where they are no command.
 type Expected = Option<(Command, &'static str, &'static str, u8)>;
 
-static CASES: [(&[&str], Expected); 41] = [
+static CASES: [(&[&str], Expected); 45] = [
     (&["audit", "a", "b"], Some((Command::Audit, "a", "b", 62))),
     (&["check", "a", "b"], Some((Command::Check, "a", "b", 62))),
     (&["rows", "a"], Some((Command::Rows, "a", "", 62))),
@@ -49,6 +49,13 @@ static CASES: [(&[&str], Expected); 41] = [
     (&["fair", "a", "b"], None),
     (&["fair", "a", "--width", "63"], None),
     (&["fairest", "a"], None),
+    (&["asym", "a"], Some((Command::Asym, "a", "", 62))),
+    (
+        &["asym", "a", "--width", "4"],
+        Some((Command::Asym, "a", "", 4)),
+    ),
+    (&["asym", "a", "b"], None),
+    (&["asymmetric", "a"], None),
     (&["run", "a", "b", "c", "1"], None),
     (&["run", "a", "b", "c", "1", "2", "--width", "4"], None),
     (&["drill", "1", "--width", "4"], None),

@@ -1,0 +1,2 @@
+pub mod SaleTexts
+pub mod Selling
