@@ -1,6 +1,8 @@
 //! One call of each command over files in memory, with what it says. What is printed is worked out by hand, but for the long
 //! texts, of which the begin stands here.
-use crate::test_settings::{ONE_TYPE, OUT_OF_REACH, POSTED_PRICE, TWO_BIDDERS, VOTE};
+use crate::test_settings::{
+    ONE_BUYER_SALE, ONE_TYPE, OUT_OF_REACH, POSTED_PRICE, TWO_BIDDERS, VOTE,
+};
 use md_ports::MemShelf;
 use std::alloc::{AllocError, Global};
 
@@ -35,7 +37,7 @@ const HIGHER_VALUE: &str = "interim,4\nodds,0,3\nend\n";
 
 const ALWAYS: &str = "interim,1\nodds,1,1\nend\n";
 
-static FILES: [(&str, &str); 14] = [
+static FILES: [(&str, &str); 15] = [
     ("one", ONE_TYPE),
     ("one-table", ONE_TYPE_TABLE),
     ("price", POSTED_PRICE),
@@ -48,12 +50,13 @@ static FILES: [(&str, &str); 14] = [
     ("buyer", ONE_BUYER),
     ("buyer-answer", ONE_BUYER_ANSWER),
     ("bidders", TWO_BIDDERS),
+    ("sale", ONE_BUYER_SALE),
     ("higher", HIGHER_VALUE),
     ("always", ALWAYS),
 ];
 
 /// The calls. The last ones are refused.
-pub(crate) static CALLS: [Call; 28] = [
+pub(crate) static CALLS: [Call; 30] = [
     (&["audit", "one", "one-table"], 2, 0, "admissible\n"),
     (
         &["audit", "price", "above"],
@@ -118,8 +121,20 @@ pub(crate) static CALLS: [Call; 28] = [
         0,
         "answer,1,auction,optimal\nvalue,5,2\n",
     ),
+    (
+        &["asym", "sale"],
+        1,
+        0,
+        "answer,1,asym,optimal\nvalue,5,2\ninterim,1\nodds,buyer,0,1\npays,buyer,0,3\nmass,low,0\nmass,high,1\ncut,1\ncut,2\nbound,",
+    ),
     (&["make", "2"], 0, 0, "format = \"mechanism-setting\"\n"),
     (&["drill", "2"], 0, 0, "drill,2,general,optimal,"),
+    (
+        &["asym", "price"],
+        1,
+        65,
+        "mechdes: setting refused: not a sale\n",
+    ),
     (&["solve"], 0, 64, "mechdes: usage\n"),
     (&["make", "1000000"], 0, 67, "mechdes: number refused\n"),
     (

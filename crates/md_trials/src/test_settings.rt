@@ -20,6 +20,10 @@ pub(crate) const VOTE: &str =
 pub(crate) const CORRELATED: &str =
     "format = \"mechanism-setting\"\nversion = 1\nkind = \"general\"\ntruth = \"bayes\"\nrational = \"interim\"\npayments = true\noutcomes = [\"keep\", \"first\", \"second\"]\nprior = [2, 1, 1, 2]\n[objective]\nrevenue = 1\n[[agent]]\nname = \"one\"\ntypes = [\"v1\", \"v2\"]\nutility = [[0, 1, 0], [0, 2, 0]]\n[[agent]]\nname = \"two\"\ntypes = [\"v1\", \"v2\"]\nutility = [[0, 0, 1], [0, 0, 2]]\n";
 
+// One buyer whose value is 1 or 3, of an item that is worth 2 where it is kept, as a general setting.
+pub(crate) const ONE_BUYER_SALE: &str =
+    "format = \"mechanism-setting\"\nversion = 1\nkind = \"general\"\ntruth = \"bayes\"\nrational = \"interim\"\npayments = true\noutcomes = [\"keep\", \"sell\"]\n[objective]\nrevenue = 1\nvalue = [2, 0]\n[[agent]]\nname = \"buyer\"\ntypes = [\"low\", \"high\"]\nweights = [1, 1]\nutility = [[0, 1], [0, 3]]\n";
+
 // One agent that has 1 outside, and gets 0 at the one outcome.
 pub(crate) const OUT_OF_REACH: &str =
     "format = \"mechanism-setting\"\nversion = 1\nkind = \"general\"\ntruth = \"dominant\"\nrational = \"ex-post\"\npayments = false\noutcomes = [\"only\"]\n[[agent]]\nname = \"a\"\ntypes = [\"t\"]\nweights = [1]\noutside = [1]\nutility = [[0]]\n";
