@@ -19,6 +19,19 @@ const TRADED: &str =
 const FIRST_PRICE: &str =
     "answer,1,general,table\ntable,2\nlottery,v1,v1,0,1,1\nlottery,v1,v2,0,0,2\nlottery,v2,v1,0,2,0\nlottery,v2,v2,0,1,1\npay,v1,v1,1,1\npay,v1,v2,0,4\npay,v2,v1,4,0\npay,v2,v2,2,2\nend\n";
 
+// One item for two bidders who value it 10 or 20, the first one 10 three times as often as 20 and the other one both alike. No
+// report may be better whatever the other bids, and nobody may lose.
+const SHADED: &str =
+    "format = \"mechanism-setting\"\nversion = 1\nkind = \"general\"\ntruth = \"dominant\"\nrational = \"ex-post\"\npayments = true\noutcomes = [\"keep\", \"first\", \"second\"]\n[objective]\nrevenue = 1\n[[agent]]\nname = \"one\"\ntypes = [\"low\", \"high\"]\nweights = [3, 1]\nutility = [[0, 10, 0], [0, 20, 0]]\n[[agent]]\nname = \"two\"\ntypes = [\"low\", \"high\"]\nweights = [1, 1]\nutility = [[0, 0, 10], [0, 0, 20]]\n";
+
+// The same bidders, where this is asked for on average.
+const SHADED_ON_AVERAGE: &str =
+    "format = \"mechanism-setting\"\nversion = 1\nkind = \"general\"\ntruth = \"bayes\"\nrational = \"interim\"\npayments = true\noutcomes = [\"keep\", \"first\", \"second\"]\n[objective]\nrevenue = 1\n[[agent]]\nname = \"one\"\ntypes = [\"low\", \"high\"]\nweights = [3, 1]\nutility = [[0, 10, 0], [0, 20, 0]]\n[[agent]]\nname = \"two\"\ntypes = [\"low\", \"high\"]\nweights = [1, 1]\nutility = [[0, 0, 10], [0, 0, 20]]\n";
+
+// The higher bid wins and is paid, and equal ones win half of the time each.
+const FIRST_PRICE_OF_TENS: &str =
+    "answer,1,general,table\ntable,2\nlottery,low,low,0,1,1\nlottery,low,high,0,0,2\nlottery,high,low,0,2,0\nlottery,high,high,0,1,1\npay,low,low,10,10\npay,low,high,0,40\npay,high,low,40,0\npay,high,high,20,20\nend\n";
+
 // Two bidders with the values 2, 3 and 6.
 const IRONED: &str =
     "format = \"mechanism-setting\"\nversion = 1\nkind = \"auction\"\nbidders = 2\nvalues = [2, 3, 6]\nweights = [2, 1, 1]\nrevenue = 1\n";
@@ -30,7 +43,7 @@ const POOLED: &str =
 // A setting, an answer, the status, what is printed and what is said on the other stream.
 type Case = (&'static str, &'static str, u8, &'static str, &'static str);
 
-static GENERAL: [Case; 7] = [
+static GENERAL: [Case; 9] = [
     // The high type has nothing by the price 3, as by the report that it is the low one, and as without the item.
     (
         POSTED_PRICE,
@@ -54,6 +67,26 @@ static GENERAL: [Case; 7] = [
         FIRST_PRICE,
         0,
         "value,7,4\nrevenue,7,4\nwelfare,7,4\ntype,one,v1,0,1,1,4\ntype,one,v2,0,1,3,2\ntype,two,v1,0,1,1,4\ntype,two,v2,0,1,3,2\ngain,one,v2,v1,v2+v1,1,2\ngain,two,v2,v1,v1+v2,1,2\nloss,one,v1,v1+v1,0,1\nloss,two,v1,v1+v1,0,1\ntight,truth/one/v2/v1/v2+v2\ntight,truth/two/v2/v1/v2+v2\ntight,rational/one/v1+v1\ntight,rational/one/v1+v2\ntight,rational/one/v2+v1\ntight,rational/one/v2+v2\ntight,rational/two/v1+v1\ntight,rational/two/v1+v2\ntight,rational/two/v2+v1\ntight,rational/two/v2+v2\nend\n",
+        "",
+    ),
+    // Bidder one is low in 3 of 4 cases and bidder two in 1 of 2, so that the item brings 10 in 3 of 8 cases, and 20 in 5:
+    // 130/8. By weight, one meets low and high alike: low it pays 5 or nothing, high 20 or 10. Two meets low with 3/4: low it
+    // pays 5 there, high 20, and 10 else. All of it is what the item is worth. A high bidder who bids 10 against 10 has the
+    // item half of the time for 10: (20 - 10)/2 = 5, where the truth brings nothing.
+    (
+        SHADED,
+        FIRST_PRICE_OF_TENS,
+        0,
+        "value,65,4\nrevenue,65,4\nwelfare,65,4\ntype,one,low,0,1,5,2\ntype,one,high,0,1,15,1\ntype,two,low,0,1,15,4\ntype,two,high,0,1,35,2\ngain,one,high,low,high+low,5,1\ngain,two,high,low,low+high,5,1\nloss,one,low,low+low,0,1\nloss,two,low,low+low,0,1\ntight,truth/one/high/low/high+high\ntight,truth/two/high/low/high+high\ntight,rational/one/low+low\ntight,rational/one/low+high\ntight,rational/one/high+low\ntight,rational/one/high+high\ntight,rational/two/low+low\ntight,rational/two/low+high\ntight,rational/two/high+low\ntight,rational/two/high+high\nend\n",
+        "",
+    ),
+    // On average one gains 5 where two is low, 5/2, and two where one is low, 5*3/4. Low they lose by the bid 20: half of 10
+    // against 20, and 10 against 10.
+    (
+        SHADED_ON_AVERAGE,
+        FIRST_PRICE_OF_TENS,
+        0,
+        "value,65,4\nrevenue,65,4\nwelfare,65,4\ntype,one,low,0,1,5,2\ntype,one,high,0,1,15,1\ntype,two,low,0,1,15,4\ntype,two,high,0,1,35,2\ngain,one,high,low,5,2\ngain,two,high,low,15,4\nloss,one,low,0,1\nloss,two,low,0,1\ntight,rational/one/low\ntight,rational/one/high\ntight,rational/two/low\ntight,rational/two/high\nend\n",
         "",
     ),
     // In thirds, the seller of cost 1 has 2 and 10 by the buyer's types, and by the report of cost 5 it has 0 and 12. The buyer
