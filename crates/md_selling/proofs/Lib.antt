@@ -1,2 +1,3 @@
 pub mod Writable
 pub mod Sold
+pub mod Joined

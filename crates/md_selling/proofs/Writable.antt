@@ -1,5 +1,5 @@
 -- That an answer to a sale has the sizes that its text wants.
-use Rattle.std.proofs.Common.{◌≡◌, ℕ, ℤ, List, length, sym, subst, ap, ◌∙◌}
+use Rattle.std.proofs.Common.{ℕ, ℤ, List, length, sym, subst, ap, ◌∙◌}
 use Rattle.md_math.proofs.Builders.{length-list_to}
 use Rattle.md_setting.specs.Setting.{GeneralSetting}
 use Rattle.md_lp.specs.Cuts.{AreCuts}

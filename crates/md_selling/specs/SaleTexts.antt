@@ -17,32 +17,40 @@ use Rattle.md_sale.specs.Pairs.{pair_number}
 use Rattle.md_sale.specs.Values.{pairs_of}
 use Rattle.md_asym.specs.declared.asym_answer.AsymAnswer.{AsymAnswer}
 
--- the record of a bidder: its name, and the number of each of its types, in their order
+-- the texts of the numbers of a bidder's types, in their order
+abbrev pub type_texts : GeneralSetting → List ℤ → ℕ → List (List ℕ)
+type_texts s numbers i = list_to (slice_index (sizes_of s) i) (λ a. text_of (number_at numbers (pair_number (sizes_of s) i a)))
+
+-- the record of a bidder: its name, and these numbers
 abbrev pub agent_row : List ℕ → GeneralSetting → List ℤ → ℕ → List (List ℕ)
-agent_row word s numbers i =
-    word ∷ agent_name s i ∷ list_to (slice_index (sizes_of s) i) (λ a. text_of (number_at numbers (pair_number (sizes_of s) i a)))
+agent_row word s numbers i = word ∷ agent_name s i ∷ type_texts s numbers i
 
 abbrev pub agent_rows : List ℕ → GeneralSetting → List ℤ → List (List (List ℕ))
 agent_rows word s numbers = list_to (agent_count s) (agent_row word s numbers)
 
--- the records between the first and the last: multipliers are by the number of a row of the last program
-abbrev pub sale_rows : GeneralSetting → AsymAnswer → List (List (List ℕ))
-sale_rows s answer =
-    value_row answer.value
+-- the records of an answer: multipliers are by the number of a row of the last program
+abbrev pub sale_records : GeneralSetting → AsymAnswer → List (List (List ℕ))
+sale_records s answer =
+    first_row One (codes "asym") (codes "optimal")
+    ∷ value_row answer.value
     ∷ number_row (codes "interim") (answer.den ∷ [])
     ∷ (agent_rows (codes "odds") s answer.odds
     ++ (agent_rows (codes "pays") s answer.pays
     ++ (profile_rows (codes "mass") s answer.masses (agent_count s)
     ++ (cut_rows answer.cuts
-    ++ bound_rows (length (conditions_of s answer.cuts)) answer.bound))))
+    ++ (bound_rows (length (conditions_of s answer.cuts)) answer.bound
+    ++ end_row ∷ [])))))
 
 abbrev pub text_of_sale : GeneralSetting → AsymAnswer → List ℕ
-text_of_sale s answer = text_of_records (first_row One (codes "asym") (codes "optimal") ∷ (sale_rows s answer ++ end_row ∷ []))
+text_of_sale s answer = text_of_records (sale_records s answer)
 
 -- the cuts of the last program, the part about the forward path, and then that about the backward one
+abbrev pub wide_sale_records : List ℕ → Wide → Wide → List (List (List ℕ))
+wide_sale_records cuts first second =
+    first_row One (codes "asym") (codes "toowide") ∷ (cut_rows cuts ++ (wide_rows first ++ again_row ∷ (wide_rows second ++ end_row ∷ [])))
+
 abbrev pub text_of_wide_sale : List ℕ → Wide → Wide → List ℕ
-text_of_wide_sale cuts first second =
-    text_of_records (first_row One (codes "asym") (codes "toowide") ∷ ((cut_rows cuts ++ (wide_rows first ++ again_row ∷ wide_rows second)) ++ end_row ∷ []))
+text_of_wide_sale cuts first second = text_of_records (wide_sale_records cuts first second)
 
 -- the lists have the sizes of the sale and of its last program
 pub record IsWritable (s : GeneralSetting) (answer : AsymAnswer) : Type 0 where

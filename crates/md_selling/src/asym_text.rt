@@ -1,15 +1,12 @@
 //! The records that tell the best mechanism of a sale, or why there is none within a width.
-ghost use Rattle.std.specs.Prelude.{◌≡◌, ◌<◌, ◌*◌, ◌++◌, codes, length, IfOk, OnOk};
+ghost use Rattle.std.specs.Prelude.{◌≡◌, ◌<◌, ◌*◌, ◌++◌, ◌∷◌, [], codes, length, IfOk, OnOk};
 ghost use Rattle.md_space.specs.Profiles.{profile_count};
 ghost use Rattle.md_setting.specs.Meaning.{agent_count, sizes_of};
 ghost use Rattle.md_records.specs.Written.{text_of_records};
-ghost use Rattle.md_lp.specs.Cuts.{AreCuts};
-ghost use Rattle.md_parts.specs.Fitting.{IsBoundOver};
 ghost use Rattle.md_parts.specs.Rows.{profile_rows};
 ghost use Rattle.md_sale.specs.Sale.{IsSale};
-ghost use Rattle.md_sale.specs.Conditions.{conditions_of};
 ghost use Rattle.md_sale.specs.Values.{pairs_of};
-ghost use Rattle.md_selling.specs.SaleTexts.{IsWritable, agent_row, agent_rows, text_of_sale, text_of_wide_sale};
+ghost use Rattle.md_selling.specs.SaleTexts.{IsWritable, agent_row, agent_rows, text_of_sale, text_of_wide_sale, type_texts};
 
 use md_asym::AsymAnswer;
 use md_lp::{Sets, Wide};
@@ -78,8 +75,24 @@ fn push_agents(
     ensures { OnOk result (rows.new.items ≡ rows.old.items ++ agent_rows word.now setting.now numbers.now) }
 {
     for agent in 0..agents(setting) {
-        rows.push(agent_record(alloc, setting, word, agent, numbers)?)?;
+        push_agent(alloc, rows, setting, word, agent, numbers)?;
     }
+    Ok(())
+}
+
+fn push_agent(
+    alloc: Global,
+    rows: &mut Vec<Row>,
+    setting: &Setting,
+    word: &str,
+    agent: u8,
+    numbers: &Nums,
+) -> Result<(), NoMemory>
+    requires agent_in { agent < agent_count setting.now }
+    requires one_each { length numbers.now ≡ pairs_of setting.now }
+    ensures { OnOk result (rows.new.items ≡ rows.old.items ++ agent_row word.now setting.now numbers.now agent ∷ []) }
+{
+    rows.push(agent_record(alloc, setting, word, agent, numbers)?)?;
     Ok(())
 }
 
@@ -95,14 +108,24 @@ fn agent_record(
     requires one_each { length numbers.now ≡ pairs_of setting.now }
     ensures { IfOk result (λ row. row ≡ agent_row word.now setting.now numbers.now agent) }
 {
-    let mut row = Row::new(alloc)
+    let named = Row::new(alloc)
         .with(word.as_bytes())?
         .with(setting.agent_name(agent).as_bytes())?;
+    with_types(named, setting, agent, numbers)
+}
+
+// The record with a number for each type of a bidder after its fields.
+fn with_types(row: Row, setting: &Setting, agent: u8, numbers: &Nums) -> Result<Row, NoMemory>
+    requires agent_in { agent < agent_count setting.now }
+    requires one_each { length numbers.now ≡ pairs_of setting.now }
+    ensures { IfOk result (λ filled. filled ≡ row ++ type_texts setting.now numbers.now agent) }
+{
+    let mut filled = row;
     for kind in 0..setting.space().types(agent) {
         let pair = pair_number(setting, agent, kind);
-        row = row.with_number(numbers.get(pair as usize))?;
+        filled = filled.with_number(numbers.get(pair as usize))?;
     }
-    Ok(row)
+    Ok(filled)
 }
 
 // Adds a record for each profile, with the mass of each bidder.
