@@ -5,7 +5,7 @@ use md_lp::{Entry, Wide};
 use md_num::{Frac, Width};
 use md_sale::is_sale;
 use md_samples::{SampleAgent, Utility, setting};
-use md_setting::{BuildRefusal, Rational, Setting, Truth};
+use md_setting::{Rational, Setting, Truth};
 use std::alloc::Global;
 use std::process::Abort;
 use std::test::Fail;
@@ -53,7 +53,11 @@ fn sale(alloc: Global, sample: &Sample) -> Result<Setting, Fail> {
     }
 }
 
-fn solved(alloc: Global, sample: &Sample, bits: u8) -> Result<Result<AsymAnswer, AsymError>, Fail> {
+fn solve_sample(
+    alloc: Global,
+    sample: &Sample,
+    bits: u8,
+) -> Result<Result<AsymAnswer, AsymError>, Fail> {
     let setting = sale(alloc, sample)?;
     let width = Width::new(bits).ok_or("no width")?;
     if !is_sale(&setting) {
@@ -111,7 +115,7 @@ static SOLVED: [Solved; 2] = [
 ];
 
 fn judge_solved(rt: &impl Abort, alloc: Global, case: &Solved) -> Result<(), Fail> {
-    let Ok(answer) = solved(alloc, &case.sample, 62)? else {
+    let Ok(answer) = solve_sample(alloc, &case.sample, 62)? else {
         return Err("not solved".into());
     };
     assert_eq!(rt; answer.value, case.value);
@@ -143,7 +147,7 @@ static SEVERAL: Sample = Sample {
 
 #[test]
 fn solves_a_sale_with_several_optima(rt: HostRuntime) -> Result<(), Fail> {
-    let Ok(answer) = solved(rt.alloc(), &SEVERAL, 62)? else {
+    let Ok(answer) = solve_sample(rt.alloc(), &SEVERAL, 62)? else {
         return Err("not solved".into());
     };
     assert_eq!(rt; answer.value, Frac { num: 5, den: 2 });
@@ -171,7 +175,7 @@ fn is_first(wide: &Wide) -> bool {
 
 #[test]
 fn tells_where_a_sale_is_too_wide(rt: HostRuntime) -> Result<(), Fail> {
-    match solved(rt.alloc(), &TOO_WIDE, 4)? {
+    match solve_sample(rt.alloc(), &TOO_WIDE, 4)? {
         Err(
             AsymError::TooWide {
                 cuts,
