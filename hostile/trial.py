@@ -34,7 +34,7 @@ CALLS = [
     "report bilateral-trade.toml bilateral-trade-answer.csv",
     "report auction-single.toml auction-single-answer.csv",
     "iron auction-single.toml",
-    "asym optimal-auction.toml",
+    "asym strong-and-weak.toml",
     "make 1",
     "make 2",
     "drill 1",
