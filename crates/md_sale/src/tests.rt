@@ -151,15 +151,46 @@ fn sale<'a>(
     Ok(raw)
 }
 
-fn changed(alloc: Global, change: &Change) -> Result<RawSetting, AllocError> {
+// What the sale of a case is built from.
+#[derive(Clone, Copy)]
+struct Parts {
+    weights: &'static [i64],
+    outside: &'static [i64],
+    first: Utility<'static>,
+}
+
+fn parts_of(change: &Change) -> Parts {
     let plain = Utility::ByType(&[&[0, 1, 0], &[0, 2, 0]]);
-    let mut raw = match change {
-        Change::First(lists) => sale(alloc, &[1, 1], &[0, 0], Utility::ByType(lists))?,
-        Change::FirstByProfile(lists) => sale(alloc, &[1, 1], &[0, 0], Utility::ByProfile(lists))?,
-        Change::Outside(numbers) => sale(alloc, &[1, 1], numbers, plain)?,
-        Change::Prior(_) => sale(alloc, &[], &[0, 0], plain)?,
-        _ => sale(alloc, &[1, 1], &[0, 0], plain)?,
-    };
+    match change {
+        Change::First(lists) => Parts {
+            weights: &[1, 1],
+            outside: &[0, 0],
+            first: Utility::ByType(lists),
+        },
+        Change::FirstByProfile(lists) => Parts {
+            weights: &[1, 1],
+            outside: &[0, 0],
+            first: Utility::ByProfile(lists),
+        },
+        Change::Outside(numbers) => Parts {
+            weights: &[1, 1],
+            outside: numbers,
+            first: plain,
+        },
+        Change::Prior(_) => Parts {
+            weights: &[],
+            outside: &[0, 0],
+            first: plain,
+        },
+        _ => Parts {
+            weights: &[1, 1],
+            outside: &[0, 0],
+            first: plain,
+        },
+    }
+}
+
+fn change_rest(alloc: Global, change: &Change, raw: &mut RawSetting) -> Result<(), AllocError> {
     match change {
         Change::Prior(prior) => raw.prior = Some(Vec::from_slice(alloc, prior)?),
         Change::Truth(truth) => raw.truth = *truth,
@@ -169,17 +200,32 @@ fn changed(alloc: Global, change: &Change) -> Result<RawSetting, AllocError> {
         Change::Revenue(revenue) => raw.revenue = *revenue,
         _ => {}
     }
+    Ok(())
+}
+
+fn changed(alloc: Global, change: &Change) -> Result<RawSetting, AllocError> {
+    let parts = parts_of(change);
+    let mut raw = sale(alloc, parts.weights, parts.outside, parts.first)?;
+    change_rest(alloc, change, &mut raw)?;
     Ok(raw)
+}
+
+fn setting_of(alloc: Global, raw: RawSetting) -> Result<Setting, Fail> {
+    match Setting::new(alloc, raw) {
+        Ok(setting) => Ok(setting),
+        Err(_) => Err("no setting")?,
+    }
+}
+
+fn tells_sale(alloc: Global, case: &Case) -> Result<bool, Fail> {
+    let setting = setting_of(alloc, changed(alloc, &case.change)?)?;
+    Ok(is_sale(&setting))
 }
 
 #[test]
 fn tells_sales_from_others(rt: HostRuntime) -> Result<(), Fail> {
     for case in &CASES {
-        let raw = changed(rt.alloc(), &case.change)?;
-        let Ok(setting) = Setting::new(rt.alloc(), raw) else {
-            return Err("no setting")?;
-        };
-        assert_eq!(rt; is_sale(&setting), case.is_sale);
+        assert_eq!(rt; tells_sale(rt.alloc(), case)?, case.is_sale);
     }
     Ok(())
 }
@@ -219,9 +265,7 @@ fn is_sale_to(
     outcomes: &[&str],
     values: &[i64],
 ) -> Result<bool, Fail> {
-    let Ok(setting) = Setting::new(alloc, raw_sale(alloc, agents, outcomes, values)?) else {
-        return Err("no setting")?;
-    };
+    let setting = setting_of(alloc, raw_sale(alloc, agents, outcomes, values)?)?;
     Ok(is_sale(&setting))
 }
 
@@ -251,9 +295,7 @@ fn is_sale_to_three(alloc: Global, prior: &[i64]) -> Result<bool, Fail> {
     let outcomes = ["keep", "first", "second", "third"];
     let mut raw = raw_sale(alloc, &[one, two, three], &outcomes, &[0, 0, 0, 0])?;
     raw.prior = Some(Vec::from_slice(alloc, prior)?);
-    let Ok(setting) = Setting::new(alloc, raw) else {
-        return Err("no setting")?;
-    };
+    let setting = setting_of(alloc, raw)?;
     Ok(is_sale(&setting))
 }
 
@@ -424,27 +466,34 @@ fn cost_at(lp: &Lp, column: u32) -> Option<i128> {
     }
 }
 
-#[test]
-fn writes_the_program_of_a_sale(rt: HostRuntime) -> Result<(), Fail> {
-    let alloc = rt.alloc();
-    let Ok(setting) = Setting::new(alloc, changed(alloc, &Change::Nothing)?) else {
-        return Err("no setting")?;
-    };
-    if !is_sale(&setting) {
+// The program of the sale, with these cuts.
+fn program_of(alloc: Global, setting: &Setting) -> Result<Lp, Fail> {
+    if !is_sale(setting) {
         return Err("no sale")?;
     }
-    if pair_count(&setting) != 4 {
+    if pair_count(setting) != 4 {
         return Err("no four pairs")?;
     }
-    let lp = program(alloc, &setting, &cuts(alloc)?)?;
+    Ok(program(alloc, setting, &cuts(alloc)?)?)
+}
+
+fn judge_program(rt: &impl Abort, lp: &Lp) -> Result<(), Fail> {
     assert_eq!(rt; lp.rows() as usize, ROWS.len());
     assert_eq!(rt; lp.columns() as usize, COST.len());
     assert_eq!(rt; lp.cost_factor(), 2);
     for (column, number) in COST.iter().enumerate() {
-        assert_eq!(rt; cost_at(&lp, column as u32), Some(*number));
+        assert_eq!(rt; cost_at(lp, column as u32), Some(*number));
     }
     for (row, wanted) in ROWS.iter().enumerate() {
-        judge_row(&rt, &lp, row as u32, wanted)?;
+        judge_row(rt, lp, row as u32, wanted)?;
     }
     Ok(())
+}
+
+#[test]
+fn writes_the_program_of_a_sale(rt: HostRuntime) -> Result<(), Fail> {
+    let alloc = rt.alloc();
+    let setting = setting_of(alloc, changed(alloc, &Change::Nothing)?)?;
+    let lp = program_of(alloc, &setting)?;
+    judge_program(&rt, &lp)
 }
