@@ -5,6 +5,7 @@ use md_sale::is_sale;
 use md_samples::{SampleAgent, Utility, setting};
 use md_setting::{Rational, Setting, Truth};
 use std::alloc::{AllocError, Global};
+use std::process::Abort;
 use std::test::Fail;
 
 fn bidder<'a>(name: &'a str, utility: &'a [&'a [i64]]) -> SampleAgent<'a> {
@@ -20,6 +21,7 @@ fn bidder<'a>(name: &'a str, utility: &'a [&'a [i64]]) -> SampleAgent<'a> {
 // The item is worth 1 or 2 to the first agent, and 2 or 4 to the second. The weights are those of (1, 2), (1, 4), (2, 2) and
 // (2, 4).
 fn sale(alloc: Global, weights: &[i64]) -> Result<Option<Setting>, AllocError> {
+    let prior = Vec::from_slice(alloc, weights)?;
     let agents = [
         bidder("one", &[&[0, 1, 0], &[0, 2, 0]]),
         bidder("two", &[&[0, 0, 2], &[0, 0, 4]]),
@@ -27,7 +29,7 @@ fn sale(alloc: Global, weights: &[i64]) -> Result<Option<Setting>, AllocError> {
     let mut raw = setting(alloc, &agents, &["keep", "first", "second"], &[0, 0, 0])?;
     raw.truth = Truth::Bayes;
     raw.rational = Rational::Interim;
-    raw.prior = Some(Vec::from_slice(alloc, weights)?);
+    raw.prior = Some(prior);
     match Setting::new(alloc, raw) {
         Ok(setting) => Ok(Some(setting)),
         Err(_) => Ok(None),
@@ -123,17 +125,21 @@ fn are_same(numbers: &Nums, list: &[i128]) -> bool {
 }
 
 fn realises(alloc: Global, case: &Case) -> Result<bool, Fail> {
-    let Some(setting) = sale(alloc, case.weights)? else {
-        return Err("no setting")?;
-    };
     let odds = numbers(alloc, case.odds)?;
-    if !is_sale(&setting) {
+    match sale(alloc, case.weights)? {
+        Some(setting) => realises_in(alloc, &setting, case, &odds),
+        None => Err("no setting")?,
+    }
+}
+
+fn realises_in(alloc: Global, setting: &Setting, case: &Case, odds: &Nums) -> Result<bool, Fail> {
+    if !is_sale(setting) {
         return Err("no sale")?;
     }
-    if !are_odds(&setting, case.den, &odds) {
+    if !are_odds(setting, case.den, odds) {
         return Err("no odds")?;
     }
-    let end = realise_pairs(alloc, &setting, case.den, &odds)?;
+    let end = realise_pairs(alloc, setting, case.den, odds)?;
     Ok(is_as_wanted(&end, &case.wanted))
 }
 
@@ -149,13 +155,17 @@ fn finds_the_table_or_the_worst_set(rt: HostRuntime) -> Result<(), Fail> {
 #[test]
 fn tells_odds_from_others(rt: HostRuntime) -> Result<(), Fail> {
     let alloc = rt.alloc();
-    let Some(setting) = sale(alloc, &[1, 1, 1, 1])? else {
-        return Err("no setting")?;
-    };
-    assert!(rt; are_odds(&setting, 3, &numbers(alloc, &[0, 1, 2, 3])?));
-    assert!(rt; !are_odds(&setting, 3, &numbers(alloc, &[0, 1, 2])?));
-    assert!(rt; !are_odds(&setting, 3, &numbers(alloc, &[0, 1, 2, 4])?));
-    assert!(rt; !are_odds(&setting, 3, &numbers(alloc, &[0, 1, -2, 3])?));
-    assert!(rt; !are_odds(&setting, 0, &numbers(alloc, &[0, 0, 0, 0])?));
+    match sale(alloc, &[1, 1, 1, 1])? {
+        Some(setting) => tells(&rt, alloc, &setting),
+        None => Err("no setting")?,
+    }
+}
+
+fn tells(rt: &impl Abort, alloc: Global, setting: &Setting) -> Result<(), Fail> {
+    assert!(rt; are_odds(setting, 3, &numbers(alloc, &[0, 1, 2, 3])?));
+    assert!(rt; !are_odds(setting, 3, &numbers(alloc, &[0, 1, 2])?));
+    assert!(rt; !are_odds(setting, 3, &numbers(alloc, &[0, 1, 2, 4])?));
+    assert!(rt; !are_odds(setting, 3, &numbers(alloc, &[0, 1, -2, 3])?));
+    assert!(rt; !are_odds(setting, 0, &numbers(alloc, &[0, 0, 0, 0])?));
     Ok(())
 }
