@@ -19,7 +19,7 @@ import pathlib
 import tomllib
 from fractions import Fraction
 
-__all__ = ["Answer", "Ended", "audit", "call", "check", "drill", "fair", "iron", "make", "read", "realise", "replay", "report",
+__all__ = ["Answer", "Ended", "asym", "audit", "call", "check", "drill", "fair", "iron", "make", "read", "realise", "replay", "report",
            "rows", "run", "solve", "solve_all"]
 
 
@@ -107,6 +107,11 @@ def rows(setting):
 def fair(setting, width=62):
     """The mechanism under which the agent that gets least gets most."""
     return _text({0, 10, 11, 12}, ["fair", "setting", "--width", str(width)], setting)
+
+
+def asym(setting, width=62):
+    """The best mechanism of a sale of one item to bidders who differ."""
+    return _text({0, 12}, ["asym", "setting", "--width", str(width)], setting)
 
 
 def iron(setting):
