@@ -1,0 +1,3 @@
+pub mod Laws
+pub mod Measure
+pub mod Trails

@@ -1,0 +1,3 @@
+pub mod Fixed
+pub mod Tour
+pub mod Path
