@@ -1,0 +1,3 @@
+pub mod Deterministic
+pub mod NodeProgram
+pub mod Law
