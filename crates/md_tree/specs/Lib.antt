@@ -1,0 +1,5 @@
+pub mod Trees
+pub mod Leaves
+pub mod AnswerTo
+pub mod Verdicts
+pub mod Visits
