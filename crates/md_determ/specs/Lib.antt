@@ -1,0 +1,5 @@
+pub mod Pairs
+pub mod Readings
+pub mod Fitting
+pub mod Search
+pub mod Way
