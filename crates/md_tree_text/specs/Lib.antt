@@ -1,0 +1,5 @@
+pub mod Kinds
+pub mod Trees
+pub mod Answers
+pub mod Fitting
+pub mod Rows
