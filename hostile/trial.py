@@ -35,6 +35,8 @@ CALLS = [
     "report auction-single.toml auction-single-answer.csv",
     "iron auction-single.toml",
     "asym strong-and-weak.toml",
+    "determ two-goods.toml",
+    "determcheck two-goods.toml two-goods-rule.csv",
     "make 1",
     "make 2",
     "drill 1",

@@ -19,7 +19,7 @@ import pathlib
 import tomllib
 from fractions import Fraction
 
-__all__ = ["Answer", "Ended", "asym", "audit", "call", "check", "drill", "fair", "iron", "make", "read", "realise", "replay", "report",
+__all__ = ["Answer", "Ended", "asym", "audit", "call", "check", "determ", "determcheck", "drill", "fair", "iron", "make", "read", "realise", "replay", "report",
            "rows", "run", "solve", "solve_all"]
 
 
@@ -112,6 +112,16 @@ def fair(setting, width=62):
 def asym(setting, width=62):
     """The best mechanism of a sale of one item to bidders who differ."""
     return _text({0, 12}, ["asym", "setting", "--width", str(width)], setting)
+
+
+def determ(setting, width=62):
+    """The best deterministic mechanism, with a search tree that shows that none is better."""
+    return _text({0, 10, 11, 12}, ["determ", "setting", "--width", str(width)], setting)
+
+
+def determcheck(setting, answer):
+    """`valid`, `undecided` or a `rejected` record: whether what an answer of `determ` claims is so."""
+    return _text({0, 20, 22}, ["determcheck", "setting", "answer"], setting, answer).strip()
 
 
 def iron(setting):

@@ -167,6 +167,11 @@ def add_gain(setting, terms, agent, true, reported, factor):
 
 def cost_of(setting):
     """The cost by column, divided."""
+    return divided("cost", False, 0, objective_of(setting)).terms
+
+
+def objective_of(setting):
+    """The objective by column, times the weight of all profiles."""
     cost = {}
     for profile in setting.profiles():
         weight = setting.weight(profile)
@@ -176,7 +181,7 @@ def cost_of(setting):
             for agent in range(len(setting.agents)):
                 plus, minus = payment_columns(setting, agent, profile)
                 cost[plus], cost[minus] = weight * setting.revenue, -weight * setting.revenue
-    return divided("cost", False, 0, cost).terms
+    return cost
 
 
 def divided(name, exact, right, terms):

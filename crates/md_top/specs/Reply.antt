@@ -2,7 +2,7 @@
 use Rattle.std.specs.Prelude.{◌≡◌, ◌⊎◌, ℕ, List, Option, None, Some, IsSome}
 use Rattle.md_words.specs.Commands.{command_in}
 use Rattle.md_words.specs.declared.command.Command.{Command}
-use Rattle.md_words.specs.declared.command.Command.TheVariants.{Audit, Rows, Check, Solve, Replay, Realise, Fair, Asym, Run, Report, Iron, Make, Drill}
+use Rattle.md_words.specs.declared.command.Command.TheVariants.{Audit, Rows, Check, Solve, Replay, Realise, Fair, Asym, Determ, DetermCheck, Run, Report, Iron, Make, Drill}
 use Rattle.md_words.specs.Words.{Order, command_of}
 use Rattle.md_mech.specs.declared.mechanism.Mechanism.{Mechanism}
 use Rattle.md_border.specs.declared.interim.Interim.{Interim}
@@ -27,6 +27,9 @@ use Rattle.md_solving.specs.Ironing.{IsIron, IsIronStatus}
 use Rattle.md_solving.specs.Making.{IsMake, IsMakeStatus}
 use Rattle.md_solving.specs.Drilling.{IsDrill, IsDrillStatus}
 use Rattle.md_selling.specs.Selling.{IsAsym, IsAsymStatus}
+use Rattle.md_tree.specs.declared.answer.DetAnswer.{DetAnswer}
+use Rattle.md_ruling.specs.Determining.{IsDeterm, IsDetermStatus}
+use Rattle.md_ruling.specs.DetermChecking.{determ_in, IsDetermCheck, IsDetermCheckStatus}
 
 -- the commands: the files of each, what it says of them, and its statuses
 abbrev pub work_by : Command → Order → Work
@@ -38,6 +41,8 @@ work_by Replay order = two_files Pivots is_any pivots_in (IsReplay order.width) 
 work_by Realise order = two_files Interim is_auction odds_in IsRealise IsRealiseStatus
 work_by Fair order = one_file is_general (IsFair order.width) IsSolveStatus
 work_by Asym order = one_file is_general (IsAsym order.width) IsAsymStatus
+work_by Determ order = one_file is_general (IsDeterm order.width) IsDetermStatus
+work_by DetermCheck order = two_files DetAnswer is_general determ_in IsDetermCheck IsDetermCheckStatus
 work_by Run order = two_files Answer is_any drawable_in (IsRun order.profile order.first_draw order.second_draw) IsRunStatus
 work_by Report order = two_files Answer is_any drawable_in IsReporting IsReportStatus
 work_by Iron order = one_file is_auction IsIron IsIronStatus

@@ -5,6 +5,7 @@ ghost use Rattle.md_driver.specs.Works.{IsCarriedOut};
 
 use md_driver::{Answered, Refusal, of_none, of_one, of_two};
 use md_ports::Shelf;
+use md_ruling::{Determ, DetermCheck};
 use md_selling::Asym;
 use md_solving::{Check, Drill, Fair, Iron, Make, Solve};
 use md_using::{Audit, Draw, Realise, Replay, Rows, Tell};
@@ -38,6 +39,8 @@ pub(crate) fn run<F: Shelf>(
         Command::Realise => of_two(alloc, &Realise, setting, second, shelf),
         Command::Fair => of_one(alloc, &Fair { width }, setting, shelf),
         Command::Asym => of_one(alloc, &Asym { width }, setting, shelf),
+        Command::Determ => of_one(alloc, &Determ { width }, setting, shelf),
+        Command::DetermCheck => of_two(alloc, &DetermCheck, setting, second, shelf),
         Command::Run => {
             let draw = Draw {
                 profile,

@@ -25,6 +25,9 @@ pub(crate) const POSTED_PRICE_ANSWER: &str =
 pub(crate) const PRICE_ABOVE_VALUE: &str =
     "answer,1,general,table\ntable,1\nlottery,low,1,0\nlottery,high,0,1\npay,low,0\npay,high,4\nend\n";
 
+/// No mechanism gives the agent what it has outside, as the first row shows.
+const REACH_TREE: &str = "answer,1,determ,infeasible\nleaf,infeasible\nrow,0,1\nend\n";
+
 /// The first voter decides.
 pub(crate) const FIRST_VOTER: &str =
     "answer,1,general,table\ntable,1\nlottery,l,l,1,0\nlottery,l,r,1,0\nlottery,r,l,0,1\nlottery,r,r,0,1\nend\n";
@@ -37,7 +40,7 @@ const HIGHER_VALUE: &str = "interim,4\nodds,0,3\nend\n";
 
 const ALWAYS: &str = "interim,1\nodds,1,1\nend\n";
 
-static FILES: [(&str, &str); 15] = [
+static FILES: [(&str, &str); 16] = [
     ("one", ONE_TYPE),
     ("one-table", ONE_TYPE_TABLE),
     ("price", POSTED_PRICE),
@@ -47,6 +50,7 @@ static FILES: [(&str, &str); 15] = [
     ("vote", VOTE),
     ("first", FIRST_VOTER),
     ("reach", OUT_OF_REACH),
+    ("reach-tree", REACH_TREE),
     ("buyer", ONE_BUYER),
     ("buyer-answer", ONE_BUYER_ANSWER),
     ("bidders", TWO_BIDDERS),
@@ -56,7 +60,7 @@ static FILES: [(&str, &str); 15] = [
 ];
 
 /// The calls. The last ones are refused.
-pub(crate) static CALLS: [Call; 30] = [
+pub(crate) static CALLS: [Call; 32] = [
     (&["audit", "one", "one-table"], 2, 0, "admissible\n"),
     (
         &["audit", "price", "above"],
@@ -126,6 +130,18 @@ pub(crate) static CALLS: [Call; 30] = [
         1,
         0,
         "answer,1,asym,optimal\nvalue,5,2\ninterim,1\nodds,buyer,0,1\npays,buyer,0,3\nmass,low,0\nmass,high,1\ncut,1\ncut,2\nbound,",
+    ),
+    (
+        &["determ", "reach"],
+        1,
+        10,
+        "answer,1,determ,infeasible\nleaf,infeasible\nrow,0,1\nend\n",
+    ),
+    (
+        &["determcheck", "reach", "reach-tree"],
+        2,
+        0,
+        "valid\n",
     ),
     (&["make", "2"], 0, 0, "format = \"mechanism-setting\"\n"),
     (&["drill", "2"], 0, 0, "drill,2,general,optimal,"),

@@ -8,7 +8,7 @@ use std::alloc::{AllocError, Global};
 use std::test::Fail;
 
 // A command, a setting, its second file, and the status of the whole file.
-static FILES: [(&str, &str, &str, u8); 10] = [
+static FILES: [(&str, &str, &str, u8); 12] = [
     ("check", POSTED_PRICE, POSTED_PRICE_ANSWER, 0),
     (
         "check",
@@ -33,6 +33,18 @@ static FILES: [(&str, &str, &str, u8); 10] = [
         "check",
         ONE_BUYER,
         "answer,2,auction,toowide\ncut,1\ncut,2\nwide,1,1,20,1\nagain\nwide,1,1,20,1\nend\n",
+        22,
+    ),
+    (
+        "determcheck",
+        OUT_OF_REACH,
+        "answer,1,determ,infeasible\nleaf,infeasible\nrow,0,1\nend\n",
+        0,
+    ),
+    (
+        "determcheck",
+        POSTED_PRICE,
+        "answer,1,determ,toowide\nfix,0,1\nfix,1,0\npivot,4,0\nwide,3,3,-25,5\nagain\nwide,1,1,20,1\nend\n",
         22,
     ),
     (

@@ -28,6 +28,8 @@ mod realising_tests;
 #[cfg(test)]
 mod reporting_tests;
 #[cfg(test)]
+mod ruling_tests;
+#[cfg(test)]
 mod selling_tests;
 #[cfg(test)]
 mod solving_tests;

@@ -8,6 +8,8 @@
 --   realise SETTING ODDS
 --   fair SETTING [--width W]
 --   asym SETTING [--width W]
+--   determ SETTING [--width W]
+--   determcheck SETTING ANSWER
 --   run SETTING ANSWER PROFILE DRAW1 DRAW2
 --   report SETTING ANSWER
 --   iron SETTING
@@ -17,7 +19,7 @@ use Rattle.std.specs.Prelude.{List, [], ◌∷◌, Option, Some, None, codes, if
 use Rattle.std.specs.Str.{bytes_eq}
 use Rattle.clap.specs.Words.{Text}
 use Rattle.md_words.specs.declared.command.Command.{Command}
-use Rattle.md_words.specs.declared.command.Command.TheVariants.{Audit, Rows, Check, Solve, Replay, Realise, Fair, Asym, Run, Report, Iron, Make, Drill}
+use Rattle.md_words.specs.declared.command.Command.TheVariants.{Audit, Rows, Check, Solve, Replay, Realise, Fair, Asym, Determ, DetermCheck, Run, Report, Iron, Make, Drill}
 use Rattle.md_words.specs.declared.form.Form.{Form}
 use Rattle.md_words.specs.declared.form.Form.TheVariants.{One, OneWidth, Two, TwoWidth, Draws, Number}
 
@@ -33,12 +35,14 @@ command_named word =
     else (if bytes_eq word (codes "realise") then Some Realise
     else (if bytes_eq word (codes "fair") then Some Fair
     else (if bytes_eq word (codes "asym") then Some Asym
+    else (if bytes_eq word (codes "determ") then Some Determ
+    else (if bytes_eq word (codes "determcheck") then Some DetermCheck
     else (if bytes_eq word (codes "run") then Some Run
     else (if bytes_eq word (codes "report") then Some Report
     else (if bytes_eq word (codes "iron") then Some Iron
     else (if bytes_eq word (codes "make") then Some Make
     else (if bytes_eq word (codes "drill") then Some Drill
-    else None))))))))))))
+    else None))))))))))))))
 
 -- the command that the first word names; none where there is no word, or it is no name
 abbrev pub command_in : List Text → Option Command
@@ -55,6 +59,8 @@ form_of Replay = TwoWidth
 form_of Realise = Two
 form_of Fair = OneWidth
 form_of Asym = OneWidth
+form_of Determ = OneWidth
+form_of DetermCheck = Two
 form_of Run = Draws
 form_of Report = Two
 form_of Iron = One

@@ -23,6 +23,10 @@ pub enum Command {
     Fair,
     /// `asym SETTING [--width W]` solves the sale of one item to bidders who differ within a width.
     Asym,
+    /// `determ SETTING [--width W]` finds the best deterministic mechanism of a setting within a width.
+    Determ,
+    /// `determcheck SETTING ANSWER` checks an answer about the deterministic mechanisms of a setting.
+    DetermCheck,
     /// `run SETTING ANSWER PROFILE DRAW1 DRAW2` draws an outcome of an answer at a profile of reports.
     Run,
     /// `report SETTING ANSWER` tells what the mechanism of an answer does, and how far it is from truthful.
@@ -55,6 +59,8 @@ fn named(word: &str) -> Option<Command>
         "realise" => Some(Command::Realise),
         "fair" => Some(Command::Fair),
         "asym" => Some(Command::Asym),
+        "determ" => Some(Command::Determ),
+        "determcheck" => Some(Command::DetermCheck),
         "run" => Some(Command::Run),
         "report" => Some(Command::Report),
         "iron" => Some(Command::Iron),
@@ -70,8 +76,12 @@ pub(crate) fn form(command: Command) -> Form
 {
     match command {
         Command::Rows | Command::Iron => Form::One,
-        Command::Solve | Command::Fair | Command::Asym => Form::OneWidth,
-        Command::Audit | Command::Check | Command::Realise | Command::Report => Form::Two,
+        Command::Solve | Command::Fair | Command::Asym | Command::Determ => Form::OneWidth,
+        Command::Audit
+        | Command::Check
+        | Command::Realise
+        | Command::DetermCheck
+        | Command::Report => Form::Two,
         Command::Replay => Form::TwoWidth,
         Command::Run => Form::Draws,
         Command::Make | Command::Drill => Form::Number,

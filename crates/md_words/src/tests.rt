@@ -7,7 +7,7 @@ use std::test::Fail;
 // What words are expected to ask for: the command, the two names and the width; none where they are no command.
 type Expected = Option<(Command, &'static str, &'static str, u8)>;
 
-static CASES: [(&[&str], Expected); 45] = [
+static CASES: [(&[&str], Expected); 51] = [
     (&["audit", "a", "b"], Some((Command::Audit, "a", "b", 62))),
     (&["check", "a", "b"], Some((Command::Check, "a", "b", 62))),
     (&["rows", "a"], Some((Command::Rows, "a", "", 62))),
@@ -55,6 +55,18 @@ static CASES: [(&[&str], Expected); 45] = [
         Some((Command::Asym, "a", "", 4)),
     ),
     (&["asym", "a", "b"], None),
+    (&["determ", "a"], Some((Command::Determ, "a", "", 62))),
+    (
+        &["determ", "a", "--width", "4"],
+        Some((Command::Determ, "a", "", 4)),
+    ),
+    (&["determ", "a", "b"], None),
+    (
+        &["determcheck", "a", "b"],
+        Some((Command::DetermCheck, "a", "b", 62)),
+    ),
+    (&["determcheck", "a"], None),
+    (&["determcheck", "a", "b", "--width", "4"], None),
     (&["asymmetric", "a"], None),
     (&["run", "a", "b", "c", "1"], None),
     (&["run", "a", "b", "c", "1", "2", "--width", "4"], None),

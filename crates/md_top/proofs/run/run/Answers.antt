@@ -15,6 +15,9 @@ returns-in-Fair g c = rw c.in-Fair.is (c.of_one-in-Fair.ensures c.args.order.now
 pub returns-in-Asym : goal.returns-in-Asym
 returns-in-Asym g c = rw c.in-Asym.is (c.of_one-in-Asym.ensures c.args.order.now.second.now)
 
+pub returns-in-Determ : goal.returns-in-Determ
+returns-in-Determ g c = rw c.in-Determ.is (c.of_one-in-Determ.ensures c.args.order.now.second.now)
+
 pub returns-in-Iron : goal.returns-in-Iron
 returns-in-Iron g c = rw c.in-Iron.is (c.of_one-in-Iron.ensures c.args.order.now.second.now)
 

@@ -1,0 +1,250 @@
+//! The best mechanisms without lotteries, found and checked over files in memory. What each has is worked out by hand.
+use crate::solving_tests::carried_out;
+use crate::test_settings::{
+    OUT_OF_REACH, POSTED_PRICE, POSTED_PRICE_FRONT, TAKING, TWO_BIDDERS,
+};
+use std::alloc::Global;
+use std::test::Fail;
+
+// The designer would like the outcome that gives the agent nothing, and the other one gives it twice what it has outside: by a
+// lottery it may have half of each.
+const TWICE: &str =
+    "format = \"mechanism-setting\"\nversion = 1\nkind = \"general\"\ntruth = \"dominant\"\nrational = \"ex-post\"\npayments = false\noutcomes = [\"x\", \"y\"]\n[objective]\nvalue = [0, 4]\n[[agent]]\nname = \"a\"\ntypes = [\"t\"]\nweights = [1]\noutside = [1]\nutility = [[2, 0]]\n";
+
+// Two goods, and a buyer who values them 1 and 0, 0 and 2, or 3 and 3.
+const TWO_GOODS: &str =
+    "format = \"mechanism-setting\"\nversion = 1\nkind = \"general\"\ntruth = \"dominant\"\nrational = \"ex-post\"\npayments = true\noutcomes = [\"none\", \"first\", \"second\", \"both\"]\n[objective]\nrevenue = 1\n[[agent]]\nname = \"buyer\"\ntypes = [\"v1_0\", \"v0_2\", \"v3_3\"]\nweights = [1, 1, 1]\nutility = [[0, 1, 0, 1], [0, 0, 2, 2], [0, 3, 3, 6]]\n";
+
+// Two halves of a class, each of which likes one of two outings, and perhaps a third one nearly as much.
+const OUTING: &str =
+    "format = \"mechanism-setting\"\nversion = 1\nkind = \"general\"\ntruth = \"dominant\"\nrational = \"none\"\npayments = false\noutcomes = [\"lake\", \"zoo\", \"museum\"]\n[objective]\nwelfare = 1\n[[agent]]\nname = \"one\"\ntypes = [\"too\", \"only\"]\nweights = [1, 1]\nutility = [[4, 0, 3], [4, 0, 0]]\n[[agent]]\nname = \"two\"\ntypes = [\"too\", \"only\"]\nweights = [1, 1]\nutility = [[0, 6, 5], [0, 6, 0]]\n";
+
+// A car that is bad twice as often as good: worth 0 to the seller and 2 to the buyer, or 4 and 6.
+const LEMONS: &str =
+    "format = \"mechanism-setting\"\nversion = 2\nkind = \"general\"\ntruth = \"bayes\"\nrational = \"interim\"\npayments = true\nno_deficit = true\noutcomes = [\"keep\", \"sell\"]\n[objective]\nwelfare = 1\n[[agent]]\nname = \"seller\"\ntypes = [\"lemon\", \"peach\"]\nweights = [2, 1]\nutility = [[0, 0], [0, -4]]\n[[agent]]\nname = \"buyer\"\ntypes = [\"any\"]\nweights = [1]\nutility_at = [[0, 2], [0, 6]]\n";
+
+// A seller to whom an item costs 1 or 5, and a buyer to whom it is worth 2 or 6.
+const TRADE: &str =
+    "format = \"mechanism-setting\"\nversion = 1\nkind = \"general\"\ntruth = \"bayes\"\nrational = \"interim\"\npayments = true\nno_deficit = true\noutcomes = [\"keep\", \"trade\"]\n[objective]\nwelfare = 1\n[[agent]]\nname = \"seller\"\ntypes = [\"cost1\", \"cost5\"]\nweights = [1, 1]\nutility = [[0, -1], [0, -5]]\n[[agent]]\nname = \"buyer\"\ntypes = [\"worth2\", \"worth6\"]\nweights = [1, 1]\nutility = [[0, 2], [0, 6]]\n";
+
+// A setting, and the value of its best mechanism without lotteries. A separate program that tries each one finds the same.
+static VALUES: [(&str, &str); 5] = [
+    // The price 3 sells to one of two types.
+    (POSTED_PRICE, "3,2"),
+    // The goods for 1 and 2, both for 4; or the second for 2, and both for 5.
+    (TWO_GOODS, "7,3"),
+    // The second half decides between the zoo, which brings 6, and what the first half likes, which brings no more.
+    (OUTING, "6,1"),
+    // The bad cars are sold, which brings 2 of three times 2.
+    (LEMONS, "4,3"),
+    // The trades that bring 5 and 1 are made, and that of 1 with the cheap seller or the dear one is not.
+    (TRADE, "3,2"),
+];
+
+// What is printed is found valid.
+fn is_valid(alloc: Global, setting: &str, printed: &[u8]) -> Result<bool, Fail> {
+    let told = carried_out(alloc, &["determcheck", "setting", "second"], setting, printed)?;
+    Ok(told.status == 0 && told.out.bytes() == b"valid\n".as_slice() && told.err.bytes().is_empty())
+}
+
+fn has_value(alloc: Global, setting: &str, value: &str) -> Result<bool, Fail> {
+    let found = carried_out(alloc, &["determ", "setting"], setting, b"")?;
+    let front = format!(in alloc; "answer,1,determ,optimal\nvalue,{value}\n")?;
+    let is_right = found.status == 0 && found.out.bytes().starts_with(front.as_bytes());
+    Ok(is_right && is_valid(alloc, setting, found.out.bytes())?)
+}
+
+#[test]
+fn finds_the_best_rule(rt: HostRuntime) -> Result<(), Fail> {
+    let alloc = rt.alloc();
+    for (setting, value) in &VALUES {
+        assert!(rt; has_value(alloc, setting, value)?, "at {value}");
+    }
+    Ok(())
+}
+
+// A setting by its front and its end, the width, the status, and how what is printed begins.
+static FOUND: [(&str, &str, &str, u8, &str); 4] = [
+    (
+        TWICE,
+        "",
+        "62",
+        0,
+        "answer,1,determ,optimal\nvalue,0,1\ntable,1\nlottery,t,1,0\nbranch,0\nleaf,optimal\ntable,1\nlottery,t,1,0\nbound,",
+    ),
+    // The first row asks for 1, and the agent gets 0.
+    (
+        OUT_OF_REACH,
+        "",
+        "62",
+        10,
+        "answer,1,determ,infeasible\nleaf,infeasible\nrow,0,1\nend\n",
+    ),
+    (
+        TAKING,
+        "",
+        "62",
+        11,
+        "answer,1,determ,unbounded\ntable,1\nlottery,t,1\npay,t,0\nray,t,1\nend\n",
+    ),
+    // With 4 bits a number is at most 15. The buyer's high value stands in the row of its truth, in the first basis.
+    (
+        POSTED_PRICE_FRONT,
+        "20]]\n",
+        "4",
+        12,
+        "answer,1,determ,toowide\nwide,1,1,20,1\nagain\nwide,1,1,20,1\nend\n",
+    ),
+];
+
+#[test]
+fn tells_each_end_of_the_search(rt: HostRuntime) -> Result<(), Fail> {
+    let alloc = rt.alloc();
+    for (front, end, width, status, printed) in &FOUND {
+        let setting = format!(in alloc; "{front}{end}")?;
+        let words = ["determ", "setting", "--width", *width];
+        let found = carried_out(alloc, &words, &setting, b"")?;
+        assert_eq!(rt; found.status, *status, "at {printed}");
+        assert!(rt;
+            found.out.bytes().starts_with(printed.as_bytes()),
+            "at {printed}"
+        );
+    }
+    Ok(())
+}
+
+const TO_TREE: &str = "answer,1,determ,optimal\nvalue,0,1\ntable,1\nlottery,t,1,0\n";
+
+// In the first leaf the chances add to 1 and the first is 1, so that the second is 0. In the second leaf it is 1, so that the
+// first is 0; and twice the first is at least 1.
+const TREE: &str =
+    "branch,0\nleaf,optimal\ntable,1\nlottery,t,1,0\nbound,1\nrow,1,0,1\nrow,2,0,-1\nleaf,infeasible\nrow,0,1\nrow,1,2\nrow,2,-2\n";
+
+// What stands before the tree, the tree, the status, and what is said.
+static CHECKED: [(&str, &str, u8, &str); 8] = [
+    (TO_TREE, TREE, 0, "valid\n"),
+    (
+        TO_TREE,
+        "branch,0\nleaf,optimal\ntable,1\nlottery,t,1,0\nbound,1\nrow,1,0,1\nrow,2,0,-1\nleaf,infeasible\n",
+        20,
+        "rejected,14,2\n",
+    ),
+    (
+        "answer,1,determ,optimal\nvalue,0,1\ntable,1\nlottery,t,0,1\n",
+        TREE,
+        20,
+        "rejected,12,rational/a/t,0,1\n",
+    ),
+    (
+        "answer,1,determ,optimal\nvalue,2,1\ntable,2\nlottery,t,1,1\n",
+        TREE,
+        20,
+        "rejected,11,0\n",
+    ),
+    (
+        "answer,1,determ,optimal\nvalue,1,1\ntable,1\nlottery,t,1,0\n",
+        TREE,
+        20,
+        "rejected,13,0,1\n",
+    ),
+    // The best lottery brings 2.
+    (
+        TO_TREE,
+        "leaf,optimal\ntable,2\nlottery,t,1,1\nbound,2\nrow,0,0,1\nrow,1,0,2\n",
+        20,
+        "rejected,15,0\n",
+    ),
+    ("answer,1,determ,infeasible\n", TREE, 20, "rejected,15,1\n"),
+    (
+        "answer,1,determ,toowide\nfix,0,1\nwide,1,1,20,1\nagain\nwide,1,1,20,1\n",
+        "",
+        22,
+        "undecided\n",
+    ),
+];
+
+#[test]
+fn checks_answers_by_hand(rt: HostRuntime) -> Result<(), Fail> {
+    let alloc = rt.alloc();
+    for (front, tree, status, said) in &CHECKED {
+        let answer = format!(in alloc; "{front}{tree}end\n")?;
+        let words = ["determcheck", "setting", "second"];
+        let told = carried_out(alloc, &words, TWICE, answer.as_bytes())?;
+        assert_eq!(rt; told.status, *status, "at {answer}");
+        assert!(rt; told.out.bytes() == said.as_bytes(), "at {answer}");
+    }
+    Ok(())
+}
+
+// A setting, an answer, the status, and the line on standard error.
+static REFUSED: [(&str, &str, u8, &str); 8] = [
+    (TWICE, "", 66, "mechdes: answer refused: line 0: ended\n"),
+    (
+        TWICE,
+        "answer,2,determ,infeasible\nleaf,infeasible\nend\n",
+        66,
+        "mechdes: answer refused: line 1: field 2\n",
+    ),
+    (
+        TWICE,
+        "answer,1,general,infeasible\nleaf,infeasible\nend\n",
+        66,
+        "mechdes: answer refused: line 1: field 3\n",
+    ),
+    (
+        TWICE,
+        "answer,1,determ,infeasible\nbranch,1\nend\n",
+        66,
+        "mechdes: answer refused: line 2: field 2\n",
+    ),
+    // Nothing is left to branch at.
+    (
+        TWICE,
+        "answer,1,determ,infeasible\nbranch,0\nbranch,0\nend\n",
+        66,
+        "mechdes: answer refused: line 3: field 2\n",
+    ),
+    (
+        TWICE,
+        "answer,1,determ,infeasible\nbranch,0\nleaf,infeasible\nend\n",
+        66,
+        "mechdes: answer refused: line 4: record\n",
+    ),
+    (
+        TWICE,
+        "answer,1,determ,toowide\nfix,0,2\n",
+        66,
+        "mechdes: answer refused: line 2: field 3\n",
+    ),
+    (
+        TWO_BIDDERS,
+        "",
+        65,
+        "mechdes: setting refused: other kind\n",
+    ),
+];
+
+#[test]
+fn refuses_other_answers(rt: HostRuntime) -> Result<(), Fail> {
+    let alloc = rt.alloc();
+    for (setting, answer, status, line) in &REFUSED {
+        let words = ["determcheck", "setting", "second"];
+        let told = carried_out(alloc, &words, setting, answer.as_bytes())?;
+        assert_eq!(rt; told.status, *status, "at {line}");
+        assert!(rt; told.out.bytes().is_empty(), "at {line}");
+        assert!(rt; told.err.bytes() == line.as_bytes(), "at {line}");
+    }
+    Ok(())
+}
+
+// The ray takes from the designer.
+#[test]
+fn refuses_a_ray_that_loses(rt: HostRuntime) -> Result<(), Fail> {
+    let alloc = rt.alloc();
+    let words = ["determcheck", "setting", "second"];
+    let answer = b"answer,1,determ,unbounded\ntable,1\nlottery,t,1\npay,t,0\nray,t,-1\nend\n";
+    let told = carried_out(alloc, &words, TAKING, answer)?;
+    assert_eq!(rt; told.status, 20);
+    assert!(rt; told.out.bytes() == b"rejected,16\n".as_slice());
+    Ok(())
+}
