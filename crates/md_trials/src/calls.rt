@@ -137,12 +137,7 @@ pub(crate) static CALLS: [Call; 32] = [
         10,
         "answer,1,determ,infeasible\nleaf,infeasible\nrow,0,1\nend\n",
     ),
-    (
-        &["determcheck", "reach", "reach-tree"],
-        2,
-        0,
-        "valid\n",
-    ),
+    (&["determcheck", "reach", "reach-tree"], 2, 0, "valid\n"),
     (&["make", "2"], 0, 0, "format = \"mechanism-setting\"\n"),
     (&["drill", "2"], 0, 0, "drill,2,general,optimal,"),
     (

@@ -1,8 +1,6 @@
 //! The best mechanisms without lotteries, found and checked over files in memory. What each has is worked out by hand.
 use crate::solving_tests::carried_out;
-use crate::test_settings::{
-    OUT_OF_REACH, POSTED_PRICE, POSTED_PRICE_FRONT, TAKING, TWO_BIDDERS,
-};
+use crate::test_settings::{OUT_OF_REACH, POSTED_PRICE, POSTED_PRICE_FRONT, TAKING, TWO_BIDDERS};
 use std::alloc::Global;
 use std::test::Fail;
 
@@ -43,7 +41,12 @@ static VALUES: [(&str, &str); 5] = [
 
 // What is printed is found valid.
 fn is_valid(alloc: Global, setting: &str, printed: &[u8]) -> Result<bool, Fail> {
-    let told = carried_out(alloc, &["determcheck", "setting", "second"], setting, printed)?;
+    let told = carried_out(
+        alloc,
+        &["determcheck", "setting", "second"],
+        setting,
+        printed,
+    )?;
     Ok(told.status == 0 && told.out.bytes() == b"valid\n".as_slice() && told.err.bytes().is_empty())
 }
 
