@@ -35,8 +35,9 @@ fn pair(alloc: Global) -> Result<RawSetting, AllocError> {
         outside: &[1],
         utility: Utility::ByType(&[&[2]]),
     };
+    let prior = vec![in alloc; 1, 2]?;
     let mut raw = md_samples::setting(alloc, &[first, second], &["o"], &[0])?;
-    raw.prior = Some(vec![in alloc; 1, 2]?);
+    raw.prior = Some(prior);
     raw.welfare = 1;
     raw.truth = Truth::Bayes;
     raw.rational = Rational::Interim;
@@ -60,26 +61,49 @@ struct Wanted {
     right: i128,
 }
 
+// A program that is wanted: what its cost was divided by, the cost by column, and its rows.
+#[derive(Clone, Copy)]
+struct WantedProgram<'a> {
+    factor: i128,
+    cost: &'a [i128],
+    rows: &'a [Wanted],
+}
+
+fn program<'a>(factor: i128, cost: &'a [i128], rows: &'a [Wanted]) -> WantedProgram<'a> {
+    WantedProgram { factor, cost, rows }
+}
+
 fn judge(
     rt: &impl Abort,
     alloc: Global,
     raw: RawSetting,
-    factor: i128,
-    cost: &[i128],
-    rows: &[Wanted],
+    wanted: &WantedProgram,
 ) -> Result<(), Fail> {
-    let Ok(setting) = Setting::new(alloc, raw) else {
-        return Err("no setting")?;
-    };
-    let lp = rows_of(alloc, &setting)?;
-    assert_eq!(rt; lp.rows() as usize, rows.len());
-    assert_eq!(rt; lp.columns() as usize, cost.len());
-    assert_eq!(rt; lp.cost_factor(), factor);
-    for (column, number) in cost.iter().enumerate() {
-        assert_eq!(rt; cost_at(&lp, column as u32), Some(*number));
+    match Setting::new(alloc, raw) {
+        Ok(setting) => judge_rows(rt, alloc, &setting, wanted),
+        Err(_) => Err("no setting")?,
     }
-    for (row, wanted) in rows.iter().enumerate() {
-        judge_row(rt, &lp, row as u32, wanted)?;
+}
+
+fn judge_rows(
+    rt: &impl Abort,
+    alloc: Global,
+    setting: &Setting,
+    wanted: &WantedProgram,
+) -> Result<(), Fail> {
+    let lp = rows_of(alloc, setting)?;
+    judge_program(rt, &lp, wanted)
+}
+
+fn judge_program(rt: &impl Abort, lp: &Lp, wanted: &WantedProgram) -> Result<(), Fail> {
+    assert_eq!(rt; lp.rows() as usize, wanted.rows.len());
+    assert_eq!(rt; lp.columns() as usize, wanted.cost.len());
+    assert_eq!(rt; lp.cost_factor(), wanted.factor);
+    for (column, number) in wanted.cost.iter().enumerate() {
+        assert_eq!(rt; cost_at(lp, column as u32), Some(*number));
+    }
+    for (row, wanted) in wanted.rows.iter().enumerate() {
+        judge_row(rt, lp, row as u32, wanted)?;
     }
     Ok(())
 }
@@ -274,25 +298,18 @@ static SIGHT: [Wanted; 8] = [
 #[test]
 fn writes_the_rows_of_settings(rt: HostRuntime) -> Result<(), Fail> {
     let alloc = rt.alloc();
-    judge(&rt, alloc, alone(alloc)?, 1, &[0], &ALONE)?;
-    judge(&rt, alloc, choice(alloc)?, 5, &[0, 1], &CHOICE)?;
+    let sold = program(1, &[0, 0, 0, 0, 1, 2, -1, -2], &SALE);
+    let paired = program(1, &[3, 10, 1, 2, 1, 2, -1, -2, -1, -2], &PAIR);
+    judge(&rt, alloc, alone(alloc)?, &program(1, &[0], &ALONE))?;
+    judge(&rt, alloc, choice(alloc)?, &program(5, &[0, 1], &CHOICE))?;
+    judge(&rt, alloc, sale(alloc, 3, 2)?, &sold)?;
+    judge(&rt, alloc, pair(alloc)?, &paired)?;
     judge(
         &rt,
         alloc,
-        sale(alloc, 3, 2)?,
-        1,
-        &[0, 0, 0, 0, 1, 2, -1, -2],
-        &SALE,
-    )?;
-    judge(
-        &rt,
-        alloc,
-        pair(alloc)?,
-        1,
-        &[3, 10, 1, 2, 1, 2, -1, -2, -1, -2],
-        &PAIR,
-    )?;
-    judge(&rt, alloc, sight(alloc)?, 1, &[0, 1, 0, -1], &SIGHT)
+        sight(alloc)?,
+        &program(1, &[0, 1, 0, -1], &SIGHT),
+    )
 }
 
 // The mechanism of the point of a mechanism that is admissible.
@@ -310,24 +327,39 @@ fn there_and_back(
     Ok((point, back))
 }
 
-#[test]
-fn a_mechanism_comes_back_from_its_point(rt: HostRuntime) -> Result<(), Fail> {
-    let alloc = rt.alloc();
-    let Ok(setting) = Setting::new(alloc, sale(alloc, 3, 2)?) else {
-        return Err("no setting")?;
-    };
-    let chances = Nums::from_slice(alloc, &[2, 0, 1, 1])?;
-    let Ok(mechanism) = Mechanism::new(&setting, 2, chances, Nums::from_slice(alloc, &[-1, 1])?)
-    else {
-        return Err("no mechanism")?;
-    };
-    if audit(&setting, &mechanism).is_some() {
+fn comes_back(
+    rt: &impl Abort,
+    alloc: Global,
+    setting: &Setting,
+    mechanism: &Mechanism,
+) -> Result<(), Fail>
+    requires { IsAccepted setting.now mechanism.now }
+{
+    if audit(setting, mechanism).is_some() {
         return Err("not admissible")?;
     }
-    let (point, back) = there_and_back(alloc, &setting, &mechanism)?;
+    let (point, back) = there_and_back(alloc, setting, mechanism)?;
     assert_eq!(rt; point.as_slice(), [2, 0, 1, 1, 0, 1, 1, 0].as_slice());
     assert_eq!(rt; back.den, 2);
     assert_eq!(rt; back.chances.as_slice(), [2, 0, 1, 1].as_slice());
     assert_eq!(rt; back.pays.as_slice(), [-1, 1].as_slice());
     Ok(())
+}
+
+fn comes_back_in(rt: &impl Abort, alloc: Global, setting: &Setting) -> Result<(), Fail> {
+    let chances = Nums::from_slice(alloc, &[2, 0, 1, 1])?;
+    let pays = Nums::from_slice(alloc, &[-1, 1])?;
+    match Mechanism::new(setting, 2, chances, pays) {
+        Ok(mechanism) => comes_back(rt, alloc, setting, &mechanism),
+        Err(_) => Err("no mechanism")?,
+    }
+}
+
+#[test]
+fn a_mechanism_comes_back_from_its_point(rt: HostRuntime) -> Result<(), Fail> {
+    let alloc = rt.alloc();
+    match Setting::new(alloc, sale(alloc, 3, 2)?) {
+        Ok(setting) => comes_back_in(&rt, alloc, &setting),
+        Err(_) => Err("no setting")?,
+    }
 }
