@@ -36,15 +36,24 @@ static READ: [(&str, i128, [i128; 2]); 4] = [
     ),
 ];
 
+// Whether a file has these odds over this denominator, and nothing is paid.
+fn has_odds(alloc: Global, text: &str, auction: &Auction, den: i128, odds: &[i128]) -> bool {
+    match read_odds(alloc, text.as_bytes(), auction) {
+        Ok(interim) => {
+            interim.den == den
+                && interim.odds.as_slice() == odds
+                && interim.pays.as_slice() == [0, 0].as_slice()
+        }
+        Err(_) => false,
+    }
+}
+
 #[test]
 fn reads_the_odds_of_a_file(rt: HostRuntime) -> Result<(), Fail> {
     let alloc = rt.alloc();
     let auction = two(alloc)?;
     for (text, den, odds) in &READ {
-        let interim = read_odds(alloc, text.as_bytes(), &auction)?;
-        assert!(rt; interim.den == *den, "at {text}");
-        assert!(rt; interim.odds.as_slice() == odds.as_slice(), "at {text}");
-        assert!(rt; interim.pays.as_slice() == [0, 0].as_slice(), "at {text}");
+        assert!(rt; has_odds(alloc, text, &auction, *den, odds), "at {text}");
     }
     Ok(())
 }
