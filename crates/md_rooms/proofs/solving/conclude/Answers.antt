@@ -1,0 +1,29 @@
+use Rattle.std.proofs.Common.{◌<◌, arith}
+use Rattle.md_math.specs.Sets.{member}
+use Rattle.md_flow.specs.Tables.{flow_of}
+use Rattle.md_rooms.specs.Network.{demand_count}
+use Rattle.md_rooms.specs.Flows.{amount_in}
+use Rattle.md_rooms.proofs.Worst.{IsUnreached, IsWorst-end, Meets-end, NoneOver-meets}
+use Rattle.md_rooms.proofs.Listed.{listed, listed-length, Meets-same}
+use Rattle.md_rooms.proofs.solving.conclude.Goals as goal
+
+pub returns-then-first_lacking-demands-clause-cut : goal.returns-then-first_lacking-demands-clause-cut
+returns-then-first_lacking-demands-clause-cut c =
+    let unreached : IsUnreached c.args.net.now c.args.labels.now.demands.items (member c.unreached.result) = record { is = c.unreached.ensures.members } in
+    let inside : c.first_lacking.result < demand_count c.args.net.now = omega (arith, c.if-first_lacking-demands.true, c.demands.ensures.value) in
+    IsWorst-end c.args.net.now (flow_of c.args.flow.now) c.args.labels.now.nodes.items c.args.labels.now.demands.items (member c.unreached.result) c.requires.part c.requires.labels c.requires.reached c.requires.full unreached c.first_lacking.result inside (c.first_lacking.ensures.lacks inside)
+
+pub returns-clause-full : goal.returns-clause-full
+returns-clause-full c =
+    let same = listed c.args.net.now c.args.flow.now.nodes c.args.flow.now.demands (flow_of c.args.flow.now) c.in_ok-amounts.amounts c.requires.nodes c.requires.demands c.in_ok-amounts.ensures.at in
+    let meets = Meets-end c.args.net.now (flow_of c.args.flow.now) c.requires.part (c.first_lacking.ensures.none (omega (arith, c.if-first_lacking-demands.false, c.demands.ensures.value))) in
+    Meets-same c.args.net.now (flow_of c.args.flow.now) (amount_in c.args.net.now c.in_ok-amounts.amounts) meets same
+
+pub returns-clause-full_none : goal.returns-clause-full_none
+returns-clause-full_none c =
+    let meets = Meets-end c.args.net.now (flow_of c.args.flow.now) c.requires.part (c.first_lacking.ensures.none (omega (arith, c.if-first_lacking-demands.false, c.demands.ensures.value))) in
+    NoneOver-meets c.args.net.now (flow_of c.args.flow.now) meets
+
+pub returns-clause-full_length : goal.returns-clause-full_length
+returns-clause-full_length c =
+    listed-length c.args.net.now c.args.flow.now.nodes c.args.flow.now.demands c.in_ok-amounts.amounts c.requires.nodes c.requires.demands c.in_ok-amounts.ensures.length
