@@ -15,7 +15,7 @@ use Rattle.md_space.specs.Profiles.{IsProfile}
 use Rattle.md_space.specs.AllProfiles.{profiles_of}
 use Rattle.md_space.specs.ByType.{where_type}
 use Rattle.md_space.proofs.TypeSums.{total-same, total_given-same, total_given-*ℤ}
-use Rattle.md_setting.specs.Meaning.{sizes_of, weight_of, marginal_of}
+use Rattle.md_setting.specs.Meaning.{sizes_of, weight_of}
 use Rattle.md_setting.specs.Auction.{SymmetricAuction, value_count}
 use Rattle.md_setting.specs.AuctionShaped.{IsAuction}
 use Rattle.md_setting.specs.General.{general_of}
@@ -35,7 +35,7 @@ use Rattle.md_expost.specs.Masses.{AreMasses, counts_in, mass_at, mass_of, rank_
 use Rattle.md_expost.specs.Mechanisms.{all_orders, share, win_of, whole_of, lottery_of, mechanism_of}
 use Rattle.md_expost.specs.Implementing.{Implements}
 use Rattle.md_expost.proofs.Shares.{all_orders-positive}
-use Rattle.md_expost.proofs.Winners.{shared, win-nonneg, wins-le, value-below}
+use Rattle.md_expost.proofs.Winners.{NoneAbsent, shared, win-nonneg, wins-le, value-below}
 
 -- ---- a mechanism
 
@@ -63,7 +63,7 @@ mechanism-of_masses a y pays h masses =
 
     chances : (t : List ℕ) (o : ℕ) → IsProfile (replicate a.bidders (value_count a)) t → o < a.bidders + 1 → pos 0 ≤ℤ lottery_of a y t o
     chances t zero p l = stays_nonneg _ _ (wins-le a y t h masses p)
-    chances t (suc i) p l = win-nonneg a y t i masses (value-below a.bidders (value_count a) t i p (omega arith))
+    chances t (suc i) p l = win-nonneg a y t i masses.nonneg (value-below a.bidders (value_count a) t i p (omega arith))
 
     back : (w s : ℤ) → (w -ℤ s) +ℤ s ≡ w
     back w s = omega (arith, linear)
@@ -111,10 +111,10 @@ wins-by_counts a y i v =
         zeros (suc n) = ap₂ (λ x z. x +ℤ z) (zeros n) (*ℤ-zero (part_of a y v n))
 
 -- as many bidders as there are win together what the masses of the value say
-wins-of_value : (a : SymmetricAuction) (y : Masses) (i v : ℕ) → IsAuction a → AreMasses a y → i < a.bidders → v < value_count a
+wins-of_value : (a : SymmetricAuction) (y : Masses) (i v : ℕ) → IsAuction a → NoneAbsent a y → i < a.bidders → v < value_count a
     → pos a.bidders *ℤ sum_to (rank_count a) (λ r. part_of a y v r *ℤ total_by (where_type i v (where_counts (counts_in a r) (weight_of_values a.weights))) (value_lists a.bidders (value_count a)))
     ≡ pos (all_orders a) *ℤ mass_of a y v
-wins-of_value a y i v h masses b l =
+wins-of_value a y i v h absent b l =
     let n = a.bidders in
     let given = λ (r : ℕ). total_by (where_type i v (where_counts (counts_in a r) (weight_of_values a.weights))) (value_lists n (value_count a)) in
     sym (sum_to-*ℤ (rank_count a) (pos n) (λ r. part_of a y v r *ℤ given r))
@@ -122,31 +122,36 @@ wins-of_value a y i v h masses b l =
     (λ r c.
     *ℤ_left_comm (pos n) (part_of a y v r) (given r)
     ∙ ap (λ z. part_of a y v r *ℤ z) (given-counts a.weights n (value_count a) i v (counts_in a r) b l (ranked (value_count a) n r c).counts)
-    ∙ shared a y r v h masses c l)
+    ∙ shared a y r v h absent c l)
     ∙ sum_to-*ℤ (rank_count a) (pos (all_orders a)) (λ r. mass_at a y r v)
 
--- what a bidder with a value wins in the mechanism over all profiles, by weight
-wins-weighted : (a : SymmetricAuction) (y : Masses) (pays : List ℤ) (i v : ℕ) → i < a.bidders
-    → weighted_given (general_of a) i v (λ t. chance_of (general_of a) (mechanism_of a y pays) t (i + 1))
+-- what a bidder with a value wins by the table over all profiles, by weight
+wins-weighted : (a : SymmetricAuction) (y : Masses) (i v : ℕ)
+    → weighted_given (general_of a) i v (λ t. win_of a y t i)
     ≡ sum_to (rank_count a) (λ r. part_of a y v r *ℤ total_by (where_type i v (where_counts (counts_in a r) (weight_of_values a.weights))) (value_lists a.bidders (value_count a)))
-wins-weighted a y pays i v b =
+wins-weighted a y i v =
     let s = general_of a in
-    let won = λ (t : List ℕ). sum_to (rank_count a) (λ r. if has_counts (counts_in a r) t then part_of a y v r else pos 0) in
-    total_given-same (sizes_of s) i v _ (λ t. weight_of_values a.weights t *ℤ won t) (λ t p e. at t p e)
-    ∙ ap (λ sizes. total_by (where_type i v (λ t. weight_of_values a.weights t *ℤ won t)) (profiles_of sizes)) (sizes_of-general a)
+    let won = λ (u : ℕ) (t : List ℕ). sum_to (rank_count a) (λ r. if has_counts (counts_in a r) t then part_of a y u r else pos 0) in
+    total_given-same (sizes_of s) i v (λ t. weight_of s t *ℤ win_of a y t i) (λ t. weight_of_values a.weights t *ℤ won v t)
+    (λ t p e. ap₂ (λ x z. x *ℤ z) (profile-weight a t (subst (λ sizes. IsProfile sizes t) (sizes_of-general a) p)) (ap (λ u. won u t) e))
+    ∙ ap (λ sizes. total_by (where_type i v (λ t. weight_of_values a.weights t *ℤ won v t)) (profiles_of sizes)) (sizes_of-general a)
     ∙ wins-by_counts a y i v
-  where
-    pay : ℕ → List ℕ → ℤ
-    pay i t = number_at pays (slice_index t i) *ℤ pos (all_orders a)
 
-    at : (t : List ℕ) → IsProfile (sizes_of (general_of a)) t → slice_index t i ≡ v
-        → weight_of (general_of a) t *ℤ chance_of (general_of a) (mechanism_of a y pays) t (i + 1)
-        ≡ weight_of_values a.weights t *ℤ sum_to (rank_count a) (λ r. if has_counts (counts_in a r) t then part_of a y v r else pos 0)
-    at t p e =
-        ap₂ (λ x z. x *ℤ z) (profile-weight a t (subst (λ sizes. IsProfile sizes t) (sizes_of-general a) p))
-        (chance_of-mechanism_by (general_of a) (whole_of a y) (lottery_of a y) pay t (i + 1) p (omega (arith, outcome_count-general a, b))
-        ∙ ap (lottery_of a y t) (let f : i + 1 ≡ suc i = omega arith in f)
-        ∙ ap (λ u. sum_to (rank_count a) (λ r. if has_counts (counts_in a r) t then part_of a y u r else pos 0)) e)
+-- as many bidders as there are, each with the value, win by the table what its masses of the value say
+pub won-of_table : (a : SymmetricAuction) (y : Masses) (i v : ℕ) → IsAuction a → NoneAbsent a y → i < a.bidders → v < value_count a
+    → pos a.bidders *ℤ weighted_given (general_of a) i v (λ t. win_of a y t i) ≡ pos (all_orders a) *ℤ mass_of a y v
+won-of_table a y i v h absent b l = ap (λ z. pos a.bidders *ℤ z) (wins-weighted a y i v) ∙ wins-of_value a y i v h absent b l
+
+-- the mechanism of the table lets a bidder win as often as the table says
+wins-in_mechanism : (a : SymmetricAuction) (y : Masses) (pays : List ℤ) (i v : ℕ) → i < a.bidders
+    → weighted_given (general_of a) i v (λ t. chance_of (general_of a) (mechanism_of a y pays) t (i + 1)) ≡ weighted_given (general_of a) i v (λ t. win_of a y t i)
+wins-in_mechanism a y pays i v b =
+    let s = general_of a in
+    total_given-same (sizes_of s) i v (λ t. weight_of s t *ℤ chance_of s (mechanism_of a y pays) t (i + 1)) (λ t. weight_of s t *ℤ win_of a y t i)
+    (λ t p e.
+    ap (λ z. weight_of s t *ℤ z)
+    (chance_of-mechanism_by s (whole_of a y) (lottery_of a y) (λ j u. number_at pays (slice_index u j) *ℤ pos (all_orders a)) t (i + 1) p (omega (arith, outcome_count-general a, b))
+    ∙ ap (lottery_of a y t) (let f : i + 1 ≡ suc i = omega arith in f)))
 
 pub odds-of_masses : (a : SymmetricAuction) (interim : Interim) (y : Masses) (pays : List ℤ) → IsAuction a → AreMasses a y → Implements a interim y
     → HasOdds a (mechanism_of a y pays) interim.den interim.odds
@@ -166,8 +171,8 @@ odds-of_masses a interim y pays h masses exact = record { wins = λ i v b l. at 
         let q = number_at interim.odds v in
         let won = weighted_given (general_of a) i v (λ t. chance_of (general_of a) (mechanism_of a y pays) t (i + 1)) in
         let all : pos n *ℤ won ≡ pos n *ℤ (o *ℤ (pos (weight_given a v) *ℤ q)) =
-        ap (λ z. pos n *ℤ z) (wins-weighted a y pays i v b)
-        ∙ wins-of_value a y i v h masses b l
+        ap (λ z. pos n *ℤ z) (wins-in_mechanism a y pays i v b)
+        ∙ won-of_table a y i v h masses.absent b l
         ∙ ap (λ z. o *ℤ z) (exact.exact v l)
         ∙ ap (λ z. o *ℤ (z *ℤ q)) (sym (pos-*ℤ-pos n (weight_given a v)))
         ∙ parts o (pos n) (pos (weight_given a v)) q in

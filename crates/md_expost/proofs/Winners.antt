@@ -24,12 +24,20 @@ use Rattle.md_expost.specs.Masses.{AreMasses, counts_in, cap_at, mass_at, rank_c
 use Rattle.md_expost.specs.Mechanisms.{all_orders, share, win_of, whole_of}
 use Rattle.md_expost.proofs.Shares.{weight-positive, share-exact}
 
+-- no mass is of a value that no bidder has
+abbrev pub NoneAbsent : SymmetricAuction → Masses → Type 0
+NoneAbsent a y = (rank v : ℕ) → rank < rank_count a → v < value_count a → slice_index (counts_in a rank) v ≡ 0 → mass_at a y rank v ≡ pos 0
+
+-- no mass is negative
+abbrev pub NoneNegative : SymmetricAuction → Masses → Type 0
+NoneNegative a y = (rank v : ℕ) → rank < rank_count a → v < value_count a → pos 0 ≤ℤ mass_at a y rank v
+
 -- ---- one mass
 
 -- the share of a mass, as often as its value comes, by the weight of the counts
-pub shared : (a : SymmetricAuction) (y : Masses) (rank v : ℕ) → IsAuction a → AreMasses a y → rank < rank_count a → v < value_count a
+pub shared : (a : SymmetricAuction) (y : Masses) (rank v : ℕ) → IsAuction a → NoneAbsent a y → rank < rank_count a → v < value_count a
     → (mass_at a y rank v *ℤ pos (share a (counts_in a rank) v)) *ℤ (pos (weight_of_counts a.weights a.bidders (counts_in a rank)) *ℤ pos (slice_index (counts_in a rank) v)) ≡ pos (all_orders a) *ℤ mass_at a y rank v
-shared a y rank v h masses b l =
+shared a y rank v h absent b l =
     let counts = counts_in a rank in
     let w = weight_of_counts a.weights a.bidders counts in
     let c = slice_index counts v in
@@ -37,7 +45,7 @@ shared a y rank v h masses b l =
       | inl p ↦
           times (mass_at a y rank v) (share a counts v) w c (all_orders a) (share-exact a counts v h (ranked (value_count a) a.bidders rank b).counts l p)
       | inr z ↦
-          let none : mass_at a y rank v ≡ pos 0 = masses.absent rank v b l (omega arith) in
+          let none : mass_at a y rank v ≡ pos 0 = absent rank v b l (omega arith) in
           rw none (nothing (pos (share a counts v)) (pos w *ℤ pos c) (pos (all_orders a)))
     ]
   where
@@ -78,9 +86,9 @@ win-at a y t i o =
     sum_to-single (rank_count a) o.rank _ o.below (λ r b d. ap (λ s. if s then won r else pos 0) (o.only r b d))
     ∙ ap (λ s. if s then won o.rank else pos 0) o.has
 
-pub win-nonneg : (a : SymmetricAuction) (y : Masses) (t : List ℕ) (i : ℕ) → AreMasses a y → slice_index t i < value_count a → pos 0 ≤ℤ win_of a y t i
-win-nonneg a y t i masses b =
-    sum_to-nonneg (rank_count a) _ (λ r l. chosen-nonneg _ _ (nonneg-*ℤ (mass_at a y r (slice_index t i)) (pos (share a (counts_in a r) (slice_index t i))) (masses.nonneg r (slice_index t i) l b) (nonneg _)))
+pub win-nonneg : (a : SymmetricAuction) (y : Masses) (t : List ℕ) (i : ℕ) → NoneNegative a y → slice_index t i < value_count a → pos 0 ≤ℤ win_of a y t i
+win-nonneg a y t i nonnegative b =
+    sum_to-nonneg (rank_count a) _ (λ r l. chosen-nonneg _ _ (nonneg-*ℤ (mass_at a y r (slice_index t i)) (pos (share a (counts_in a r) (slice_index t i))) (nonnegative r (slice_index t i) l b) (nonneg _)))
   where
     nonneg : (m : ℕ) → pos 0 ≤ℤ pos m
     nonneg m = omega (arith, ints)
@@ -90,7 +98,7 @@ value-below n k t i p b =
     subst (λ m. slice_index t i < m) (get_or-replicate n i k 0 b) (report-below (replicate n k) t i p (omega (arith, length-replicate n k, b)))
 
 -- what all bidders get together, by their values
-wins-by_value : (a : SymmetricAuction) (y : Masses) (t : List ℕ) (o : HasOneRank a.bidders (value_count a) t) → IsProfile (replicate a.bidders (value_count a)) t
+pub wins-by_value : (a : SymmetricAuction) (y : Masses) (t : List ℕ) (o : HasOneRank a.bidders (value_count a) t) → IsProfile (replicate a.bidders (value_count a)) t
     → sum_to a.bidders (win_of a y t) ≡ sum_to (value_count a) (λ v. (mass_at a y o.rank v *ℤ pos (share a (counts_in a o.rank) v)) *ℤ pos (slice_index (counts_in a o.rank) v))
 wins-by_value a y t o p =
     let n = a.bidders in
@@ -109,6 +117,20 @@ wins-by_value a y t o p =
         ∙ count-places t v
         ∙ ap pos (sym (ap (λ counts. slice_index counts v) o.is ∙ get_or-list_to (value_count a) (λ u. count_in u t) v 0 b))
 
+-- as often as there are profiles with the counts, they get together what the masses of these counts say
+pub wins-of_counts : (a : SymmetricAuction) (y : Masses) (t : List ℕ) (o : HasOneRank a.bidders (value_count a) t) → IsAuction a → NoneAbsent a y → IsProfile (replicate a.bidders (value_count a)) t
+    → pos (weight_of_counts a.weights a.bidders (counts_in a o.rank)) *ℤ sum_to a.bidders (win_of a y t) ≡ pos (all_orders a) *ℤ sum_to (value_count a) (mass_at a y o.rank)
+wins-of_counts a y t o h absent p =
+    let r = o.rank in
+    let counts = counts_in a r in
+    let w = weight_of_counts a.weights a.bidders counts in
+    let k = value_count a in
+    let g = λ (v : ℕ). mass_at a y r v *ℤ pos (share a counts v) in
+    ap (λ z. pos w *ℤ z) (wins-by_value a y t o p)
+    ∙ sym (sum_to-*ℤ k (pos w) (λ v. g v *ℤ pos (slice_index counts v)))
+    ∙ sum_to-same k _ (λ v. pos (all_orders a) *ℤ mass_at a y r v) (λ v b. *ℤ_left_comm (pos w) (g v) (pos (slice_index counts v)) ∙ shared a y r v h absent o.below b)
+    ∙ sum_to-*ℤ k (pos (all_orders a)) (mass_at a y r)
+
 -- they get no more than one item
 pub wins-le : (a : SymmetricAuction) (y : Masses) (t : List ℕ) → IsAuction a → AreMasses a y → IsProfile (replicate a.bidders (value_count a)) t
     → sum_to a.bidders (win_of a y t) ≤ℤ whole_of a y
@@ -126,14 +148,8 @@ wins-le a y t h masses p = at (one_rank a.bidders (value_count a) t p)
         let counts = counts_in a r in
         let w = weight_of_counts a.weights a.bidders counts in
         let k = value_count a in
-        let g = λ (v : ℕ). mass_at a y r v *ℤ pos (share a counts v) in
-        let sums : pos w *ℤ sum_to a.bidders (win_of a y t) ≡ pos (all_orders a) *ℤ sum_to k (mass_at a y r) =
-        ap (λ z. pos w *ℤ z) (wins-by_value a y t o p)
-        ∙ sym (sum_to-*ℤ k (pos w) (λ v. g v *ℤ pos (slice_index counts v)))
-        ∙ sum_to-same k _ (λ v. pos (all_orders a) *ℤ mass_at a y r v) (λ v b. *ℤ_left_comm (pos w) (g v) (pos (slice_index counts v)) ∙ shared a y r v h masses o.below b)
-        ∙ sum_to-*ℤ k (pos (all_orders a)) (mass_at a y r) in
         let most : (pos (all_orders a) *ℤ sum_to k (mass_at a y r)) ≤ℤ (pos (all_orders a) *ℤ cap_at a y.den r) =
         *ℤ-le (pos (all_orders a)) _ _ (nonneg _) (masses.over r o.below) in
         le_from_*ℤ (pos w) _ _ (positive_pos w (weight-positive a counts h (ranked k a.bidders r o.below).counts))
-        (subst (λ z. z ≤ℤ (pos w *ℤ whole_of a y)) (sym sums)
+        (subst (λ z. z ≤ℤ (pos w *ℤ whole_of a y)) (sym (wins-of_counts a y t o h masses.absent p))
         (subst (λ z. (pos (all_orders a) *ℤ sum_to k (mass_at a y r)) ≤ℤ z) (caps (pos (all_orders a)) y.den (pos w)) most))
