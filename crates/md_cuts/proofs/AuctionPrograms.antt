@@ -1,4 +1,4 @@
--- The reduced programs of an auction are what a cut run goes over.
+-- The reduced programs of an auction are what a cut run goes over. What holds of any number of units is said so.
 use Rattle.std.proofs.Common.{◌≡◌, ℕ, ◌*◌, ◌<◌, false, ℤ, pos, ◌-ℤ◌, ◌*ℤ◌, ◌≤ℤ◌, ◌<ℤ◌, if◌then◌else◌, List, length, refl, sym, ap, ap₂, ◌∙◌, subst, arith}
 use Rattle.std.specs.Prelude.{slice_index}
 use Rattle.std.proofs.lemmas.Int.{ints}
@@ -57,7 +57,7 @@ module _ (p q : Program) (same : IsSameProgram p q) where
   fits-same (Infeasible face) f = rows-same face f
   fits-same (Unbounded den point ray) f = (f.0, columns-same point f.1, columns-same ray f.2)
 
-  shown-of : IsShownOf p q
+  pub shown-of : IsShownOf p q
   shown-of = record {
     run = run-same p q same;
     wide = λ order width wide h. first_wide-same p q same order width wide.path wide.entry h;
@@ -65,14 +65,14 @@ module _ (p q : Program) (same : IsSameProgram p q) where
     fits = fits-same;
   }
 
-one-program : (a : SymmetricAuction) (cuts : List ℕ) (p q : Program) → IsReducedProgram a 1 cuts p → IsReducedProgram a 1 cuts q → IsShownOf p q
-one-program a cuts p q h k =
-    shown-of p q (same_program (column_count a) (forms_of a 1 (conditions_of (value_count a) cuts)) (cost_of a) p q h k)
+pub one-program : (a : SymmetricAuction) (units : ℕ) (cuts : List ℕ) (p q : Program) → IsReducedProgram a units cuts p → IsReducedProgram a units cuts q → IsShownOf p q
+one-program a units cuts p q h k =
+    shown-of p q (same_program (column_count a) (forms_of a units (conditions_of (value_count a) cuts)) (cost_of a) p q h k)
 
 -- ---- excesses
 
 -- the demands at the odds of a point
-demands-at : (a : SymmetricAuction) (den : ℤ) (x : ℕ → ℤ) (set : ℕ) → demands_in a (interim_in a den x) set ≡ demands_of a x set
+pub demands-at : (a : SymmetricAuction) (den : ℤ) (x : ℕ → ℤ) (set : ℕ) → demands_in a (interim_in a den x) set ≡ demands_of a x set
 demands-at a den x set =
     sum_to-same (value_count a) _ _
     (λ v b. ap (λ z. if member set v then pos (a.bidders * weight_given a v) *ℤ z else pos 0) (get_or-list_to (value_count a) x v (pos 0) b))
@@ -85,16 +85,16 @@ not-over a den x set h =
     less : (d r : ℤ) → d ≤ℤ r → (d -ℤ r) ≤ℤ pos 0
     less d r l = omega (arith, ints, l)
 
--- a cut of a program is not over at its points
-cut-kept : (a : SymmetricAuction) (cuts : List ℕ) (p : Program) (den : ℤ) (x : ℕ → ℤ) (k : ℕ) → IsReducedProgram a 1 cuts p → Meets p den x → k < length cuts
-    → excess_of a (interim_in a den x) (slice_index cuts k) ≤ℤ pos 0
-cut-kept a cuts p den x k is meets b =
+-- a cut of a program is kept at its points
+pub cut-met : (a : SymmetricAuction) (units : ℕ) (cuts : List ℕ) (p : Program) (den : ℤ) (x : ℕ → ℤ) (k : ℕ) → IsReducedProgram a units cuts p → Meets p den x → k < length cuts
+    → demands_of a x (slice_index cuts k) ≤ℤ (den *ℤ right_by_counts a units (slice_index cuts k))
+cut-met a units cuts p den x k is meets b =
     let kinds = value_count a in
-    let kept = (meets-conditions a 1 cuts p is den x meets.point).0 meets in
-    let rest = All-right (λ c. Holds den x (form_of a 1 c)) (rationals kinds) _ (All-right (λ c. Holds den x (form_of a 1 c)) (truths kinds) _ kept) in
-    not-over a den x (slice_index cuts k) (all-of (λ c. Holds den x (form_of a 1 c)) _ cuts rest k 0 b)
+    let kept = (meets-conditions a units cuts p is den x meets.point).0 meets in
+    let rest = All-right (λ c. Holds den x (form_of a units c)) (rationals kinds) _ (All-right (λ c. Holds den x (form_of a units c)) (truths kinds) _ kept) in
+    all-of (λ c. Holds den x (form_of a units c)) _ cuts rest k 0 b
 
--- the empty set is never over
+-- the empty set is always kept
 member-empty : (v : ℕ) → member 0 v ≡ false
 unfolding member
 member-empty v = rw (bit_at-zero v) refl
@@ -102,10 +102,9 @@ member-empty v = rw (bit_at-zero v) refl
 demands-empty : (a : SymmetricAuction) (x : ℕ → ℤ) → demands_of a x 0 ≡ pos 0
 demands-empty a x = sum_to-zero (value_count a) (λ v. if member 0 v then pos (a.bidders * weight_given a v) *ℤ x v else pos 0) (λ v b. rw (member-empty v) refl)
 
-empty-kept : (a : SymmetricAuction) (den : ℤ) (x : ℕ → ℤ) → pos 0 <ℤ den → excess_of a (interim_in a den x) 0 ≤ℤ pos 0
-empty-kept a den x positive =
-    not-over a den x 0
-    (subst (λ z. z ≤ℤ (den *ℤ right_by_counts a 1 0)) (sym (demands-empty a x)) (nonneg-*ℤ den (right_by_counts a 1 0) (some den positive) (right-nonneg a 1 0)))
+pub empty-met : (a : SymmetricAuction) (units : ℕ) (den : ℤ) (x : ℕ → ℤ) → pos 0 <ℤ den → demands_of a x 0 ≤ℤ (den *ℤ right_by_counts a units 0)
+empty-met a units den x positive =
+    subst (λ z. z ≤ℤ (den *ℤ right_by_counts a units 0)) (sym (demands-empty a x)) (nonneg-*ℤ den (right_by_counts a units 0) (some den positive) (right-nonneg a units 0))
   where
     some : (d : ℤ) → pos 0 <ℤ d → pos 0 ≤ℤ d
     some d l = omega (arith, ints, l)
@@ -115,17 +114,17 @@ empty-kept a den x positive =
 pub IsCutting-auction : (a : SymmetricAuction) → IsAuction a → IsCutting (auction_cutting a)
 IsCutting-auction a shaped = record {
   few = shaped.few_values;
-  one = one-program a;
-  kept = λ cuts p den x k is meets b. cut-kept a cuts p den x k is meets b;
-  empty = λ cuts p den x is meets. empty-kept a den x meets.point.positive;
+  one = one-program a 1;
+  kept = λ cuts p den x k is meets b. not-over a den x (slice_index cuts k) (cut-met a 1 cuts p den x k is meets b);
+  empty = λ cuts p den x is meets. not-over a den x 0 (empty-met a 1 den x meets.point.positive);
   has_point = λ cuts p is none. none.none (pos 1) (λ _. pos 0) (zero-meets a 1 cuts p is);
-  bounded = λ cuts p den x ray singles is. bounded a cuts p shaped is singles den x ray;
+  bounded = λ cuts p den x ray singles is. bounded a 1 cuts p shaped is singles den x ray;
 }
 
 -- ---- points and worst sets
 
 pub meets-reduced : (a : SymmetricAuction) (den : ℤ) (point : List ℤ) → IsCutPoint (auction_cutting a) den point → MeetsReduced a den (number_at point)
-meets-reduced a den point h = record { cuts = h.cuts; program = h.program; is_program = h.is_program; singles = h.singles; meets = h.meets }
+meets-reduced a den point h = record { units = 1; cuts = h.cuts; program = h.program; is_program = h.is_program; singles = h.singles; meets = h.meets }
 
 pub point-length : (a : SymmetricAuction) (den : ℤ) (point : List ℤ) → IsCutPoint (auction_cutting a) den point → length point ≡ column_count a
 point-length a den point h = h.point_fits.one_each ∙ h.is_program.columns

@@ -40,9 +40,9 @@ use Rattle.md_border.proofs.Necessity.{won-le}
 use Rattle.md_border.proofs.SideLaws.{right_of-counts}
 use Rattle.md_reduced.specs.declared.condition.ReducedCondition.{ReducedCondition}
 use Rattle.md_reduced.specs.declared.condition.ReducedCondition.TheVariants.{Truth, Rational, Cut}
-use Rattle.md_reduced.specs.Averages.{all_weights, times_of, gain_at, win_in, paid_in, point_of, won_in, IsAdmissibleOnAverage}
+use Rattle.md_reduced.specs.Averages.{all_weights, times_of, averages, gain_at, win_in, paid_in, won_in, WinsAs, IsAdmissibleOnAverage}
 use Rattle.md_reduced.specs.Conditions.{truths_at, truths, rationals, conditions_of}
-use Rattle.md_reduced.specs.Mechanisms.{AdmitsPoints, HoldsAdmissible}
+use Rattle.md_reduced.specs.Mechanisms.{AdmitsPoints, HoldsAdmissible, scale_of}
 use Rattle.md_reduced.specs.ProgramOf.{form_of, IsReducedProgram}
 use Rattle.md_reduced.specs.Sides.{pay_in, utility_in}
 use Rattle.md_reduced.proofs.BuiltLaws.{meets-conditions, costs-points}
@@ -105,27 +105,28 @@ mechanism-on_average a m shaped admissible =
       inside = λ set. subst (λ r. won_in a (win_in a m) set ≤ℤ (m.den *ℤ r)) (right_of-counts a set) (won-le a m set admissible.mechanism);
     }
 
-pub stands-in : (a : SymmetricAuction) (cuts : List ℕ) (p : Program) → IsAuction a → IsReducedProgram a 1 cuts p → HoldsAdmissible a p
-stands-in a cuts p shaped is m admissible =
+-- so often a base at each profile, and what bidders add to the objective over all profiles, are so often the base and a multiple
+-- of the cost of the averages
+pub costs-of_averages : (a : SymmetricAuction) (units : ℕ) (cuts : List ℕ) (p : Program) (win pay : ℕ → List ℕ → ℤ) (base whole : ℤ) → IsReducedProgram a units cuts p
+    → pos (times_of a) *ℤ ((base *ℤ whole) *ℤ pos (total_weight a.weights ^ a.bidders)
+    +ℤ sum_to (value_count a) (λ v. sum_to a.bidders (λ i. surplus_of a v *ℤ weighted_given (general_of a) i v (win i) +ℤ a.revenue *ℤ weighted_given (general_of a) i v (pay i))))
+    ≡ (base *ℤ pos (total_weight a.weights ^ a.bidders)) *ℤ (pos (times_of a) *ℤ whole) +ℤ scale_of a p *ℤ cost_sum p (averages a win pay)
+costs-of_averages a units cuts p win pay base whole is =
     let s = general_of a in
     let n = pos a.bidders in
     let all = pos (all_weights a) in
     let t = pos (times_of a) in
-    let x = point_of a m in
+    let x = averages a win pay in
     let power = pos (total_weight a.weights ^ a.bidders) in
-    let added = sum_to (value_count a) (λ v. sum_to a.bidders (λ i. surplus_of a v *ℤ weighted_given s i v (win_in a m i) +ℤ a.revenue *ℤ weighted_given s i v (paid_in a m i))) in
-    let cost : all *ℤ added ≡ p.factor *ℤ cost_sum p x = sym (averaged-cost a (win_in a m) (paid_in a m)) ∙ costs-points a 1 cuts p is x in
-    record {
-      meets = averages-meet a 1 cuts p m.den (win_in a m) (paid_in a m) shaped is (mechanism-on_average a m shaped admissible);
-      costs = ap (λ z. t *ℤ z) (worth-by_values a m shaped admissible.mechanism)
-          ∙ first t (a.keep *ℤ m.den) power added
-          ∙ ap₂ (λ y z. y +ℤ z) (second t a.keep m.den power)
-          (ap (λ z. z *ℤ added) (times-parts a)
-          ∙ third n (others a) all added
-          ∙ ap (λ z. (n *ℤ others a) *ℤ z) cost
-          ∙ ap (λ z. z *ℤ (p.factor *ℤ cost_sum p x)) (pos-*ℤ-pos a.bidders (total_weight a.weights ^ (a.bidders - 1)))
-          ∙ fourth (pos (a.bidders * total_weight a.weights ^ (a.bidders - 1))) p.factor (cost_sum p x));
-    }
+    let added = sum_to (value_count a) (λ v. sum_to a.bidders (λ i. surplus_of a v *ℤ weighted_given s i v (win i) +ℤ a.revenue *ℤ weighted_given s i v (pay i))) in
+    let cost : all *ℤ added ≡ p.factor *ℤ cost_sum p x = sym (averaged-cost a win pay) ∙ costs-points a units cuts p is x in
+    first t (base *ℤ whole) power added
+    ∙ ap₂ (λ y z. y +ℤ z) (second t base whole power)
+    (ap (λ z. z *ℤ added) (times-parts a)
+    ∙ third n (others a) all added
+    ∙ ap (λ z. (n *ℤ others a) *ℤ z) cost
+    ∙ ap (λ z. z *ℤ (p.factor *ℤ cost_sum p x)) (pos-*ℤ-pos a.bidders (total_weight a.weights ^ (a.bidders - 1)))
+    ∙ fourth (pos (a.bidders * total_weight a.weights ^ (a.bidders - 1))) p.factor (cost_sum p x))
   where
     first : (t k w g : ℤ) → t *ℤ (k *ℤ w +ℤ g) ≡ t *ℤ (k *ℤ w) +ℤ t *ℤ g
     first t k w g = simp ring
@@ -138,6 +139,12 @@ stands-in a cuts p shaped is m admissible =
 
     fourth : (c f z : ℤ) → c *ℤ (f *ℤ z) ≡ (c *ℤ f) *ℤ z
     fourth c f z = simp ring
+
+pub stands-in : (a : SymmetricAuction) (cuts : List ℕ) (p : Program) → IsAuction a → IsReducedProgram a 1 cuts p → HoldsAdmissible a p
+stands-in a cuts p shaped is m admissible = record {
+  meets = averages-meet a 1 cuts p m.den (win_in a m) (paid_in a m) shaped is (mechanism-on_average a m shaped admissible);
+  costs = ap (λ z. pos (times_of a) *ℤ z) (worth-by_values a m shaped admissible.mechanism) ∙ costs-of_averages a 1 cuts p (win_in a m) (paid_in a m) a.keep m.den is;
+}
 
 -- ---- from points to mechanisms
 
@@ -179,18 +186,19 @@ keeps-rows a units cuts p den x is meets = record {
     negative y o e l = omega (arith, linear)
 
 -- what a bidder with the value w would have with the value v, by the odds and payments of a point
-gain-by_odds : (a : SymmetricAuction) (m : Mechanism) (den : ℤ) (x : ℕ → ℤ) (i v w : ℕ) → HasOdds a m den (list_to (value_count a) x) → HasPays a m den (list_to (value_count a) (pay_in a x)) → i < a.bidders → w < value_count a
-    → den *ℤ weighted_given (general_of a) i w (gain_at a (win_in a m) (paid_in a m) v i) ≡ m.den *ℤ (pos (weight_given a w) *ℤ utility_in a x v w)
-gain-by_odds a m den x i v w odds pays b k =
+gain-by_odds : (a : SymmetricAuction) (win pay : ℕ → List ℕ → ℤ) (whole den : ℤ) (x : ℕ → ℤ) (i v w : ℕ)
+    → WinsAs a win whole den (list_to (value_count a) x) → WinsAs a pay whole den (list_to (value_count a) (pay_in a x)) → i < a.bidders → w < value_count a
+    → den *ℤ weighted_given (general_of a) i w (gain_at a win pay v i) ≡ whole *ℤ (pos (weight_given a w) *ℤ utility_in a x v w)
+gain-by_odds a win pay whole den x i v w odds pays b k =
     let s = general_of a in
     let c = number_at a.values v in
-    let won = weighted_given s i w (win_in a m i) in
-    let paid = weighted_given s i w (paid_in a m i) in
-    ap (λ z. den *ℤ z) (given-sub s i w c (win_in a m i) (paid_in a m i))
+    let won = weighted_given s i w (win i) in
+    let paid = weighted_given s i w (pay i) in
+    ap (λ z. den *ℤ z) (given-sub s i w c (win i) (pay i))
     ∙ first den c won paid
-    ∙ ap₂ (λ y z. c *ℤ y -ℤ z) (odds.wins i w b k) (pays.paid i w b k)
-    ∙ ap₂ (λ y z. c *ℤ (m.den *ℤ (pos (weight_given a w) *ℤ y)) -ℤ m.den *ℤ (pos (weight_given a w) *ℤ z)) (get_or-list_to (value_count a) x w (pos 0) k) (get_or-list_to (value_count a) (pay_in a x) w (pos 0) k)
-    ∙ second m.den (pos (weight_given a w)) c (x w) (pay_in a x w)
+    ∙ ap₂ (λ y z. c *ℤ y -ℤ z) (odds.wins i w b k) (pays.wins i w b k)
+    ∙ ap₂ (λ y z. c *ℤ (whole *ℤ (pos (weight_given a w) *ℤ y)) -ℤ whole *ℤ (pos (weight_given a w) *ℤ z)) (get_or-list_to (value_count a) x w (pos 0) k) (get_or-list_to (value_count a) (pay_in a x) w (pos 0) k)
+    ∙ second whole (pos (weight_given a w)) c (x w) (pay_in a x w)
   where
     first : (d c y z : ℤ) → d *ℤ (c *ℤ y -ℤ z) ≡ c *ℤ (d *ℤ y) -ℤ d *ℤ z
     first d c y z = simp ring (omega (arith, linear))
@@ -199,28 +207,63 @@ gain-by_odds a m den x i v w odds pays b k =
     second m g c y z = simp ring (omega (arith, linear))
 
 -- what it has where it tells w
-told-by_odds : (a : SymmetricAuction) (m : Mechanism) (den : ℤ) (x : ℕ → ℤ) (i v w : ℕ) → IsAuction a → HasOdds a m den (list_to (value_count a) x) → HasPays a m den (list_to (value_count a) (pay_in a x)) → i < a.bidders → v < value_count a → w < value_count a
-    → den *ℤ weighted_given (general_of a) i v (λ t. gain_at a (win_in a m) (paid_in a m) v i (replaced t i w)) ≡ m.den *ℤ (pos (weight_given a v) *ℤ utility_in a x v w)
-told-by_odds a m den x i v w shaped odds pays b l k =
+told-by_odds : (a : SymmetricAuction) (win pay : ℕ → List ℕ → ℤ) (whole den : ℤ) (x : ℕ → ℤ) (i v w : ℕ) → IsAuction a
+    → WinsAs a win whole den (list_to (value_count a) x) → WinsAs a pay whole den (list_to (value_count a) (pay_in a x)) → i < a.bidders → v < value_count a → w < value_count a
+    → den *ℤ weighted_given (general_of a) i v (λ t. gain_at a win pay v i (replaced t i w)) ≡ whole *ℤ (pos (weight_given a v) *ℤ utility_in a x v w)
+told-by_odds a win pay whole den x i v w shaped odds pays b l k =
     let s = general_of a in
     let f = λ (u : ℕ). pos (slice_index a.weights u) in
-    let g = gain_at a (win_in a m) (paid_in a m) v i in
+    let g = gain_at a win pay v i in
     let told = weighted_given s i v (λ t. g (replaced t i w)) in
     let there = weighted_given s i w g in
-    *ℤ_cancel (f w) (den *ℤ told) (m.den *ℤ (pos (weight_given a v) *ℤ utility_in a x v w)) (positive_pos _ (shaped.weight w k).0)
+    *ℤ_cancel (f w) (den *ℤ told) (whole *ℤ (pos (weight_given a v) *ℤ utility_in a x v w)) (positive_pos _ (shaped.weight w k).0)
     (first (f w) den told
     ∙ ap (λ z. den *ℤ z) (given-replaced a i v w g b l k)
     ∙ first den (f v) there
-    ∙ ap (λ z. f v *ℤ z) (gain-by_odds a m den x i v w odds pays b k)
-    ∙ ap (λ z. f v *ℤ (m.den *ℤ (z *ℤ utility_in a x v w))) (sym (pos-*ℤ-pos (slice_index a.weights w) (total_weight a.weights ^ (a.bidders - 1))))
-    ∙ second (f v) (f w) m.den (others a) (utility_in a x v w)
-    ∙ ap (λ z. f w *ℤ (m.den *ℤ (z *ℤ utility_in a x v w))) (pos-*ℤ-pos (slice_index a.weights v) (total_weight a.weights ^ (a.bidders - 1))))
+    ∙ ap (λ z. f v *ℤ z) (gain-by_odds a win pay whole den x i v w odds pays b k)
+    ∙ ap (λ z. f v *ℤ (whole *ℤ (z *ℤ utility_in a x v w))) (sym (pos-*ℤ-pos (slice_index a.weights w) (total_weight a.weights ^ (a.bidders - 1))))
+    ∙ second (f v) (f w) whole (others a) (utility_in a x v w)
+    ∙ ap (λ z. f w *ℤ (whole *ℤ (z *ℤ utility_in a x v w))) (pos-*ℤ-pos (slice_index a.weights v) (total_weight a.weights ^ (a.bidders - 1))))
   where
     first : (x y z : ℤ) → x *ℤ (y *ℤ z) ≡ y *ℤ (x *ℤ z)
     first x y z = simp ring
 
     second : (x y m o u : ℤ) → x *ℤ (m *ℤ ((y *ℤ o) *ℤ u)) ≡ y *ℤ (m *ℤ ((x *ℤ o) *ℤ u))
     second x y m o u = simp ring
+
+at_least_zero : (z : ℤ) → pos 1 ≤ℤ z → pos 0 ≤ℤ z
+at_least_zero z l = omega (arith, ints)
+
+-- Who wins and pays as a point says that keeps the conditions on truth and on taking part, gains on average nothing by telling
+-- another value,
+pub truthful-by_odds : (a : SymmetricAuction) (win pay : ℕ → List ℕ → ℤ) (whole den : ℤ) (x : ℕ → ℤ) (i v w : ℕ) → IsAuction a → pos 0 <ℤ den → pos 1 ≤ℤ whole → KeepsRows a x
+    → WinsAs a win whole den (list_to (value_count a) x) → WinsAs a pay whole den (list_to (value_count a) (pay_in a x)) → i < a.bidders → v < value_count a → w < value_count a
+    → weighted_given (general_of a) i v (λ t. gain_at a win pay v i (replaced t i w)) ≤ℤ weighted_given (general_of a) i v (gain_at a win pay v i)
+truthful-by_odds a win pay whole den x i v w shaped positive some rows odds pays b l k =
+    let s = general_of a in
+    let g = gain_at a win pay v i in
+    let f = pos (weight_given a v) in
+    let less : (whole *ℤ (f *ℤ utility_in a x v w)) ≤ℤ (whole *ℤ (f *ℤ utility_in a x v v)) =
+    *ℤ-le whole _ _ (at_least_zero whole some) (*ℤ-le f _ _ (nonneg_pos (weight_given a v)) (rows.truth v w l k)) in
+    le_from_*ℤ den (weighted_given s i v (λ t. g (replaced t i w))) (weighted_given s i v g) positive
+    (subst (λ z. z ≤ℤ (den *ℤ weighted_given s i v g)) (sym (told-by_odds a win pay whole den x i v w shaped odds pays b l k))
+    (subst (λ z. (whole *ℤ (f *ℤ utility_in a x v w)) ≤ℤ z) (sym (gain-by_odds a win pay whole den x i v v odds pays b l)) less))
+
+-- and loses on average nothing by taking part.
+pub rational-by_odds : (a : SymmetricAuction) (win pay : ℕ → List ℕ → ℤ) (whole den : ℤ) (x : ℕ → ℤ) (i v : ℕ) → pos 0 <ℤ den → pos 1 ≤ℤ whole → KeepsRows a x
+    → WinsAs a win whole den (list_to (value_count a) x) → WinsAs a pay whole den (list_to (value_count a) (pay_in a x)) → i < a.bidders → v < value_count a
+    → pos 0 ≤ℤ weighted_given (general_of a) i v (gain_at a win pay v i)
+rational-by_odds a win pay whole den x i v positive some rows odds pays b l =
+    nonneg_from_*ℤ den (weighted_given (general_of a) i v (gain_at a win pay v i)) positive
+    (subst (λ z. pos 0 ≤ℤ z) (sym (gain-by_odds a win pay whole den x i v v odds pays b l))
+    (nonneg-*ℤ whole _ (at_least_zero whole some) (nonneg-*ℤ (pos (weight_given a v)) _ (nonneg_pos (weight_given a v)) (rows.rational v l))))
+
+-- the chances and the payments of a mechanism with odds and payments
+wins-as_odds : (a : SymmetricAuction) (m : Mechanism) (den : ℤ) (odds : List ℤ) → HasOdds a m den odds → WinsAs a (win_in a m) m.den den odds
+wins-as_odds a m den odds h = record { wins = h.wins }
+
+pays-as_said : (a : SymmetricAuction) (m : Mechanism) (den : ℤ) (pays : List ℤ) → HasPays a m den pays → WinsAs a (paid_in a m) m.den den pays
+pays-as_said a m den pays h = record { wins = h.paid }
 
 -- a mechanism with the odds and the payments of a point that keeps the conditions on truth and on taking part is admissible
 pub admits-rows : (a : SymmetricAuction) (m : Mechanism) (den : ℤ) (x : ℕ → ℤ) → IsAuction a → pos 0 <ℤ den → KeepsRows a x → IsMechanism (general_of a) m
@@ -241,11 +284,11 @@ admits-rows a m den x shaped positive rows mechanism odds pays = record {
     kind : (i v : ℕ) → i < a.bidders → v < slice_index (sizes_of (general_of a)) i → v < value_count a
     kind i v b h = subst (λ k. v < k) (kinds-general a i b) h
 
-    factor : (v : ℕ) → ℤ
-    factor v = pos (weight_given a v)
+    odds_as : WinsAs a (win_in a m) m.den den (list_to (value_count a) x)
+    odds_as = wins-as_odds a m den (list_to (value_count a) x) odds
 
-    some : (z : ℤ) → pos 1 ≤ℤ z → pos 0 ≤ℤ z
-    some z l = omega (arith, ints)
+    pays_as : WinsAs a (paid_in a m) m.den den (list_to (value_count a) (pay_in a x))
+    pays_as = pays-as_said a m den (list_to (value_count a) (pay_in a x)) pays
 
     truthful : IsBayesTruth (general_of a) m
     truthful i v w h l k =
@@ -253,25 +296,17 @@ admits-rows a m den x shaped positive rows mechanism odds pays = record {
         let b = bidder i h in
         let c = kind i v b l in
         let g = gain_at a (win_in a m) (paid_in a m) v i in
-        let less : (m.den *ℤ (factor v *ℤ utility_in a x v w)) ≤ℤ (m.den *ℤ (factor v *ℤ utility_in a x v v)) =
-        *ℤ-le m.den _ _ (some m.den mechanism.den) (*ℤ-le (factor v) _ _ (nonneg_pos (weight_given a v)) (rows.truth v w c (kind i w b k))) in
         subst (λ z. z ≤ℤ weighted_given s i v (λ t. expected_utility s m i t t)) (sym (gains-given a m i v (λ t. replaced t i w) b))
         (subst (λ z. weighted_given s i v (λ t. g (replaced t i w)) ≤ℤ z) (sym (gains-given a m i v (λ t. t) b))
-        (le_from_*ℤ den (weighted_given s i v (λ t. g (replaced t i w))) (weighted_given s i v g) positive
-        (subst (λ z. z ≤ℤ (den *ℤ weighted_given s i v g)) (sym (told-by_odds a m den x i v w shaped odds pays b c (kind i w b k)))
-        (subst (λ z. (m.den *ℤ (factor v *ℤ utility_in a x v w)) ≤ℤ z) (sym (gain-by_odds a m den x i v v odds pays b c)) less))))
+        (truthful-by_odds a (win_in a m) (paid_in a m) m.den den x i v w shaped positive mechanism.den rows odds_as pays_as b c (kind i w b k)))
 
     rational : IsInterimRational (general_of a) m
     rational i v h l =
         let s = general_of a in
         let b = bidder i h in
-        let c = kind i v b l in
-        let g = gain_at a (win_in a m) (paid_in a m) v i in
         subst (λ z. z ≤ℤ weighted_given s i v (λ t. expected_utility s m i t t)) (sym (nothing_outside a m i v b))
         (subst (λ z. pos 0 ≤ℤ z) (sym (gains-given a m i v (λ t. t) b))
-        (nonneg_from_*ℤ den (weighted_given s i v g) positive
-        (subst (λ z. pos 0 ≤ℤ z) (sym (gain-by_odds a m den x i v v odds pays b c))
-        (nonneg-*ℤ m.den _ (some m.den mechanism.den) (nonneg-*ℤ (factor v) _ (nonneg_pos (weight_given a v)) (rows.rational v c))))))
+        (rational-by_odds a (win_in a m) (paid_in a m) m.den den x i v positive mechanism.den rows odds_as pays_as b (kind i v b l)))
 
 pub admits : (a : SymmetricAuction) (cuts : List ℕ) (p : Program) → IsAuction a → IsReducedProgram a 1 cuts p → AdmitsPoints a p
 admits a cuts p shaped is m den x meets mechanism odds pays = admits-rows a m den x shaped meets.point.positive (keeps-rows a 1 cuts p den x is meets) mechanism odds pays
@@ -282,22 +317,23 @@ given-positive : (a : SymmetricAuction) (v : ℕ) → IsAuction a → v < value_
 given-positive a v shaped l =
     mul-pos {m = slice_index a.weights v} {n = total_weight a.weights ^ (a.bidders - 1)} (shaped.weight v l).0 (others-positive a shaped)
 
--- the odds and the payments of an admissible mechanism keep the conditions on truth and on taking part, as the first bidder shows
-pub rows-kept : (a : SymmetricAuction) (m : Mechanism) (den : ℤ) (x : ℕ → ℤ) → IsAuction a → pos 0 <ℤ den
-    → HasOdds a m den (list_to (value_count a) x) → HasPays a m den (list_to (value_count a) (pay_in a x)) → IsAdmissible (general_of a) m → KeepsRows a x
-rows-kept a m den x shaped positive odds pays admissible = record {
+-- where bidders gain on average nothing by telling another value, and lose nothing by taking part, the point by which they win
+-- and pay keeps the conditions on truth and on taking part, as the first bidder shows
+pub keeps-by_odds : (a : SymmetricAuction) (units : ℕ) (win pay : ℕ → List ℕ → ℤ) (whole den : ℤ) (x : ℕ → ℤ) → IsAuction a → pos 0 <ℤ den
+    → WinsAs a win whole den (list_to (value_count a) x) → WinsAs a pay whole den (list_to (value_count a) (pay_in a x)) → IsAdmissibleOnAverage a units whole win pay → KeepsRows a x
+keeps-by_odds a units win pay whole den x shaped positive odds pays averaged = record {
   truth = λ v w l k.
-      let told = weighted_given s 0 v (λ t. gain_at a (win_in a m) (paid_in a m) v 0 (replaced t 0 w)) in
-      let own = weighted_given s 0 v (gain_at a (win_in a m) (paid_in a m) v 0) in
+      let told = weighted_given s 0 v (λ t. gain_at a win pay v 0 (replaced t 0 w)) in
+      let own = weighted_given s 0 v (gain_at a win pay v 0) in
       let less : (den *ℤ told) ≤ℤ (den *ℤ own) = *ℤ-le den told own (le_from_lt (pos 0) den positive) (averaged.truthful 0 v w first l k) in
       without v (utility_in a x v w) (utility_in a x v v) l
-      (subst (λ z. z ≤ℤ (m.den *ℤ (pos (weight_given a v) *ℤ utility_in a x v v))) (told-by_odds a m den x 0 v w shaped odds pays first l k)
-      (subst (λ z. (den *ℤ told) ≤ℤ z) (gain-by_odds a m den x 0 v v odds pays first l) less));
+      (subst (λ z. z ≤ℤ (whole *ℤ (pos (weight_given a v) *ℤ utility_in a x v v))) (told-by_odds a win pay whole den x 0 v w shaped odds pays first l k)
+      (subst (λ z. (den *ℤ told) ≤ℤ z) (gain-by_odds a win pay whole den x 0 v v odds pays first l) less));
   rational = λ v l.
       nonneg_from_*ℤ (pos (weight_given a v)) (utility_in a x v v) (positive_pos (weight_given a v) (given-positive a v shaped l))
-      (nonneg_from_*ℤ m.den (pos (weight_given a v) *ℤ utility_in a x v v) (above m.den averaged.den_positive)
-      (subst (λ z. pos 0 ≤ℤ z) (gain-by_odds a m den x 0 v v odds pays first l)
-      (nonneg-*ℤ den (weighted_given s 0 v (gain_at a (win_in a m) (paid_in a m) v 0)) (le_from_lt (pos 0) den positive) (averaged.rational 0 v first l))));
+      (nonneg_from_*ℤ whole (pos (weight_given a v) *ℤ utility_in a x v v) (above whole averaged.den_positive)
+      (subst (λ z. pos 0 ≤ℤ z) (gain-by_odds a win pay whole den x 0 v v odds pays first l)
+      (nonneg-*ℤ den (weighted_given s 0 v (gain_at a win pay v 0)) (le_from_lt (pos 0) den positive) (averaged.rational 0 v first l))));
 }
   where
     s : GeneralSetting
@@ -306,13 +342,17 @@ rows-kept a m den x shaped positive odds pays admissible = record {
     first : 0 < a.bidders
     first = shaped.some_bidder
 
-    averaged : IsAdmissibleOnAverage a 1 m.den (win_in a m) (paid_in a m)
-    averaged = mechanism-on_average a m shaped admissible
-
     above : (z : ℤ) → pos 1 ≤ℤ z → pos 0 <ℤ z
     above z l = omega (arith, ints)
 
-    without : (v : ℕ) (y z : ℤ) → v < value_count a → (m.den *ℤ (pos (weight_given a v) *ℤ y)) ≤ℤ (m.den *ℤ (pos (weight_given a v) *ℤ z)) → y ≤ℤ z
+    without : (v : ℕ) (y z : ℤ) → v < value_count a → (whole *ℤ (pos (weight_given a v) *ℤ y)) ≤ℤ (whole *ℤ (pos (weight_given a v) *ℤ z)) → y ≤ℤ z
     without v y z l h =
         le_from_*ℤ (pos (weight_given a v)) y z (positive_pos (weight_given a v) (given-positive a v shaped l))
-        (le_from_*ℤ m.den (pos (weight_given a v) *ℤ y) (pos (weight_given a v) *ℤ z) (above m.den averaged.den_positive) h)
+        (le_from_*ℤ whole (pos (weight_given a v) *ℤ y) (pos (weight_given a v) *ℤ z) (above whole averaged.den_positive) h)
+
+-- the odds and the payments of an admissible mechanism keep them
+pub rows-kept : (a : SymmetricAuction) (m : Mechanism) (den : ℤ) (x : ℕ → ℤ) → IsAuction a → pos 0 <ℤ den
+    → HasOdds a m den (list_to (value_count a) x) → HasPays a m den (list_to (value_count a) (pay_in a x)) → IsAdmissible (general_of a) m → KeepsRows a x
+rows-kept a m den x shaped positive odds pays admissible =
+    keeps-by_odds a 1 (win_in a m) (paid_in a m) m.den den x shaped positive (wins-as_odds a m den (list_to (value_count a) x) odds)
+    (pays-as_said a m den (list_to (value_count a) (pay_in a x)) pays) (mechanism-on_average a m shaped admissible)

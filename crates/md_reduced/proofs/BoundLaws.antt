@@ -74,7 +74,7 @@ cost-bounded : (a : SymmetricAuction) (den : ℤ) (x : ℕ → ℤ) → IsAuctio
 cost-bounded a den x shaped h = sum_to-le (value_count a) _ (most_at a den) at
   where
     rows : KeepsRows a x
-    rows = keeps-rows a 1 h.cuts h.program den x h.is_program h.meets
+    rows = keeps-rows a h.units h.cuts h.program den x h.is_program h.meets
 
     nonneg : (v : ℕ) → v < value_count a → pos 0 ≤ℤ x v
     nonneg v l = h.meets.point.nonneg v (inside (h.program.columns) (h.is_program.columns))
@@ -129,11 +129,11 @@ unbounded factor cost most grown some gains bound =
     one-more : pos 0 <ℤ pos 1
     one-more = omega (arith, ints)
 
-pub bounded : (a : SymmetricAuction) (cuts : List ℕ) (p : Program) → IsAuction a → IsReducedProgram a 1 cuts p → HasSingles (value_count a) cuts → IsBounded p
-bounded a cuts p shaped is singles den x ray grows =
+pub bounded : (a : SymmetricAuction) (units : ℕ) (cuts : List ℕ) (p : Program) → IsAuction a → IsReducedProgram a units cuts p → HasSingles (value_count a) cuts → IsBounded p
+bounded a units cuts p shaped is singles den x ray grows =
     unbounded p.factor (cost_sum p x) most (cost_sum p y) (factor-positive (column_count a) (λ j. cost_of a (unit j)) p.factor is.has_cost.factor) (grows.gains k)
-    (subst (λ z. z ≤ℤ most) (costs-points a 1 cuts p is y)
-    (cost-bounded a den y shaped (record { cuts = cuts; program = p; is_program = is; singles = singles; meets = grows.meets k })))
+    (subst (λ z. z ≤ℤ most) (costs-points a units cuts p is y)
+    (cost-bounded a den y shaped (record { units = units; cuts = cuts; program = p; is_program = is; singles = singles; meets = grows.meets k })))
   where
     most : ℤ
     most = sum_to (value_count a) (most_at a den)

@@ -1,21 +1,21 @@
 -- How a program grows by the conditions of an auction, and what its points say of them.
-use Rattle.std.proofs.Common.{◌≡◌, ℕ, suc, ◌+◌, ◌<◌, ◌≤◌, List, [], ◌∷◌, ◌++◌, length, map, take, All, Some, sym, ap, ◌∙◌, subst, arith}
+use Rattle.std.proofs.Common.{◌≡◌, ℕ, suc, ◌+◌, ◌≤◌, ℤ, List, [], ◌∷◌, ◌++◌, length, map, take, All, Some, refl, sym, ap, ◌∙◌, subst, arith}
 use Rattle.std.specs.Prelude.{slice_get, option_map}
-use Rattle.std.proofs.lemmas.List.{length-map, map-append, get_or-map, take_all, length-take-le}
+use Rattle.std.proofs.lemmas.List.{length-map, map-append, get_or-map, take_all}
 use Rattle.std.proofs.lemmas.List.Elements.{All-map}
 use Rattle.std.proofs.lemmas.Option.{slice_get-map}
 use Rattle.md_math.proofs.ListLaws.{take-more}
 use Rattle.md_setting.specs.Auction.{SymmetricAuction, value_count}
 use Rattle.md_lp.specs.Program.{Program, row_count}
 use Rattle.md_forms.specs.Forms.{Holds}
-use Rattle.md_forms.specs.Built.{HasRoom, Extends}
+use Rattle.md_forms.specs.Built.{Extends}
 use Rattle.md_forms.proofs.BuiltLaws as forms
 use Rattle.md_forms.proofs.PointLaws.{meets-hold, hold-meets}
 use Rattle.md_reduced.specs.declared.condition.ReducedCondition.{ReducedCondition}
 use Rattle.md_reduced.specs.Conditions.{conditions_of}
 use Rattle.md_lp.specs.Cuts.{AreCuts}
-use Rattle.md_reduced.specs.Sides.{cost_of}
-use Rattle.md_reduced.specs.ProgramOf.{column_count, form_of, forms_of, IsReducedProgram, HasEachRow, MeetsByConditions, CostsPoints}
+use Rattle.md_reduced.specs.Sides.{AreSides, right_side, cost_of}
+use Rattle.md_reduced.specs.ProgramOf.{column_count, form_of, form_with, forms_of, IsReducedProgram, GrowsByRows, HasEachRow, MeetsByConditions, CostsPoints}
 use Rattle.md_reduced.proofs.ConditionLaws.{conditions-few}
 
 -- ---- growing
@@ -31,27 +31,29 @@ extends-next a units cs n c old mid new e p q =
 pub extends-all : (a : SymmetricAuction) (units : ℕ) (cs : List ReducedCondition) (n : ℕ) (old new : Program) → n ≡ length cs → Extends (forms_of a units (take n cs)) old new → Extends (forms_of a units cs) old new
 extends-all a units cs n old new e p = subst (λ ds. Extends (forms_of a units ds) old new) (take_all n cs (omega (arith, e))) p
 
--- room for the next condition
-pub room-next : (a : SymmetricAuction) (units : ℕ) (cs : List ReducedCondition) (n : ℕ) (old mid : Program) → n < length cs → HasRoom (forms_of a units cs) old → Extends (forms_of a units (take n cs)) old mid → row_count mid < 8192
-room-next a units cs n old mid below h p =
-    omega (
-      arith,
-      h.room,
-      below,
-      forms.grown (forms_of a units (take n cs)) old mid p,
-      length-map (take n cs) (form_of a units),
-      length-take-le n cs (omega (arith, below)),
-      length-map cs (form_of a units),
-    )
+-- no condition yet, one more, and all of them, with the right sides of their cuts
+pub grows-none : (a : SymmetricAuction) (cuts : List ℕ) (sides : List ℤ) (old : Program) → GrowsByRows a cuts sides 0 old old
+grows-none a cuts sides old = record { columns = refl; more = omega arith; extends = λ units are. forms.extends-none old }
 
-pub columns-kept : (a : SymmetricAuction) (units : ℕ) (cs : List ReducedCondition) (old mid : Program) → Extends (forms_of a units cs) old mid → old.columns ≡ column_count a → mid.columns ≡ column_count a
-columns-kept a units cs old mid p e = forms.same_columns (forms_of a units cs) old mid p ∙ e
+pub grows-next : (a : SymmetricAuction) (cuts : List ℕ) (sides : List ℤ) (n : ℕ) (c : ReducedCondition) (right : ℤ) (old mid new : Program) → slice_get (conditions_of (value_count a) cuts) n ≡ Some c
+    → ((units : ℕ) → AreSides a units cuts sides → right ≡ right_side a units c) → GrowsByRows a cuts sides n old mid → Extends (form_with a right c ∷ []) mid new → GrowsByRows a cuts sides (n + 1) old new
+grows-next a cuts sides n c right old mid new e is p q = record {
+  columns = forms.same_columns (form_with a right c ∷ []) mid new q ∙ p.columns;
+  more = omega (arith, forms.grown (form_with a right c ∷ []) mid new q, p.more);
+  extends = λ units are.
+      extends-next a units (conditions_of (value_count a) cuts) n c old mid new e (p.extends units are)
+      (subst (λ r. Extends (form_with a r c ∷ []) mid new) (is units are) q);
+}
+
+pub grows-all : (a : SymmetricAuction) (cuts : List ℕ) (sides : List ℤ) (units : ℕ) (old new : Program) → GrowsByRows a cuts sides (length (conditions_of (value_count a) cuts)) old new → AreSides a units cuts sides
+    → Extends (forms_of a units (conditions_of (value_count a) cuts)) old new
+grows-all a cuts sides units old new p are =
+    let cs = conditions_of (value_count a) cuts in
+    extends-all a units cs (length cs) old new refl (p.extends units are)
 
 -- a program with no row has room for all conditions
-pub whole-room : (a : SymmetricAuction) (units : ℕ) (cuts : List ℕ) (p : Program) → value_count a ≤ 12 → AreCuts (value_count a) cuts → p.rows ≡ [] → HasRoom (forms_of a units (conditions_of (value_count a) cuts)) p
-whole-room a units cuts p few are none = record {
-  room = omega (arith, ap length none, length-map (conditions_of (value_count a) cuts) (form_of a units), conditions-few (value_count a) cuts few are);
-}
+pub whole-room : (a : SymmetricAuction) (cuts : List ℕ) (p : Program) → value_count a ≤ 12 → AreCuts (value_count a) cuts → p.rows ≡ [] → row_count p + length (conditions_of (value_count a) cuts) ≤ 8192
+whole-room a cuts p few are none = omega (arith, ap length none, conditions-few (value_count a) cuts few are)
 
 -- ---- all conditions
 

@@ -4,6 +4,7 @@ pub mod BuiltLaws
 pub mod TermForms
 pub mod CostLaws
 pub mod PointLaws
+pub mod RightLaws
 pub mod SampleLaws
 pub mod Replacing
 pub mod MeanLaws

@@ -1,6 +1,6 @@
 -- Averages over the bidders of an auction. What bidders win and pay are any functions of the bidder, counted from 0, and of the
 -- profile, so that one item, several units and other sales have the same averages.
-use Rattle.std.specs.Prelude.{ℕ, ◌+◌, ◌-◌, ◌*◌, ◌^◌, ◌<◌, suc, ℤ, pos, negsuc, ◌-ℤ◌, ◌*ℤ◌, ◌≤ℤ◌, List, slice_index, nat_lt, ◌==◌, if◌then◌else◌}
+use Rattle.std.specs.Prelude.{◌≡◌, ℕ, ◌+◌, ◌-◌, ◌*◌, ◌^◌, ◌<◌, suc, ℤ, pos, negsuc, ◌-ℤ◌, ◌*ℤ◌, ◌≤ℤ◌, List, slice_index, nat_lt, ◌==◌, if◌then◌else◌}
 use Rattle.md_math.specs.Lists.{number_at}
 use Rattle.md_math.specs.Products.{product_to}
 use Rattle.md_math.specs.Sets.{member}
@@ -13,6 +13,7 @@ use Rattle.md_setting.specs.General.{general_of}
 use Rattle.md_mech.specs.declared.mechanism.Mechanism.{Mechanism}
 use Rattle.md_mech.specs.Mechanism.{chance_of, pay_of}
 use Rattle.md_mech.specs.Utility.{weighted_given}
+use Rattle.md_border.specs.Odds.{weight_given}
 use Rattle.md_border.specs.Sides.{right_by_counts}
 
 -- ---- the averages
@@ -60,6 +61,12 @@ averages a win pay column =
 -- what bidder i with the value v has at the report t
 abbrev pub gain_at : SymmetricAuction → (ℕ → List ℕ → ℤ) → (ℕ → List ℕ → ℤ) → ℕ → ℕ → List ℕ → ℤ
 gain_at a win pay v i t = number_at a.values v *ℤ win i t -ℤ pay i t
+
+-- What each bidder with each value has of f, on average over the values of the others and in units of one over the whole, is
+-- what the numbers over the denominator say: how often it wins by odds, or what it pays by payments.
+pub record WinsAs (a : SymmetricAuction) (f : ℕ → List ℕ → ℤ) (whole den : ℤ) (numbers : List ℤ) : Type 0 where
+  pub wins : (i v : ℕ) → i < a.bidders → v < value_count a
+      → den *ℤ weighted_given (general_of a) i v (f i) ≡ whole *ℤ (pos (weight_given a v) *ℤ number_at numbers v)
 
 -- how often the bidders with values in a set win, over all profiles by weight
 abbrev pub won_in : SymmetricAuction → (ℕ → List ℕ → ℤ) → ℕ → ℤ

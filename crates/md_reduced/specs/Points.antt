@@ -13,10 +13,12 @@ use Rattle.md_reduced.specs.Sides.{pay_in}
 abbrev pub interim_in : SymmetricAuction → ℤ → (ℕ → ℤ) → Interim
 interim_in a den x = record { den = den; odds = list_to (value_count a) x; pays = list_to (value_count a) (pay_in a x) }
 
--- the numbers over the denominator are a point that meets a reduced program with a cut for each value alone
+-- the numbers over the denominator are a point that meets a reduced program, of any number of units, with a cut for each
+-- value alone
 pub record MeetsReduced (a : SymmetricAuction) (den : ℤ) (x : ℕ → ℤ) : Type 0 where
+  pub units : ℕ
   pub cuts : List ℕ
   pub program : Program
-  pub is_program : IsReducedProgram a 1 cuts program
+  pub is_program : IsReducedProgram a units cuts program
   pub singles : HasSingles (value_count a) cuts
   pub meets : Meets program den x

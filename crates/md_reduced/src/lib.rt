@@ -13,7 +13,7 @@ mod terms;
 pub use condition::{ReducedCondition, condition_at, row_count};
 pub use interim::interim_of;
 pub use names::row_name;
-pub use reduced::program;
+pub use reduced::{program, program_with};
 
 #[cfg(test)]
 mod tests;

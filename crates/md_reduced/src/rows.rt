@@ -1,74 +1,53 @@
 //! The conditions as rows.
-ghost use Rattle.std.specs.Prelude.{◌≡◌, ◌≢◌, ◌<◌, ◌^◌, [], ◌∷◌, OnOk};
+ghost use Rattle.std.specs.Prelude.{◌≡◌, ℕ, ◌<◌, ◌^◌, ℤ, [], ◌∷◌, IfOk, OnOk};
+ghost use Rattle.md_math.specs.Sizes.{IsWithin};
 ghost use Rattle.md_setting.specs.Auction.{value_count};
 ghost use Rattle.md_lp.specs.Program.{row_count};
 ghost use Rattle.md_forms.specs.Built.{Extends};
+ghost use Rattle.md_forms.specs.Terms.{sum_at, AreTermsBelow};
 ghost use Rattle.md_reduced.specs.Conditions.{IsInside};
-ghost use Rattle.md_reduced.specs.declared.condition.ReducedCondition.TheVariants.{Truth, Rational, Cut};
-ghost use Rattle.md_reduced.specs.ProgramOf.{column_count, form_of};
+ghost use Rattle.md_reduced.specs.ProgramOf.{column_count, form_with};
+ghost use Rattle.md_reduced.specs.Sides.{left_side};
 
 use crate::condition::ReducedCondition;
 use crate::terms::{cut_terms, rational_terms, truth_terms};
-use md_border::right_side;
 use md_forms::push_form;
-use md_lp::{Lp, RowKind};
+use md_lp::{Lp, RowKind, Term};
 use md_num::NoMemory;
 use md_setting::Auction;
 use std::alloc::Global;
 
-/// Appends the row of a condition.
+/// Appends the row of a condition with this right side.
 pub(crate) fn push_condition(
     alloc: Global,
     auction: &Auction,
     condition: ReducedCondition,
+    right: i128,
     lp: &mut Lp,
 ) -> Result<(), NoMemory>
     requires inside { IsInside (value_count auction.now) condition }
+    requires size { IsWithin (2 ^ 44) right }
     requires columns { lp.old.columns ≡ column_count auction.now }
     requires room { row_count lp.old < 8192 }
-    ensures { OnOk result (Extends (form_of auction.now 1 condition ∷ []) lp.old lp.new) }
+    ensures { OnOk result (Extends (form_with auction.now right condition ∷ []) lp.old lp.new) }
 {
-    match condition {
-        ReducedCondition::Truth { kind, other } => push_truth(alloc, auction, kind, other, lp),
-        ReducedCondition::Rational { kind } => push_rational(alloc, auction, kind, lp),
-        ReducedCondition::Cut { set } => push_cut(alloc, auction, set, lp),
-    }
+    let terms = left_terms(alloc, auction, condition)?;
+    push_form(lp, RowKind::AtMost, &terms, right)
 }
 
-fn push_truth(
+// The left side of a condition.
+fn left_terms(
     alloc: Global,
     auction: &Auction,
-    kind: u32,
-    other: u32,
-    lp: &mut Lp,
-) -> Result<(), NoMemory>
-    requires kind_in { kind < value_count auction.now }
-    requires other_in { other < value_count auction.now }
-    requires apart { other ≢ kind }
-    requires columns { lp.old.columns ≡ column_count auction.now }
-    requires room { row_count lp.old < 8192 }
-    ensures { OnOk result (Extends (form_of auction.now 1 (Truth kind other) ∷ []) lp.old lp.new) }
+    condition: ReducedCondition,
+) -> Result<Vec<Term>, NoMemory>
+    requires inside { IsInside (value_count auction.now) condition }
+    ensures placed { IfOk result (λ terms. AreTermsBelow (2 ^ 44) (column_count auction.now) terms.items) }
+    ensures sum { IfOk result (λ terms. (x : ℕ → ℤ) → sum_at x terms.items ≡ left_side auction.now condition x) }
 {
-    let terms = truth_terms(alloc, auction, kind, other)?;
-    push_form(lp, RowKind::AtMost, &terms, 0)
-}
-
-fn push_rational(alloc: Global, auction: &Auction, kind: u32, lp: &mut Lp) -> Result<(), NoMemory>
-    requires kind_in { kind < value_count auction.now }
-    requires columns { lp.old.columns ≡ column_count auction.now }
-    requires room { row_count lp.old < 8192 }
-    ensures { OnOk result (Extends (form_of auction.now 1 (Rational kind) ∷ []) lp.old lp.new) }
-{
-    let terms = rational_terms(alloc, auction, kind)?;
-    push_form(lp, RowKind::AtMost, &terms, 0)
-}
-
-fn push_cut(alloc: Global, auction: &Auction, set: u32, lp: &mut Lp) -> Result<(), NoMemory>
-    requires set_in { set < 2 ^ value_count auction.now }
-    requires columns { lp.old.columns ≡ column_count auction.now }
-    requires room { row_count lp.old < 8192 }
-    ensures { OnOk result (Extends (form_of auction.now 1 (Cut set) ∷ []) lp.old lp.new) }
-{
-    let terms = cut_terms(alloc, auction, set)?;
-    push_form(lp, RowKind::AtMost, &terms, right_side(auction, set))
+    match condition {
+        ReducedCondition::Truth { kind, other } => truth_terms(alloc, auction, kind, other),
+        ReducedCondition::Rational { kind } => rational_terms(alloc, auction, kind),
+        ReducedCondition::Cut { set } => cut_terms(alloc, auction, set),
+    }
 }

@@ -21,6 +21,13 @@ fn auction(alloc: Global) -> Result<Auction, BuildRefusal>
     Auction::new(alloc, 1, &[1, 3], &[1, 1], 1, 0, 2)
 }
 
+// Two such bidders.
+fn two_bidders(alloc: Global) -> Result<Auction, BuildRefusal>
+    ensures { IfOk result (λ auction. value_count auction ≡ 2) }
+{
+    Auction::new(alloc, 2, &[1, 3], &[1, 1], 1, 0, 2)
+}
+
 // The sets of one value each.
 fn singles(alloc: Global) -> Result<Sets, NoMemory>
     ensures cuts { IfOk result (λ cuts. (a : SymmetricAuction) → value_count a ≡ 2 → AreCuts (value_count a) cuts) }
@@ -63,6 +70,21 @@ static ROWS: [Wanted; 6] = [
         numbers: &[0, -3, 0, 1, 0, -1],
         right: 0,
     },
+    Wanted {
+        name: b"cut/1",
+        numbers: &[1, 0, 0, 0, 0, 0],
+        right: 1,
+    },
+    Wanted {
+        name: b"cut/2",
+        numbers: &[0, 1, 0, 0, 0, 0],
+        right: 1,
+    },
+];
+
+// Two units for two bidders: in the four profiles together the value 1 comes four times, and so does the value 3, and as often
+// a bidder can get a unit with it. So no odds are over 1. The numbers 4 of left and right sides are divided by 4.
+static CUTS_OF_TWO_UNITS: [Wanted; 2] = [
     Wanted {
         name: b"cut/1",
         numbers: &[1, 0, 0, 0, 0, 0],
@@ -133,6 +155,19 @@ fn writes_the_rows_of_an_auction(rt: HostRuntime) -> Result<(), Fail> {
     }
     for (row, wanted) in ROWS.iter().enumerate() {
         judge_row(&rt, alloc, &auction, &cuts, &lp, row as u32, wanted)?;
+    }
+    Ok(())
+}
+
+#[test]
+fn writes_the_cuts_of_two_units(rt: HostRuntime) -> Result<(), Fail> {
+    let alloc = rt.alloc();
+    let auction = two_bidders(alloc)?;
+    let cuts = singles(alloc)?;
+    let sides = Nums::from_slice(alloc, &[4, 4])?;
+    let lp = program_with(alloc, &auction, &cuts, &sides)?;
+    for (place, wanted) in CUTS_OF_TWO_UNITS.iter().enumerate() {
+        judge_row(&rt, alloc, &auction, &cuts, &lp, place as u32 + 4, wanted)?;
     }
     Ok(())
 }
