@@ -1,0 +1,10 @@
+pub mod SettingLaws
+pub mod UtilityLaws
+pub mod Wins
+pub mod OddsLaws
+pub mod Necessity
+pub mod OnAverage
+pub mod Admitting
+pub mod MechanismWorth
+pub mod Standing
+pub mod OptimalLaws

@@ -1,0 +1,4 @@
+pub mod Setting
+pub mod Odds
+pub mod Mechanisms
+pub mod Worth
