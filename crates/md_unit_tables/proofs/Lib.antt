@@ -1,0 +1,4 @@
+pub mod NetLaws
+pub mod FlowLaws
+pub mod WinnerLaws
+pub mod MechanismLaws

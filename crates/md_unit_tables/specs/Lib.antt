@@ -1,0 +1,4 @@
+pub mod Tables
+pub mod Mechanisms
+pub mod UnitNets
+pub mod Ends
