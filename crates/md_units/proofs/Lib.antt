@@ -1,0 +1,4 @@
+mod SideLaws
+mod FurtherUnits
+mod UnitPrograms
+mod UnitEnds

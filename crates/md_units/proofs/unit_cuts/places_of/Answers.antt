@@ -1,0 +1,5 @@
+use Rattle.md_units.proofs.UnitPrograms.{IsCutting-units}
+use Rattle.md_units.proofs.unit_cuts.places_of.Goals as goal
+
+pub returns-clause-cutting : goal.returns-clause-cutting
+returns-clause-cutting c = IsCutting-units c.args.auction.now c.args.units c.kinds.ensures.shaped

@@ -1,0 +1,20 @@
+//! Auctions of several identical units, of which each bidder wants one, solved: the cut run over the reduced programs of such
+//! a sale, whose cuts are Border's conditions for several units. Its end is an optimal mechanism of the sale.
+#![tactic(auto)]
+
+mod programs;
+mod sides;
+mod solving;
+mod unit_cuts;
+mod units_answer;
+mod worth;
+
+pub use md_cuts::CutsError as UnitsError;
+pub use md_unit_tables::{UnitEnd, realise_units};
+pub use programs::program;
+pub use sides::right_side;
+pub use solving::solve_units;
+pub use units_answer::UnitsAnswer;
+
+#[cfg(test)]
+mod tests;
