@@ -6,3 +6,4 @@ pub mod MassSteps
 pub mod MassesRead
 pub mod MassesWritten
 pub mod AuctionWritten
+pub mod ReducedRows

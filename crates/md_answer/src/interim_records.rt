@@ -90,15 +90,11 @@ pub(crate) fn read_interim(
     })
 }
 
-/// Adds the records of odds and payments.
+/// Adds the records of odds and payments: their denominator, the odds by the kind of the value, and the payments.
 ///
 /// # Errors
 /// Want of memory.
-pub(crate) fn push_interim(
-    alloc: Global,
-    rows: &mut Vec<Row>,
-    interim: &Interim,
-) -> Result<(), NoMemory>
+pub fn push_interim(alloc: Global, rows: &mut Vec<Row>, interim: &Interim) -> Result<(), NoMemory>
     ensures { OnOk result (rows.new.items ≡ rows.old.items ++ interim_rows interim.now) }
 {
     push_numbers(alloc, rows, "interim", &[interim.den])?;

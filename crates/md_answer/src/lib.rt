@@ -16,6 +16,7 @@ mod reduced;
 mod writing;
 
 pub use answer::Answer;
+pub use interim_records::push_interim;
 pub use mass_records::push_masses;
 pub use md_parts::AnswerRefusal;
 pub use odds_file::read_odds;

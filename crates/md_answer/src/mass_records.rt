@@ -2,7 +2,8 @@
 ghost use Rattle.std.specs.Prelude.{◌≡◌, ◌<◌, ◌++◌, ◌∷◌, [], pos, IfOk, OnOk};
 ghost use Rattle.md_math.specs.Lists.{list_to};
 ghost use Rattle.md_setting.specs.Auction.{value_count};
-ghost use Rattle.md_expost.specs.Masses.{AreMasses, rank_count, mass_at};
+ghost use Rattle.md_expost.specs.Masses.{rank_count, mass_at};
+ghost use Rattle.md_expost.specs.Refusals.{HasShape};
 ghost use Rattle.md_answer.specs.MassRecords.{count_numbers, mass_row, mass_rows};
 
 use md_counts::Counts;
@@ -34,7 +35,7 @@ fn add_masses(
     masses: &Masses,
     rank: u32,
 ) -> Result<(), NoMemory>
-    requires masses { AreMasses auction.now masses.now }
+    requires shape { HasShape auction.now masses.now.rows }
     requires rank_in { rank < rank_count auction.now }
     ensures { OnOk result (numbers.new ≡ numbers.old ++ list_to (value_count auction.now) (mass_at auction.now masses.now rank)) }
 {
@@ -57,7 +58,7 @@ fn push_rank(
 ) -> Result<(), NoMemory>
     requires bidders { counts.now.bidders ≡ auction.now.bidders }
     requires kinds { counts.now.kinds ≡ value_count auction.now }
-    requires masses { AreMasses auction.now masses.now }
+    requires shape { HasShape auction.now masses.now.rows }
     requires rank_in { rank < rank_count auction.now }
     ensures { OnOk result (rows.new.items ≡ rows.old.items ++ mass_row auction.now masses.now rank ∷ []) }
 {
@@ -67,7 +68,8 @@ fn push_rank(
 }
 
 /// Adds the records of a mass table of an auction: for each list of counts, in ascending lexicographic order, the counts
-/// and then the masses, both by kind. The lists of counts are those of the auction.
+/// and then the masses, both by kind. The lists of counts are those of the auction. The table has one number for each list of
+/// counts and each kind; nothing else is asked of it.
 ///
 /// # Errors
 /// Want of memory.
@@ -80,7 +82,7 @@ pub fn push_masses(
 ) -> Result<(), NoMemory>
     requires bidders { counts.now.bidders ≡ auction.now.bidders }
     requires kinds { counts.now.kinds ≡ value_count auction.now }
-    requires masses { AreMasses auction.now masses.now }
+    requires shape { HasShape auction.now masses.now.rows }
     ensures { OnOk result (rows.new.items ≡ rows.old.items ++ mass_rows auction.now masses.now) }
 {
     for rank in 0..counts.len() {

@@ -25,11 +25,7 @@ use Rattle.md_expost.specs.Implementing.{Implements}
 use Rattle.md_expost.specs.Masses.{AreMasses}
 use Rattle.md_expost.proofs.MechanismLaws.{mechanism-of_masses}
 use Rattle.md_cert.specs.Certified.{Certified}
-use Rattle.md_cert.specs.Fitting.{FitsBound, FitsRows}
-use Rattle.md_cert.specs.declared.bound.Bound.{Bound}
 use Rattle.md_reduced.specs.Points.{interim_in}
-use Rattle.md_reduced.specs.ProgramOf.{IsReducedProgram}
-use Rattle.md_reduced.proofs.BuiltLaws.{rows-count}
 use Rattle.md_cuts.specs.declared.auction_end.AuctionEnd.{AuctionEnd}
 use Rattle.md_cuts.specs.declared.cuts_error.CutsError.{CutsError}
 use Rattle.md_cuts.specs.declared.cuts_error.CutsError.TheVariants as errors
@@ -39,9 +35,10 @@ use Rattle.md_cuts.specs.CutRuns.{EndsSettled, EndsWide, HasSmallEntries, HasSma
 use Rattle.md_claims.specs.AuctionCertificates.{auction_certificate}
 use Rattle.md_claims.specs.AuctionClaims.{mechanism_in}
 use Rattle.md_claims.proofs.AuctionCertificates.{certified-at_interim}
-use Rattle.md_parts.specs.Fitting.{AreMultipliers, HasFraction, IsBoundOver, IsFraction}
+use Rattle.md_parts.specs.Fitting.{HasFraction, IsBoundOver, IsFraction}
 use Rattle.md_answer.specs.AuctionAnswerTo.{IsAuctionAnswer}
 use Rattle.md_answer.specs.ReducedRows.{reduced_rows}
+use Rattle.md_answer.proofs.ReducedRows.{bound-fits}
 use Rattle.md_answer.specs.declared.answer.Answer.{Answer}
 use Rattle.md_answer.specs.declared.answer.Answer.TheVariants.{Table, Optimal, Infeasible, Unbounded, AuctionOptimal, TooWide}
 use Rattle.md_solve.specs.AuctionSolved.{IsAuctionSo, IsAuctionSolved, IsCertifiedAuction, IsSameButMasses}
@@ -71,14 +68,6 @@ module _ (a : SymmetricAuction) (interim : Interim) (shaped : IsAuction a) (fits
       (IsWithin-wider (1000000 * number_limit) (2 ^ 126 - 1) whole (omega arith)
       (IsWithin-*ℤ 1000000 number_limit (pos (total_weight a.weights)) interim.den (record { within = shaped.total }) (den-within a interim fits)))
 
--- ---- the multipliers
-
-bound-fits : (a : SymmetricAuction) (cuts : List ℕ) (p : Program) (bound : Bound) → IsReducedProgram a 1 cuts p → FitsBound p bound → IsBoundOver (reduced_rows a cuts) bound
-bound-fits a cuts p bound is h = record { den = h.den; main = numbers bound.main h.main; face = numbers bound.face h.face }
-  where
-    numbers : (xs : List ℤ) → FitsRows p xs → AreMultipliers (reduced_rows a cuts) xs
-    numbers xs f = record { one_each = f.one_each ∙ rows-count a 1 cuts p is; sizes = f.sizes }
-
 -- ---- an end at a point at which no set is over
 
 module _ (a : SymmetricAuction) (width : ℕ) (end : AuctionEnd) (value : Frac) (shaped : IsAuction a) (solved : IsSolvedAuction a width end) (fits : IsInterim a end.interim) (worth : IsWorthOf a end.interim value)
@@ -107,7 +96,7 @@ module _ (a : SymmetricAuction) (width : ℕ) (end : AuctionEnd) (value : Frac) 
       let p = solved.ends.optimum_of.program in
       let is = solved.ends.optimum_of.is_program in
       let bound : IsBoundOver (reduced_rows a end.cuts) end.bound =
-      subst (IsBoundOver (reduced_rows a end.cuts)) (sym solved.tells.bound) (bound-fits a end.cuts p solved.optimum.bound is (solved.shown.fits p is).2) in
+      subst (IsBoundOver (reduced_rows a end.cuts)) (sym solved.tells.bound) (bound-fits a 1 end.cuts p solved.optimum.bound is (solved.shown.fits p is).2) in
       (worth-fits a end.interim shaped fits value worth, fits, masses, implements.same_den, cuts, bound)
 
   -- its rule is optimal, and has the value
