@@ -102,8 +102,9 @@ fn check_unbounded(
     }
 }
 
-// Why a mechanism is no admissible one without lotteries; none where it is one.
-fn rule_fault(setting: &Setting, mechanism: &Mechanism) -> Option<DetReject>
+/// Why a mechanism is no admissible one without lotteries: the first lottery, or else the first condition of the setting that it
+/// breaks. None where it is one.
+pub fn rule_fault(setting: &Setting, mechanism: &Mechanism) -> Option<DetReject>
     requires { IsAccepted setting.now mechanism.now }
     ensures { MatchOption result (IsRule setting.now mechanism.now) (IsRuleFault setting.now mechanism.now) }
 {
@@ -153,9 +154,12 @@ fn check_tree(
     Ok(DetVerdict::Valid)
 }
 
-// Goes on from the node of this number: to its children where it branches, and else to the node that comes behind it. Answers
-// why it shows nothing, where it is a leaf that does not show what it is to show.
-fn visit(
+/// Goes on from the node of this number: to its children where it branches, and else to the node that comes behind it. Answers
+/// why it shows nothing, where it is a leaf that does not show what it is to show.
+///
+/// # Errors
+/// Want of memory, for the program and the certificate of a leaf.
+pub fn visit(
     alloc: Global,
     setting: &Setting,
     best: Option<&Mechanism>,

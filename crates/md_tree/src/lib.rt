@@ -13,10 +13,11 @@ mod verdict;
 mod worths;
 
 pub use answer::DetAnswer;
-pub use checking::check_determ;
+pub use checking::{check_determ, rule_fault, visit};
 pub use node::Node;
 pub use tree::Tree;
 pub use verdict::{DetReject, DetVerdict};
+pub use worths::other_value;
 
 #[cfg(test)]
 mod tests;

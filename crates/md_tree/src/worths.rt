@@ -14,7 +14,7 @@ use md_num::Frac;
 use md_setting::Setting;
 
 /// The value of the mechanism in least terms, where the printed value is another number.
-pub(crate) fn other_value(setting: &Setting, mechanism: &Mechanism, printed: &Frac) -> Option<Frac>
+pub fn other_value(setting: &Setting, mechanism: &Mechanism, printed: &Frac) -> Option<Frac>
     requires accepted { IsAccepted setting.now mechanism.now }
     requires fraction { IsFraction printed.now.num printed.now.den }
     ensures value { MatchOption result (HasValue setting.now mechanism.now printed.now) (IsOtherValue setting.now mechanism.now printed.now) }

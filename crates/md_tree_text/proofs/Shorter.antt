@@ -37,10 +37,10 @@ pub record Takes {A : Type 0} (reading : Reading A) : Type 0 where
 not_both : {A : Type 0} (refusal : AnswerRefusal) (value : A) → Err refusal ≡ Ok value → ⊥
 not_both {A} refusal value e = cc
 
-takes-keeps : {A : Type 0} (reading : Reading A) → Takes reading → Keeps reading
+pub takes-keeps : {A : Type 0} (reading : Reading A) → Takes reading → Keeps reading
 takes-keeps {A} reading h = record { fewer = λ rest after value e. let l = h.fewer rest after value e in omega (arith, l) }
 
-keeps-nothing : {A : Type 0} (value : A) → Keeps (nothing_more value)
+pub keeps-nothing : {A : Type 0} (value : A) → Keeps (nothing_more value)
 keeps-nothing {A} value = record {
   fewer = λ rest after told e.
       let pair : (value, rest) ≡ (told, after) = cc in
@@ -48,7 +48,7 @@ keeps-nothing {A} value = record {
       omega (arith, same);
 }
 
-keeps-then : {A B : Type 0} (first : Reading A) (next : A → Reading B) → Keeps first → ((a : A) → Keeps (next a)) → Keeps (first >>= next)
+pub keeps-then : {A B : Type 0} (first : Reading A) (next : A → Reading B) → Keeps first → ((a : A) → Keeps (next a)) → Keeps (first >>= next)
 keeps-then {A} {B} first next h more = record {
   fewer = λ rest after value e.
       let two = in_two (first rest) next value after e in
@@ -66,7 +66,7 @@ takes-then {A} {B} first next h more = record {
       omega (arith, l, m);
 }
 
-takes-record : (word : List ℕ) (fields : List Field) → Takes (read_record word fields)
+pub takes-record : (word : List ℕ) (fields : List Field) → Takes (read_record word fields)
 takes-record word fields = record { fewer = λ rest after numbers e. fewer_left word fields rest after numbers e }
 
 -- ---- parts
@@ -110,7 +110,7 @@ keeps-payments word s true =
     (λ t. keeps-then (read_record word (profile_fields s t ++ replicate (agent_count s) any_number)) (λ numbers. nothing_more (drop (agent_count s) numbers)) (takes-keeps (read_record word (profile_fields s t ++ replicate (agent_count s) any_number)) (takes-record word (profile_fields s t ++ replicate (agent_count s) any_number))) (λ numbers. keeps-nothing (drop (agent_count s) numbers)))
 keeps-payments word s false = keeps-nothing (replicate (profile_count (sizes_of s) * agent_count s) (pos 0))
 
-keeps-mechanism : (s : GeneralSetting) → Keeps (mechanism_of s)
+pub keeps-mechanism : (s : GeneralSetting) → Keeps (mechanism_of s)
 keeps-mechanism s =
     keeps-then denominator_of (λ den. each_profile (lottery_of s den) (profiles_of (sizes_of s)) >>= (λ chances. all_payments_of (codes "pay") s s.payments >>= (λ pays. nothing_more (mechanism den chances pays)))) keeps-denominator
     (λ den. keeps-then (each_profile (lottery_of s den) (profiles_of (sizes_of s))) (λ chances. all_payments_of (codes "pay") s s.payments >>= (λ pays. nothing_more (mechanism den chances pays))) (keeps-chances den)

@@ -12,7 +12,10 @@ use md_records::Row;
 use std::alloc::Global;
 
 /// The first record: the version of the format, and which answer it is.
-pub(crate) fn read_kind(reader: &mut Reader) -> Result<Kind, AnswerRefusal>
+///
+/// # Errors
+/// The record may not stand there or has a wrong field, no record is left, or memory ran out.
+pub fn read_kind(reader: &mut Reader) -> Result<Kind, AnswerRefusal>
     ensures { MatchResult result
         (λ kind. kind_read reader.old ≡ Ok (kind, reader.new))
         (λ refusal. refusal ≢ AnswerRefusal.Memory → kind_read reader.old ≡ Err refusal) }

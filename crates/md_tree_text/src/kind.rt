@@ -4,7 +4,7 @@ ghost use Rattle.md_tree_text.specs.Kinds.{word_of, kind_of, answer_words};
 
 /// The kinds of answers about deterministic mechanisms.
 #[derive(Clone, Copy, Debug, PartialEq, Eq)]
-pub(crate) enum Kind {
+pub enum Kind {
     /// A best mechanism.
     Optimal,
     /// That there is no mechanism.

@@ -11,8 +11,12 @@ mod tree_writing;
 mod walking;
 mod writing;
 
+pub use first::read_kind;
+pub use kind::Kind;
 pub use md_parts::AnswerRefusal;
-pub use reading::read_determ;
+pub use nodes::read_node;
+pub use reading::{read_by_kind, read_determ};
+pub use walking::step;
 pub use writing::write_determ;
 
 #[cfg(test)]

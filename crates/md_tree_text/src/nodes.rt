@@ -130,7 +130,11 @@ fn read_leaf(
 }
 
 /// The records of the node where this is fixed.
-pub(crate) fn read_node(
+///
+/// # Errors
+/// The first record that may not stand there, has a wrong field or does not add to what it must, that no record is left, or that
+/// memory ran out.
+pub fn read_node(
     alloc: Global,
     reader: &mut Reader,
     setting: &Setting,

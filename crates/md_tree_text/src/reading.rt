@@ -101,8 +101,12 @@ fn read_too_wide(
     })
 }
 
-// What stands between the first record and the last.
-fn read_by_kind(
+/// What stands between the first record and the last, by which answer it is.
+///
+/// # Errors
+/// The first record that may not stand there, has a wrong field or does not add to what it must, that no record is left, or that
+/// memory ran out.
+pub fn read_by_kind(
     alloc: Global,
     reader: &mut Reader,
     setting: &Setting,

@@ -34,7 +34,7 @@ pub(crate) fn rows_at(setting: &Setting, fixed: &Fixed) -> u32
 }
 
 /// Goes on behind a node: to the first child of a branch, and from a leaf to the next open node.
-pub(crate) fn step(walk: &mut Walk, node: &Node)
+pub fn step(walk: &mut Walk, node: &Node)
     requires some { walk.old.opens ≢ [] }
     requires stands { MayStand (current_of walk.old) node.now }
     ensures outcomes { walk.new.outcomes ≡ walk.old.outcomes }

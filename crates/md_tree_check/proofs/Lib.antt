@@ -1,0 +1,4 @@
+pub mod JudgeLaws
+pub mod TreesJudged
+pub mod AnswersJudged
+pub mod Fewer
