@@ -38,10 +38,11 @@ int main(int count, char **words)
     static char text[1 << 12];
     struct bytes files[2] = {{(uint8_t *)"", 0}, {(uint8_t *)"", 0}};
     struct mechdes_counts counts;
-    /* The files of each command come behind its word. */
+    /* The files of each command come behind its word: at most two, behind `units` one, behind `make` and `drill` none. */
     int with_files = count > 1 && strcmp(words[1], "make") != 0 && strcmp(words[1], "drill") != 0;
+    int last_file = count > 1 && strcmp(words[1], "units") == 0 ? 2 : 3;
     for (int k = 1; k < count; k++) {
-        int is_file = with_files && (k == 2 || k == 3) && words[k][0] != '-';
+        int is_file = with_files && k >= 2 && k <= last_file && words[k][0] != '-';
         if (is_file)
             files[k - 2] = read_file(words[k]);
         strcat(text, k == 1 ? "" : "\n");

@@ -20,7 +20,7 @@ import tomllib
 from fractions import Fraction
 
 __all__ = ["Answer", "Ended", "asym", "audit", "call", "check", "determ", "determcheck", "drill", "fair", "iron", "make", "read", "realise", "replay", "report",
-           "rows", "run", "solve", "solve_all"]
+           "rows", "run", "solve", "solve_all", "units"]
 
 
 class Ended(Exception):
@@ -112,6 +112,11 @@ def fair(setting, width=62):
 def asym(setting, width=62):
     """The best mechanism of a sale of one item to bidders who differ."""
     return _text({0, 12}, ["asym", "setting", "--width", str(width)], setting)
+
+
+def units(setting, number, width=62):
+    """The best mechanism of an auction of so many units, of which each bidder wants one."""
+    return _text({0, 12}, ["units", "setting", str(number), "--width", str(width)], setting)
 
 
 def determ(setting, width=62):

@@ -1,1 +1,2 @@
 pub mod BrokenRows
+pub mod CheckedTexts

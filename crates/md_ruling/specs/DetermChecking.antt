@@ -1,4 +1,5 @@
--- What `determcheck` says of a general setting and of the answer about its deterministic mechanisms that a second file says.
+-- What `determcheck` says of a general setting and of the answer about its deterministic mechanisms that a second file says. The
+-- answer may be much larger than its text, so that it is the text that is kept of the second file.
 use Rattle.std.specs.Prelude.{◌≡◌, ◌⊎◌, ◌↔◌, ℕ, List, Result, Ok, Err}
 use Rattle.md_setting.specs.Setting.{GeneralSetting}
 use Rattle.md_setting.specs.ByKind.{WhereGeneral}
@@ -15,14 +16,15 @@ use Rattle.md_driver.specs.declared.refusal.Refusal.TheVariants as refusal
 use Rattle.md_driver.specs.Saying.{Saying}
 use Rattle.md_ruling.specs.Verdicts.{TellsVerdict}
 
-abbrev pub determ_or_refusal : Result DetAnswer AnswerRefusal → Result DetAnswer Refusal
-determ_or_refusal (Ok answer) = Ok answer
-determ_or_refusal (Err e) = Err (refusal.Answer e)
+-- the text where it says an answer, and else the reason to refuse it
+abbrev pub text_or_refusal : List ℕ → Result DetAnswer AnswerRefusal → Result (List ℕ) Refusal
+text_or_refusal bytes (Ok answer) = Ok bytes
+text_or_refusal bytes (Err e) = Err (refusal.Answer e)
 
--- the answer that the second file says of a general setting
-abbrev pub determ_in : SettingFile → List ℕ → Result DetAnswer Refusal
-determ_in (General s) bytes = determ_or_refusal (determ_answer_of s bytes)
-determ_in (Auction a) bytes = Err refusal.OtherKind
+-- the second file's text, where it says an answer of a general setting
+abbrev pub determ_text_in : SettingFile → List ℕ → Result (List ℕ) Refusal
+determ_text_in (General s) bytes = text_or_refusal bytes (determ_answer_of s bytes)
+determ_text_in (Auction a) bytes = Err refusal.OtherKind
 
 -- The one verdict on an answer, and what is said of it. Where the answer is valid, what it claims is so, over mechanisms of any
 -- denominator, with numbers of any size; it stays undecided exactly where it claims nothing.
@@ -34,8 +36,14 @@ pub record IsDetermCheckedOf (s : GeneralSetting) (answer : DetAnswer) (saying :
   pub undecided : (verdict ≡ Undecided) ↔ ClaimsNothing answer
   pub told : TellsVerdict s verdict saying
 
-abbrev pub IsDetermCheck : SettingFile → DetAnswer → Saying → Type 0
-IsDetermCheck file answer saying = WhereGeneral (λ s. IsDetermCheckedOf s answer saying) file
+-- the text says an answer, and this is what is said of it
+pub record IsDetermCheckedText (s : GeneralSetting) (bytes : List ℕ) (saying : Saying) : Type 0 where
+  pub answer : DetAnswer
+  pub reads : determ_answer_of s bytes ≡ Ok answer
+  pub checked : IsDetermCheckedOf s answer saying
+
+abbrev pub IsDetermCheck : SettingFile → List ℕ → Saying → Type 0
+IsDetermCheck file bytes saying = WhereGeneral (λ s. IsDetermCheckedText s bytes saying) file
 
 -- the statuses of what is answered
 abbrev pub IsDetermCheckStatus : ℕ → Type 0

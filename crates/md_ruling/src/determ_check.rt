@@ -6,19 +6,20 @@ ghost use Rattle.md_mech.specs.declared.broken.Broken.{Broken};
 ghost use Rattle.md_mech.specs.Rows.{conditions_of};
 ghost use Rattle.md_records.specs.Written.{record_text};
 ghost use Rattle.md_tree.specs.declared.verdict.DetReject.TheVariants as rejects;
-ghost use Rattle.md_tree.specs.AnswerTo.{IsDetAnswerTo};
+ghost use Rattle.md_tree_check.specs.Texts.{IsCheckedText, IsReadText};
 ghost use Rattle.md_driver.specs.Reading.{is_general};
 ghost use Rattle.md_driver.specs.Saying.{said};
-ghost use Rattle.md_ruling.specs.DetermChecking.{IsDetermCheck, IsDetermCheckStatus, IsDetermCheckedOf, determ_in};
+ghost use Rattle.md_ruling.specs.DetermChecking.{IsDetermCheck, IsDetermCheckStatus, IsDetermCheckedText, determ_text_in};
 ghost use Rattle.md_ruling.specs.Verdicts.{IsRejected, rejected};
 
+use crate::answer_text::AnswerText;
 use md_driver::{Answered, Refusal, TwoFiles, general, is_general};
 use md_mech::{Broken, row_name};
 use md_num::NoMemory;
 use md_records::{Row, write_records};
 use md_setting::{Setting, SettingFile};
-use md_tree::{DetAnswer, DetReject, DetVerdict, check_determ};
-use md_tree_text::read_determ;
+use md_tree::{DetReject, DetVerdict};
+use md_tree_check::{AnswerRefusal, check_text, read_text};
 use std::alloc::Global;
 
 /// `determcheck SETTING ANSWER`
@@ -26,13 +27,13 @@ use std::alloc::Global;
 pub struct DetermCheck;
 
 impl TwoFiles for DetermCheck {
-    type Second = DetAnswer;
+    type Second = AnswerText;
 
     ghost is_served = { is_general };
 
-    ghost reading = { determ_in };
+    ghost reading = { determ_text_in };
 
-    ghost fits = { λ file answer. WhereGeneral (λ s. IsDetAnswerTo s answer) file };
+    ghost fits = { λ file bytes. WhereGeneral (λ s. IsReadText s bytes) file };
 
     ghost says = { λ _. IsDetermCheck };
 
@@ -47,27 +48,29 @@ impl TwoFiles for DetermCheck {
         alloc: Global,
         file: &SettingFile,
         bytes: &[u8],
-    ) -> Result<DetAnswer, Refusal> {
-        Ok(read_determ(alloc, bytes, general(file))?)
+    ) -> Result<AnswerText, Refusal> {
+        read_text(alloc, general(file), bytes)?;
+        Ok(AnswerText::copy(alloc, bytes)?)
     }
 
     fn answer(
         &self,
         alloc: Global,
         file: &SettingFile,
-        answer: &DetAnswer,
+        text: &AnswerText,
     ) -> Result<Answered, Refusal> {
-        Ok(checked(alloc, general(file), answer)?)
+        Ok(checked(alloc, general(file), text.bytes())?)
     }
 }
 
-// The verdict on an answer.
-fn checked(alloc: Global, setting: &Setting, answer: &DetAnswer) -> Result<Answered, NoMemory>
-    requires { IsDetAnswerTo setting.now answer.now }
-    ensures checked { IfOk result (λ answered. IsDetermCheckedOf setting.now answer.now (said answered)) }
+// The verdict on the answer that a text says.
+#[tactic(auto, using(crate::proofs::CheckedTexts::told_text))]
+fn checked(alloc: Global, setting: &Setting, bytes: &[u8]) -> Result<Answered, NoMemory>
+    requires { IsReadText setting.now bytes.now }
+    ensures checked { IfOk result (λ answered. IsDetermCheckedText setting.now bytes.now (said answered)) }
     ensures status { IfOk result (λ answered. IsDetermCheckStatus answered.status) }
 {
-    match check_determ(alloc, setting, answer)? {
+    match verdict(alloc, setting, bytes)? {
         DetVerdict::Valid => Ok(Answered {
             status: 0,
             text: b"valid\n".to_vec(alloc)?,
@@ -83,6 +86,18 @@ fn checked(alloc: Global, setting: &Setting, answer: &DetAnswer) -> Result<Answe
                 text: record_text(alloc, record)?,
             })
         }
+    }
+}
+
+// The verdict alone. The text can be read, so that nothing but want of memory is an error.
+fn verdict(alloc: Global, setting: &Setting, bytes: &[u8]) -> Result<DetVerdict, NoMemory>
+    requires { IsReadText setting.now bytes.now }
+    ensures { IfOk result (IsCheckedText setting.now bytes.now) }
+{
+    match check_text(alloc, setting, bytes) {
+        Ok(verdict) => Ok(verdict),
+        Err(AnswerRefusal::Memory) => Err(NoMemory),
+        Err(_) => unreachable!(),
     }
 }
 

@@ -1,3 +1,5 @@
 pub mod Writable
 pub mod Sold
 pub mod Joined
+pub mod UnitsWritable
+pub mod UnitsSold

@@ -1,5 +1,5 @@
 -- What is said of a sale, from how its cut run ends.
-use Rattle.std.proofs.Common.{◌≡◌, ◌≢◌, ℕ, List, inl, inr}
+use Rattle.std.proofs.Common.{◌≡◌, ◌≢◌, ℕ, List, codes, inl, inr}
 use Rattle.md_setting.specs.Setting.{GeneralSetting}
 use Rattle.md_lp.specs.declared.wide.Wide.{Wide}
 use Rattle.md_mech.specs.Optimal.{IsOptimal}
@@ -13,7 +13,8 @@ use Rattle.md_asym.specs.SaleCuts.{sale_cutting}
 use Rattle.md_asym.specs.Solved.{IsSolvedSale, mechanism_in}
 use Rattle.md_asym.specs.declared.asym_answer.AsymAnswer.{AsymAnswer}
 use Rattle.md_driver.specs.Saying.{Saying}
-use Rattle.md_selling.specs.SaleTexts.{text_of_sale, text_of_wide_sale}
+use Rattle.md_selling.specs.SaleTexts.{text_of_sale}
+use Rattle.md_selling.specs.WideTexts.{text_of_wide}
 use Rattle.md_selling.specs.Selling.{IsSelling}
 
 -- the run ends at odds and payments
@@ -41,13 +42,13 @@ of_answer s width saying answer solved fits table implements optimal odds pays v
 }
 
 -- no error but want of memory is that
-not_memory : (cuts : List ℕ) (first second : Wide) → errors.TooWide cuts first second ≢ errors.Memory
+pub not_memory : (cuts : List ℕ) (first second : Wide) → errors.TooWide cuts first second ≢ errors.Memory
 not_memory cuts first second same = let e = same in cc
 
 -- it ends at a program each path of which has a wide basis
 pub of_wide : (s : GeneralSetting) (width : ℕ) (saying : Saying) (cuts : List ℕ) (first second : Wide) → EndsWide (sale_cutting s) width cuts first second
     → ((others : List ℕ) (optimum : Optimum) → EndsSettled (sale_cutting s) width others optimum → errors.TooWide cuts first second ≡ errors.Memory)
-    → saying.status ≡ 12 → saying.text ≡ text_of_wide_sale cuts first second → IsSelling s width saying
+    → saying.status ≡ 12 → saying.text ≡ text_of_wide (codes "asym") cuts first second → IsSelling s width saying
 of_wide s width saying cuts first second wide settled status text = record {
   told = inr (record {
     cuts = cuts;

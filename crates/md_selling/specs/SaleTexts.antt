@@ -1,4 +1,4 @@
--- The records that tell the best mechanism of a sale, and those that tell why there is none within a width.
+-- The records that tell the best mechanism of a sale.
 use Rattle.std.specs.Prelude.{◌≡◌, ℕ, ◌*◌, ℤ, List, [], ◌∷◌, ◌++◌, codes, length, slice_index}
 use Rattle.md_math.specs.Lists.{list_to, number_at}
 use Rattle.md_num.specs.WholeText.{text_of}
@@ -7,11 +7,10 @@ use Rattle.md_setting.specs.Setting.{GeneralSetting}
 use Rattle.md_setting.specs.Meaning.{agent_count, sizes_of}
 use Rattle.md_mech.specs.RowName.{agent_name}
 use Rattle.md_lp.specs.Cuts.{AreCuts}
-use Rattle.md_lp.specs.declared.wide.Wide.{Wide}
 use Rattle.md_records.specs.Written.{text_of_records}
 use Rattle.md_parts.specs.declared.version.Version.TheVariants.{One}
 use Rattle.md_parts.specs.Fitting.{IsBoundOver}
-use Rattle.md_parts.specs.Rows.{again_row, bound_rows, cut_rows, end_row, first_row, number_row, profile_rows, value_row, wide_rows}
+use Rattle.md_parts.specs.Rows.{bound_rows, cut_rows, end_row, first_row, number_row, profile_rows, value_row}
 use Rattle.md_sale.specs.Conditions.{conditions_of}
 use Rattle.md_sale.specs.Pairs.{pair_number}
 use Rattle.md_sale.specs.Values.{pairs_of}
@@ -43,14 +42,6 @@ sale_records s answer =
 
 abbrev pub text_of_sale : GeneralSetting → AsymAnswer → List ℕ
 text_of_sale s answer = text_of_records (sale_records s answer)
-
--- the cuts of the last program, the part about the forward path, and then that about the backward one
-abbrev pub wide_sale_records : List ℕ → Wide → Wide → List (List (List ℕ))
-wide_sale_records cuts first second =
-    first_row One (codes "asym") (codes "toowide") ∷ (cut_rows cuts ++ (wide_rows first ++ again_row ∷ (wide_rows second ++ end_row ∷ [])))
-
-abbrev pub text_of_wide_sale : List ℕ → Wide → Wide → List ℕ
-text_of_wide_sale cuts first second = text_of_records (wide_sale_records cuts first second)
 
 -- the lists have the sizes of the sale and of its last program
 pub record IsWritable (s : GeneralSetting) (answer : AsymAnswer) : Type 0 where

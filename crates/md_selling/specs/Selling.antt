@@ -1,5 +1,5 @@
 -- What `asym` says of a general setting: the best mechanism of a sale, or that the setting is none.
-use Rattle.std.specs.Prelude.{◌≡◌, ◌⊎◌, ℕ, List}
+use Rattle.std.specs.Prelude.{◌≡◌, ◌⊎◌, ℕ, List, codes}
 use Rattle.md_setting.specs.Setting.{GeneralSetting}
 use Rattle.md_setting.specs.ByKind.{WhereGeneral}
 use Rattle.md_setting.specs.declared.file.SettingFile.{SettingFile}
@@ -17,7 +17,8 @@ use Rattle.md_asym.specs.declared.asym_answer.AsymAnswer.{AsymAnswer}
 use Rattle.md_driver.specs.declared.refusal.Refusal.TheVariants as refusal
 use Rattle.md_driver.specs.Refused.{refused}
 use Rattle.md_driver.specs.Saying.{Saying}
-use Rattle.md_selling.specs.SaleTexts.{text_of_sale, text_of_wide_sale}
+use Rattle.md_selling.specs.SaleTexts.{text_of_sale}
+use Rattle.md_selling.specs.WideTexts.{text_of_wide}
 
 -- ---- a sale
 
@@ -44,7 +45,7 @@ pub record IsSoldTooWide (s : GeneralSetting) (width : ℕ) (saying : Saying) : 
   pub second : Wide
   pub wide : EndsWide (sale_cutting s) width cuts first second
   pub status : saying.status ≡ 12
-  pub text : saying.text ≡ text_of_wide_sale cuts first second
+  pub text : saying.text ≡ text_of_wide (codes "asym") cuts first second
 
 -- An answer, or that there is none within the width. There is one cut run, and the status tells how it ends.
 pub record IsSelling (s : GeneralSetting) (width : ℕ) (saying : Saying) : Type 0 where

@@ -7,7 +7,8 @@ ghost use Rattle.md_driver.specs.Refused.{refused, status_of};
 ghost use Rattle.md_driver.specs.Saying.{said};
 ghost use Rattle.md_selling.specs.Selling.{IsAsym, IsAsymOf, IsAsymStatus, IsSelling};
 
-use crate::asym_text::{answer_text, wide_text};
+use crate::asym_text::answer_text;
+use crate::wide_text::wide_text;
 use md_asym::{AsymError, solve_asym};
 use md_driver::{Answered, OneFile, Refusal, general, is_general};
 use md_num::{NoMemory, Width};
@@ -69,7 +70,7 @@ fn sold(alloc: Global, setting: &Setting, width: Width) -> Result<Answered, NoMe
             },
         ) => Ok(Answered {
             status: 12,
-            text: wide_text(alloc, &cuts, &first, &second)?,
+            text: wide_text(alloc, "asym", &cuts, &first, &second)?,
         }),
         Err(AsymError::Memory) => Err(NoMemory),
     }

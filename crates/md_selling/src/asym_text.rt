@@ -1,4 +1,4 @@
-//! The records that tell the best mechanism of a sale, or why there is none within a width.
+//! The records that tell the best mechanism of a sale.
 ghost use Rattle.std.specs.Prelude.{◌≡◌, ◌<◌, ◌*◌, ◌++◌, ◌∷◌, [], codes, length, IfOk, OnOk};
 ghost use Rattle.md_space.specs.Profiles.{profile_count};
 ghost use Rattle.md_setting.specs.Meaning.{agent_count, sizes_of};
@@ -6,14 +6,12 @@ ghost use Rattle.md_records.specs.Written.{text_of_records};
 ghost use Rattle.md_parts.specs.Rows.{profile_rows};
 ghost use Rattle.md_sale.specs.Sale.{IsSale};
 ghost use Rattle.md_sale.specs.Values.{pairs_of};
-ghost use Rattle.md_selling.specs.SaleTexts.{IsWritable, agent_row, agent_rows, text_of_sale, text_of_wide_sale, type_texts};
+ghost use Rattle.md_selling.specs.SaleTexts.{IsWritable, agent_row, agent_rows, text_of_sale, type_texts};
 
 use md_asym::AsymAnswer;
-use md_lp::{Sets, Wide};
 use md_num::{NoMemory, Nums};
 use md_parts::{
     Version, push_bound, push_cuts, push_end, push_first, push_numbers, push_pays, push_value,
-    push_wide,
 };
 use md_records::{Row, write_records};
 use md_sale::{agents, pair_number, row_count};
@@ -40,25 +38,6 @@ pub(crate) fn answer_text(
     push_cuts(alloc, &mut rows, &answer.cuts)?;
     let count = row_count(setting, &answer.cuts);
     push_bound(alloc, &mut rows, count, &answer.bound)?;
-    push_end(alloc, &mut rows)?;
-    write_records(alloc, &rows)
-}
-
-/// The text that tells the cuts of the last program, and the first wide basis of each of its paths.
-pub(crate) fn wide_text(
-    alloc: Global,
-    cuts: &Sets,
-    first: &Wide,
-    second: &Wide,
-) -> Result<Vec<u8>, NoMemory>
-    ensures { IfOk result (λ text. text.items ≡ text_of_wide_sale cuts.now first.now second.now) }
-{
-    let mut rows = Vec::new(alloc);
-    push_first(alloc, &mut rows, Version::One, "asym", "toowide")?;
-    push_cuts(alloc, &mut rows, cuts)?;
-    push_wide(alloc, &mut rows, first)?;
-    push_numbers(alloc, &mut rows, "again", &[])?;
-    push_wide(alloc, &mut rows, second)?;
     push_end(alloc, &mut rows)?;
     write_records(alloc, &rows)
 }

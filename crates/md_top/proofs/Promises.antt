@@ -8,7 +8,7 @@ use Rattle.md_ports.specs.Faults.{Rose}
 use Rattle.md_words.specs.Commands.{command_in}
 use Rattle.md_words.specs.Words.{Order, command_of}
 use Rattle.md_words.specs.declared.command.Command.{Command}
-use Rattle.md_words.specs.declared.command.Command.TheVariants.{Audit, Rows, Check, Solve, Replay, Realise, Fair, Asym, Determ, DetermCheck, Run, Report, Iron, Make, Drill}
+use Rattle.md_words.specs.declared.command.Command.TheVariants.{Audit, Rows, Check, Solve, Replay, Realise, Fair, Asym, Units, Determ, DetermCheck, Run, Report, Iron, Make, Drill}
 use Rattle.md_setting.specs.declared.file.SettingFile.{SettingFile}
 use Rattle.md_setting.specs.declared.file.SettingFile.TheVariants.{General, Auction}
 use Rattle.md_driver.specs.declared.refusal.Refusal.{Refusal}
@@ -111,6 +111,7 @@ headline-of_command Replay order content before after saying status out err said
 headline-of_command Realise order content before after saying status out err said delivered = tt
 headline-of_command Fair order content before after saying status out err said delivered = tt
 headline-of_command Asym order content before after saying status out err said delivered = tt
+headline-of_command Units order content before after saying status out err said delivered = tt
 headline-of_command Determ order content before after saying status out err said delivered = tt
 headline-of_command DetermCheck order content before after saying status out err said delivered = tt
 headline-of_command Run order content before after saying status out err said delivered = tt

@@ -1,8 +1,8 @@
 -- What each command says of the files that it names.
-use Rattle.std.specs.Prelude.{◌≡◌, ◌⊎◌, ℕ, List, Option, None, Some, IsSome}
+use Rattle.std.specs.Prelude.{◌≡◌, ◌⊎◌, ℕ, ℤ, unsigned_abs, Bool, true, false, List, Option, None, Some, IsSome}
 use Rattle.md_words.specs.Commands.{command_in}
 use Rattle.md_words.specs.declared.command.Command.{Command}
-use Rattle.md_words.specs.declared.command.Command.TheVariants.{Audit, Rows, Check, Solve, Replay, Realise, Fair, Asym, Determ, DetermCheck, Run, Report, Iron, Make, Drill}
+use Rattle.md_words.specs.declared.command.Command.TheVariants.{Audit, Rows, Check, Solve, Replay, Realise, Fair, Asym, Units, Determ, DetermCheck, Run, Report, Iron, Make, Drill}
 use Rattle.md_words.specs.Words.{Order, command_of}
 use Rattle.md_mech.specs.declared.mechanism.Mechanism.{Mechanism}
 use Rattle.md_border.specs.declared.interim.Interim.{Interim}
@@ -27,9 +27,18 @@ use Rattle.md_solving.specs.Ironing.{IsIron, IsIronStatus}
 use Rattle.md_solving.specs.Making.{IsMake, IsMakeStatus}
 use Rattle.md_solving.specs.Drilling.{IsDrill, IsDrillStatus}
 use Rattle.md_selling.specs.Selling.{IsAsym, IsAsymStatus}
-use Rattle.md_tree.specs.declared.answer.DetAnswer.{DetAnswer}
+use Rattle.md_selling.specs.SellingUnits.{IsUnits, IsUnitsStatus}
+use Rattle.md_selling.specs.UnitNumbers.{is_unit_number}
 use Rattle.md_ruling.specs.Determining.{IsDeterm, IsDetermStatus}
-use Rattle.md_ruling.specs.DetermChecking.{determ_in, IsDetermCheck, IsDetermCheckStatus}
+use Rattle.md_ruling.specs.DetermChecking.{determ_text_in, IsDetermCheck, IsDetermCheckStatus}
+
+-- So many units are sold to the bidders of an auction, where so many may be sold. Else the number is refused, and no file is read.
+abbrev pub units_work_by : Bool → ℕ → ℕ → Work
+units_work_by true units width = one_file is_auction (IsUnits units width) IsUnitsStatus
+units_work_by false units width = no_file (λ saying. saying ≡ refused refusal.Number) (λ status. status ≡ 67)
+
+abbrev pub units_work : ℤ → ℕ → Work
+units_work number width = units_work_by (is_unit_number number) (unsigned_abs number) width
 
 -- the commands: the files of each, what it says of them, and its statuses
 abbrev pub work_by : Command → Order → Work
@@ -41,8 +50,9 @@ work_by Replay order = two_files Pivots is_any pivots_in (IsReplay order.width) 
 work_by Realise order = two_files Interim is_auction odds_in IsRealise IsRealiseStatus
 work_by Fair order = one_file is_general (IsFair order.width) IsSolveStatus
 work_by Asym order = one_file is_general (IsAsym order.width) IsAsymStatus
+work_by Units order = units_work order.number order.width
 work_by Determ order = one_file is_general (IsDeterm order.width) IsDetermStatus
-work_by DetermCheck order = two_files DetAnswer is_general determ_in IsDetermCheck IsDetermCheckStatus
+work_by DetermCheck order = two_files (List ℕ) is_general determ_text_in IsDetermCheck IsDetermCheckStatus
 work_by Run order = two_files Answer is_any drawable_in (IsRun order.profile order.first_draw order.second_draw) IsRunStatus
 work_by Report order = two_files Answer is_any drawable_in IsReporting IsReportStatus
 work_by Iron order = one_file is_auction IsIron IsIronStatus

@@ -1,12 +1,14 @@
 //! The commands, each carried out over its files.
+ghost use Rattle.std.specs.Prelude.{ℕ, List};
 ghost use Rattle.md_words.specs.Orders.{asked};
-ghost use Rattle.md_top.specs.Reply.{work_of};
+ghost use Rattle.md_top.specs.Reply.{units_work, work_of};
 ghost use Rattle.md_driver.specs.Works.{IsCarriedOut};
 
 use md_driver::{Answered, Refusal, of_none, of_one, of_two};
+use md_num::Width;
 use md_ports::Shelf;
 use md_ruling::{Determ, DetermCheck};
-use md_selling::Asym;
+use md_selling::{Asym, UnitNumber, Units, UnitsRefused};
 use md_solving::{Check, Drill, Fair, Iron, Make, Solve};
 use md_using::{Audit, Draw, Realise, Replay, Rows, Tell};
 use md_words::{Command, Order};
@@ -39,6 +41,7 @@ pub(crate) fn run<F: Shelf>(
         Command::Realise => of_two(alloc, &Realise, setting, second, shelf),
         Command::Fair => of_one(alloc, &Fair { width }, setting, shelf),
         Command::Asym => of_one(alloc, &Asym { width }, setting, shelf),
+        Command::Units => sell_units(alloc, number, width, setting, shelf),
         Command::Determ => of_one(alloc, &Determ { width }, setting, shelf),
         Command::DetermCheck => of_two(alloc, &DetermCheck, setting, second, shelf),
         Command::Run => {
@@ -53,5 +56,21 @@ pub(crate) fn run<F: Shelf>(
         Command::Iron => of_one(alloc, &Iron, setting, shelf),
         Command::Make => of_none(alloc, &Make { number }),
         Command::Drill => of_none(alloc, &Drill { number }),
+    }
+}
+
+// Sells so many units. A number of them that may not be sold is refused before the setting is read.
+fn sell_units<F: Shelf>(
+    alloc: Global,
+    number: i128,
+    width: Width,
+    setting: &str,
+    shelf: &mut F,
+) -> Result<Answered, Refusal>
+    ensures { (second : List ℕ) → IsCarriedOut (units_work number width) setting.now second (F.content shelf.old) (F.faults shelf.old) (F.faults shelf.new) result }
+{
+    match UnitNumber::new(number) {
+        Some(units) => of_one(alloc, &Units { units, width }, setting, shelf),
+        None => of_none(alloc, &UnitsRefused),
     }
 }

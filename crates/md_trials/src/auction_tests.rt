@@ -183,7 +183,7 @@ static CASES: [Case; 16] = [
 ];
 
 // A text that ends with a comma is the begin of what is wanted, and any other one is the whole of it.
-fn is_told(told: &[u8], wanted: &str) -> bool {
+pub(crate) fn is_told(told: &[u8], wanted: &str) -> bool {
     let wanted = wanted.as_bytes();
     if wanted.ends_with(b",") {
         told.starts_with(wanted)

@@ -60,7 +60,7 @@ static FILES: [(&str, &str); 16] = [
 ];
 
 /// The calls. The last ones are refused.
-pub(crate) static CALLS: [Call; 32] = [
+pub(crate) static CALLS: [Call; 34] = [
     (&["audit", "one", "one-table"], 2, 0, "admissible\n"),
     (
         &["audit", "price", "above"],
@@ -132,6 +132,12 @@ pub(crate) static CALLS: [Call; 32] = [
         "answer,1,asym,optimal\nvalue,5,2\ninterim,1\nodds,buyer,0,1\npays,buyer,0,3\nmass,low,0\nmass,high,1\ncut,1\ncut,2\nbound,",
     ),
     (
+        &["units", "bidders", "2"],
+        1,
+        0,
+        "answer,1,units,optimal\nvalue,2,1\ninterim,",
+    ),
+    (
         &["determ", "reach"],
         1,
         10,
@@ -148,6 +154,12 @@ pub(crate) static CALLS: [Call; 32] = [
     ),
     (&["solve"], 0, 64, "mechdes: usage\n"),
     (&["make", "1000000"], 0, 67, "mechdes: number refused\n"),
+    (
+        &["units", "bidders", "13"],
+        0,
+        67,
+        "mechdes: number refused\n",
+    ),
     (
         &["run", "vote", "first", "r,m", "0", "0"],
         2,

@@ -37,3 +37,5 @@ mod solving_tests;
 mod test_settings;
 #[cfg(test)]
 mod tests;
+#[cfg(test)]
+mod units_tests;

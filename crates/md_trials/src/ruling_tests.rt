@@ -116,6 +116,37 @@ fn tells_each_end_of_the_search(rt: HostRuntime) -> Result<(), Fail> {
     Ok(())
 }
 
+// Whether the last record of a leaf says that there is no mechanism.
+fn ends_without_a_mechanism(text: &[u8]) -> bool {
+    let mut last = text;
+    for place in 0..text.len() {
+        let rest = &text[place..];
+        if rest.starts_with(b"\nleaf,".as_slice()) {
+            last = rest;
+        }
+    }
+    last.starts_with(b"\nleaf,infeasible\n".as_slice())
+}
+
+// Half of each outcome brings the designer 2. Without lotteries it has nothing, since the agent does not take the outcome that
+// the designer would like.
+#[test]
+fn loses_what_a_lottery_brings(rt: HostRuntime) -> Result<(), Fail> {
+    let alloc = rt.alloc();
+    let solved = carried_out(alloc, &["solve", "setting"], TWICE, b"")?;
+    assert_eq!(rt; solved.status, 0);
+    assert!(rt;
+        solved
+            .out
+            .bytes()
+            .starts_with(b"answer,1,general,optimal\nvalue,2,1\n".as_slice())
+    );
+    let ruled = carried_out(alloc, &["determ", "setting"], TWICE, b"")?;
+    assert_eq!(rt; ruled.status, 0);
+    assert!(rt; ends_without_a_mechanism(ruled.out.bytes()));
+    Ok(())
+}
+
 const TO_TREE: &str = "answer,1,determ,optimal\nvalue,0,1\ntable,1\nlottery,t,1,0\n";
 
 // In the first leaf the chances add to 1 and the first is 1, so that the second is 0. In the second leaf it is 1, so that the

@@ -5,7 +5,7 @@ use Rattle.clap.specs.Words.{Text}
 use Rattle.clap.proofs.OnLiterals.{clap_on_literals}
 use Rattle.md_words.specs.Words.{Order, command_of}
 use Rattle.md_words.specs.declared.command.Command.{Command}
-use Rattle.md_words.specs.declared.command.Command.TheVariants.{Audit, Rows, Solve, Replay, Run, Make}
+use Rattle.md_words.specs.declared.command.Command.TheVariants.{Audit, Rows, Solve, Replay, Units, Run, Make}
 
 -- a command of files, within a width
 abbrev of_files : Command → Text → Text → ℕ → Order
@@ -81,6 +81,14 @@ make_of_an_option = refl
 make_behind_two_dashes : command_of (codes "make" ∷ codes "--" ∷ codes "-1" ∷ []) ≡ Some (of_number Make (negsuc 0))
 unfolding clap_on_literals
 make_behind_two_dashes = refl
+
+units_of_two_within_4 : command_of (codes "units" ∷ codes "x" ∷ codes "2" ∷ codes "--width" ∷ codes "4" ∷ []) ≡ Some (record { command = Units; setting = codes "x"; second = []; width = 4; profile = []; first_draw = pos 0; second_draw = pos 0; number = pos 2 })
+unfolding clap_on_literals
+units_of_two_within_4 = refl
+
+units_of_no_number : command_of (codes "units" ∷ codes "x" ∷ codes "x" ∷ []) ≡ None
+unfolding clap_on_literals
+units_of_no_number = refl
 
 drill_of_zeros : command_of (codes "drill" ∷ codes "01" ∷ []) ≡ None
 unfolding clap_on_literals

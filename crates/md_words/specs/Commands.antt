@@ -8,6 +8,7 @@
 --   realise SETTING ODDS
 --   fair SETTING [--width W]
 --   asym SETTING [--width W]
+--   units SETTING NUMBER [--width W]
 --   determ SETTING [--width W]
 --   determcheck SETTING ANSWER
 --   run SETTING ANSWER PROFILE DRAW1 DRAW2
@@ -19,9 +20,9 @@ use Rattle.std.specs.Prelude.{List, [], ◌∷◌, Option, Some, None, codes, if
 use Rattle.std.specs.Str.{bytes_eq}
 use Rattle.clap.specs.Words.{Text}
 use Rattle.md_words.specs.declared.command.Command.{Command}
-use Rattle.md_words.specs.declared.command.Command.TheVariants.{Audit, Rows, Check, Solve, Replay, Realise, Fair, Asym, Determ, DetermCheck, Run, Report, Iron, Make, Drill}
+use Rattle.md_words.specs.declared.command.Command.TheVariants.{Audit, Rows, Check, Solve, Replay, Realise, Fair, Asym, Units, Determ, DetermCheck, Run, Report, Iron, Make, Drill}
 use Rattle.md_words.specs.declared.form.Form.{Form}
-use Rattle.md_words.specs.declared.form.Form.TheVariants.{One, OneWidth, Two, TwoWidth, Draws, Number}
+use Rattle.md_words.specs.declared.form.Form.TheVariants.{One, OneWidth, Two, TwoWidth, NumberWidth, Draws, Number}
 
 -- The command of a name. A text is a list of bytes, and the name is compared byte by byte: a part of a name, or one in
 -- other letters, is none.
@@ -35,6 +36,7 @@ command_named word =
     else (if bytes_eq word (codes "realise") then Some Realise
     else (if bytes_eq word (codes "fair") then Some Fair
     else (if bytes_eq word (codes "asym") then Some Asym
+    else (if bytes_eq word (codes "units") then Some Units
     else (if bytes_eq word (codes "determ") then Some Determ
     else (if bytes_eq word (codes "determcheck") then Some DetermCheck
     else (if bytes_eq word (codes "run") then Some Run
@@ -42,7 +44,7 @@ command_named word =
     else (if bytes_eq word (codes "iron") then Some Iron
     else (if bytes_eq word (codes "make") then Some Make
     else (if bytes_eq word (codes "drill") then Some Drill
-    else None))))))))))))))
+    else None)))))))))))))))
 
 -- the command that the first word names; none where there is no word, or it is no name
 abbrev pub command_in : List Text → Option Command
@@ -59,6 +61,7 @@ form_of Replay = TwoWidth
 form_of Realise = Two
 form_of Fair = OneWidth
 form_of Asym = OneWidth
+form_of Units = NumberWidth
 form_of Determ = OneWidth
 form_of DetermCheck = Two
 form_of Run = Draws

@@ -6,7 +6,7 @@
 use Rattle.std.specs.Prelude.{◌==◌, List, length, Option, Some, None, true, codes, if◌then◌else◌}
 use Rattle.clap.specs.Words.{App, Row, Rule, Text, fault_of, matches_of, new_app, new_rule, with_rule}
 use Rattle.md_words.specs.declared.form.Form.{Form}
-use Rattle.md_words.specs.declared.form.Form.TheVariants.{One, OneWidth, Two, TwoWidth, Draws, Number}
+use Rattle.md_words.specs.declared.form.Form.TheVariants.{One, OneWidth, Two, TwoWidth, NumberWidth, Draws, Number}
 
 -- an argument known by its place, which has to be there
 abbrev pub place_rule : Text → Rule
@@ -37,6 +37,7 @@ app_of_form One = with_place no_place (codes "first")
 app_of_form OneWidth = with_rule (with_place no_place (codes "first")) width_rule
 app_of_form Two = with_files no_place
 app_of_form TwoWidth = with_rule (with_files no_place) width_rule
+app_of_form NumberWidth = with_rule (with_place (with_place no_place (codes "first")) (codes "number")) width_rule
 app_of_form Draws = with_draws (with_files no_place)
 app_of_form Number = with_place no_place (codes "number")
 

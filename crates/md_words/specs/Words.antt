@@ -9,7 +9,7 @@ use Rattle.md_words.specs.Forms.{app_of_form, arguments_of}
 use Rattle.md_words.specs.declared.command.Command.{Command}
 
 -- a command with what it is asked for: the names of its files and its width, the profile and the draws at which an outcome
--- is drawn, and the number of a setting
+-- is drawn, and the number of a setting or of units
 pub record Order : Type 0 where
   pub command : Command
   pub setting : Text

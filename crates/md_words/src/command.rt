@@ -23,6 +23,8 @@ pub enum Command {
     Fair,
     /// `asym SETTING [--width W]` solves the sale of one item to bidders who differ within a width.
     Asym,
+    /// `units SETTING NUMBER [--width W]` sells so many units to the bidders of an auction within a width.
+    Units,
     /// `determ SETTING [--width W]` finds the best deterministic mechanism of a setting within a width.
     Determ,
     /// `determcheck SETTING ANSWER` checks an answer about the deterministic mechanisms of a setting.
@@ -59,6 +61,7 @@ fn named(word: &str) -> Option<Command>
         "realise" => Some(Command::Realise),
         "fair" => Some(Command::Fair),
         "asym" => Some(Command::Asym),
+        "units" => Some(Command::Units),
         "determ" => Some(Command::Determ),
         "determcheck" => Some(Command::DetermCheck),
         "run" => Some(Command::Run),
@@ -83,6 +86,7 @@ pub(crate) fn form(command: Command) -> Form
         | Command::DetermCheck
         | Command::Report => Form::Two,
         Command::Replay => Form::TwoWidth,
+        Command::Units => Form::NumberWidth,
         Command::Run => Form::Draws,
         Command::Make | Command::Drill => Form::Number,
     }

@@ -17,6 +17,8 @@ pub(crate) enum Form {
     Two,
     /// Two arguments, and a width or none.
     TwoWidth,
+    /// One argument, a number, and a width or none.
+    NumberWidth,
     /// Two arguments, a profile and two draws.
     Draws,
     /// A number.
@@ -74,6 +76,11 @@ pub(crate) fn reader_of<'a>(alloc: Global, form: Form) -> Result<Command<'a>, Al
         Form::Two => with_files(alloc, bare),
         Form::TwoWidth => {
             let two = with_files(alloc, bare)?;
+            with_width(alloc, two)
+        }
+        Form::NumberWidth => {
+            let one = with_place(alloc, bare, "first")?;
+            let two = with_place(alloc, one, "number")?;
             with_width(alloc, two)
         }
         Form::Draws => {

@@ -32,7 +32,7 @@ pub struct Order<'a> {
     pub first_draw: i128,
     /// The draw of the bidder among those with the value that wins.
     pub second_draw: i128,
-    /// The number that stands for a setting.
+    /// The number that stands for a setting, or how many units are sold.
     pub number: i128,
 }
 

@@ -7,7 +7,7 @@ use std::test::Fail;
 // What words are expected to ask for: the command, the two names and the width; none where they are no command.
 type Expected = Option<(Command, &'static str, &'static str, u8)>;
 
-static CASES: [(&[&str], Expected); 51] = [
+static CASES: [(&[&str], Expected); 54] = [
     (&["audit", "a", "b"], Some((Command::Audit, "a", "b", 62))),
     (&["check", "a", "b"], Some((Command::Check, "a", "b", 62))),
     (&["rows", "a"], Some((Command::Rows, "a", "", 62))),
@@ -55,6 +55,12 @@ static CASES: [(&[&str], Expected); 51] = [
         Some((Command::Asym, "a", "", 4)),
     ),
     (&["asym", "a", "b"], None),
+    (&["units", "a", "0"], Some((Command::Units, "a", "", 62))),
+    (
+        &["units", "a", "0", "--width", "4"],
+        Some((Command::Units, "a", "", 4)),
+    ),
+    (&["units", "a"], None),
     (&["determ", "a"], Some((Command::Determ, "a", "", 62))),
     (
         &["determ", "a", "--width", "4"],
@@ -125,7 +131,7 @@ fn reads_what_is_asked(rt: HostRuntime) -> Result<(), Fail> {
 // What words of a draw or a number are expected to ask for: the command, the profile, the two draws and the number.
 type Numbers = Option<(Command, &'static str, i128, i128, i128)>;
 
-static NUMBERS: [(&[&str], Numbers); 18] = [
+static NUMBERS: [(&[&str], Numbers); 24] = [
     (
         &["run", "a", "b", "l,r", "3", "0"],
         Some((Command::Run, "l,r", 3, 0, 0)),
@@ -166,6 +172,15 @@ static NUMBERS: [(&[&str], Numbers); 18] = [
     // two to the power of 126 has 127 bits
     (&["drill", "85070591730234615865843651857942052864"], None),
     (&["drill", "--help"], None),
+    (&["units", "a", "2"], Some((Command::Units, "", 0, 0, 2))),
+    (
+        &["units", "--", "a", "-3"],
+        Some((Command::Units, "", 0, 0, -3)),
+    ),
+    (&["units", "a", "x"], None),
+    (&["units", "a", "02"], None),
+    (&["units", "a", "2", "--width", "3"], None),
+    (&["units", "a", "2", "3"], None),
 ];
 
 fn has_numbers(order: &Option<Order<'_>>, expected: &Numbers) -> bool {

@@ -6,6 +6,5 @@ use Rattle.md_ruling.proofs.determ_check.checked.Goals as goal
 
 pub rejected_record-requires : goal.rejected_record-requires
 rejected_record-requires c broken same =
-    let s = c.args.setting.now in
-    let answer = c.args.answer.now in
-    told-in s answer broken (subst (IsVerdict s answer) (c.in-Rejected.is ∙ ap Rejected same) c.in_ok-check_determ.ensures.verdict)
+    let h = c.in_ok-verdict.ensures in
+    told-in c.args.setting.now h.answer broken (subst (IsVerdict c.args.setting.now h.answer) (c.in-Rejected.is ∙ ap Rejected same) h.is_verdict)

@@ -15,6 +15,12 @@ returns-in-Fair g c = rw c.in-Fair.is (c.of_one-in-Fair.ensures c.args.order.now
 pub returns-in-Asym : goal.returns-in-Asym
 returns-in-Asym g c = rw c.in-Asym.is (c.of_one-in-Asym.ensures c.args.order.now.second.now)
 
+pub returns-in-Units : goal.returns-in-Units
+returns-in-Units g c =
+    let number = c.args.order.now.number in
+    let fits : FitsSigned w128 number = search rules in
+    rw c.in-Units.is (rw (to_z-of_z w128 number fits) at (c.sell_units.ensures c.args.order.now.second.now))
+
 pub returns-in-Determ : goal.returns-in-Determ
 returns-in-Determ g c = rw c.in-Determ.is (c.of_one-in-Determ.ensures c.args.order.now.second.now)
 

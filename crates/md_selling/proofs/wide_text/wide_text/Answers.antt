@@ -2,11 +2,11 @@ use Rattle.std.proofs.Common.{List, [], ◌∷◌, ◌++◌, ℕ, codes, ◌∙�
 use Rattle.md_parts.specs.declared.version.Version.TheVariants.{One}
 use Rattle.md_parts.specs.Rows.{again_row, cut_rows, end_row, first_row, wide_rows}
 use Rattle.md_selling.proofs.Joined.{all, then}
-use Rattle.md_selling.proofs.asym_text.wide_text.Goals as goal
+use Rattle.md_selling.proofs.wide_text.wide_text.Goals as goal
 
 pub returns : goal.returns
 returns c =
-    let first : List (List (List ℕ)) = first_row One (codes "asym") (codes "toowide") ∷ [] in
+    let first : List (List (List ℕ)) = first_row One c.args.word.now (codes "toowide") ∷ [] in
     let cuts = cut_rows c.args.cuts.now in
     let one = wide_rows c.args.first.now in
     let again : List (List (List ℕ)) = again_row ∷ [] in
