@@ -23,10 +23,3 @@ pub use odds_file::read_odds;
 pub use pivots_file::{Pivots, read_pivots};
 pub use reading::read_answer;
 pub use writing::write_answer;
-
-#[cfg(test)]
-mod auction_tests;
-#[cfg(test)]
-mod odds_tests;
-#[cfg(test)]
-mod tests;

@@ -14,13 +14,13 @@ use Rattle.md_setting.specs.Meaning.{agent_count, sizes_of, total_of}
 use Rattle.md_setting.specs.Shaped.{IsShaped}
 use Rattle.md_setting.proofs.MarginalLaws.{marginal-small}
 use Rattle.md_mech.specs.Accepted.{number_limit}
-use Rattle.md_sale.specs.Forms.{pay_in}
-use Rattle.md_sale.specs.Pairs.{agent_of, kind_of}
-use Rattle.md_sale.specs.Sale.{IsSale}
-use Rattle.md_sale.specs.Values.{pairs_of, marginal_at, surplus_at}
-use Rattle.md_sale.proofs.SaleLaws.{surplus-within}
-use Rattle.md_sale_laws.specs.Worth.{base_of, worth_in}
-use Rattle.md_sale_laws.proofs.PairFacts.{pair-of}
+use Rattle.md_asym_sale.specs.Forms.{pay_in}
+use Rattle.md_asym_sale.specs.Pairs.{agent_of, kind_of}
+use Rattle.md_asym_sale.specs.Sale.{IsSale}
+use Rattle.md_asym_sale.specs.Values.{pairs_of, marginal_at, surplus_at}
+use Rattle.md_asym_sale.proofs.SaleLaws.{surplus-within}
+use Rattle.md_asym_laws.specs.Worth.{base_of, worth_in}
+use Rattle.md_asym_laws.proofs.PairFacts.{pair-of}
 use Rattle.md_asym.specs.Gains.{AreSaleOdds, gain_of, gains_of, worth_by}
 use Rattle.md_asym.specs.SaleCuts.{odds_in, pays_in}
 

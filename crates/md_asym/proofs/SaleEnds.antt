@@ -18,17 +18,17 @@ use Rattle.md_cert.specs.Claims.{IsOptimalPoint}
 use Rattle.md_cert.proofs.Duality.{optimal-claim}
 use Rattle.md_cuts.specs.declared.optimum.Optimum.{Optimum}
 use Rattle.md_cuts.specs.CutRuns.{EndsSettled, IsShownBy}
-use Rattle.md_sale.specs.Forms.{pay_in}
-use Rattle.md_sale.specs.Sale.{IsSale}
-use Rattle.md_sale.specs.Values.{pairs_of}
-use Rattle.md_pairs.specs.Odds.{HasOdds, HasPays}
-use Rattle.md_pairs.specs.Mechanisms.{mechanism_of}
-use Rattle.md_pairs.proofs.MechanismLaws.{mechanism-of_table, odds-of_table, pays-of_table}
-use Rattle.md_sale_laws.specs.Odds.{HasPairOdds, HasPairPays}
-use Rattle.md_sale_laws.specs.Worth.{worth_in}
-use Rattle.md_sale_laws.proofs.MechanismWorth.{worth-of_odds, value-of_odds}
-use Rattle.md_sale_laws.proofs.OddsLaws.{listed-odds, listed-pays}
-use Rattle.md_sale_laws.proofs.OptimalLaws.{makes-optimal}
+use Rattle.md_asym_sale.specs.Forms.{pay_in}
+use Rattle.md_asym_sale.specs.Sale.{IsSale}
+use Rattle.md_asym_sale.specs.Values.{pairs_of}
+use Rattle.md_asym_tables.specs.Odds.{HasOdds, HasPays}
+use Rattle.md_asym_tables.specs.Mechanisms.{mechanism_of}
+use Rattle.md_asym_tables.proofs.MechanismLaws.{mechanism-of_table, odds-of_table, pays-of_table}
+use Rattle.md_asym_laws.specs.Odds.{HasPairOdds, HasPairPays}
+use Rattle.md_asym_laws.specs.Worth.{worth_in}
+use Rattle.md_asym_laws.proofs.MechanismWorth.{worth-of_odds, value-of_odds}
+use Rattle.md_asym_laws.proofs.OddsLaws.{listed-odds, listed-pays}
+use Rattle.md_asym_laws.proofs.OptimalLaws.{makes-optimal}
 use Rattle.md_asym.specs.declared.asym_answer.AsymAnswer.{AsymAnswer}
 use Rattle.md_asym.specs.declared.sale.Realised.{Realised}
 use Rattle.md_asym.specs.Gains.{AreSaleOdds, worth_by}

@@ -20,17 +20,17 @@ use Rattle.md_simplex.proofs.SameRuns.{run-same}
 use Rattle.md_mech.specs.Accepted.{number_limit}
 use Rattle.md_cuts.specs.Cutting.{IsCutPoint, IsCutting, IsShownOf}
 use Rattle.md_cuts.specs.Worst.{IsWorst, NoneOver}
-use Rattle.md_sale.specs.Forms.{pay_in}
-use Rattle.md_sale.specs.ProgramOf.{column_count}
-use Rattle.md_sale.specs.Sale.{IsSale}
-use Rattle.md_sale.specs.Sides.{demands_in, right_of}
-use Rattle.md_sale.specs.Values.{pairs_of}
-use Rattle.md_sale_laws.specs.Points.{MeetsSale}
-use Rattle.md_sale_laws.proofs.BoundLaws.{bounded}
-use Rattle.md_sale_laws.proofs.CutRunLaws.{cut-kept, empty-kept, has-point, one-program}
-use Rattle.md_sale_laws.proofs.OddsLaws.{listed-demands}
-use Rattle.md_sale_laws.proofs.PointLaws.{odds-at_most, odds-nonneg}
-use Rattle.md_pairs.specs.Odds.{AreOdds, IsWorstSet, MeetsBorder, excess_of}
+use Rattle.md_asym_sale.specs.Forms.{pay_in}
+use Rattle.md_asym_sale.specs.ProgramOf.{column_count}
+use Rattle.md_asym_sale.specs.Sale.{IsSale}
+use Rattle.md_asym_sale.specs.Sides.{demands_in, right_of}
+use Rattle.md_asym_sale.specs.Values.{pairs_of}
+use Rattle.md_asym_laws.specs.Points.{MeetsSale}
+use Rattle.md_asym_laws.proofs.BoundLaws.{bounded}
+use Rattle.md_asym_laws.proofs.CutRunLaws.{cut-kept, empty-kept, has-point, one-program}
+use Rattle.md_asym_laws.proofs.OddsLaws.{listed-demands}
+use Rattle.md_asym_laws.proofs.PointLaws.{odds-at_most, odds-nonneg}
+use Rattle.md_asym_tables.specs.Odds.{AreOdds, IsWorstSet, MeetsBorder, excess_of}
 use Rattle.md_asym.specs.SaleCuts.{odds_in, pays_in, sale_cutting}
 
 -- ---- one program

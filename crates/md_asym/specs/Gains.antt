@@ -5,9 +5,9 @@ use Rattle.md_math.specs.Sizes.{AllWithin}
 use Rattle.md_math.specs.Sums.{sum_to}
 use Rattle.md_setting.specs.Setting.{GeneralSetting}
 use Rattle.md_mech.specs.Accepted.{number_limit}
-use Rattle.md_sale.specs.Values.{pairs_of, marginal_at, surplus_at}
-use Rattle.md_sale_laws.specs.Worth.{base_of}
-use Rattle.md_pairs.specs.Odds.{AreOdds}
+use Rattle.md_asym_sale.specs.Values.{pairs_of, marginal_at, surplus_at}
+use Rattle.md_asym_laws.specs.Worth.{base_of}
+use Rattle.md_asym_tables.specs.Odds.{AreOdds}
 
 -- odds and payments over one denominator, one of each for each pair
 pub record AreSaleOdds (s : GeneralSetting) (den : ℤ) (odds pays : List ℤ) : Type 0 where

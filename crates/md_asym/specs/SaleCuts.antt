@@ -5,12 +5,12 @@ use Rattle.md_math.specs.Sizes.{AllWithin}
 use Rattle.md_setting.specs.Setting.{GeneralSetting}
 use Rattle.md_mech.specs.Accepted.{number_limit}
 use Rattle.md_cuts.specs.Cutting.{Cutting}
-use Rattle.md_sale.specs.Forms.{pay_in}
-use Rattle.md_sale.specs.ProgramOf.{IsSaleProgram}
-use Rattle.md_sale.specs.Sides.{demands_in, right_of}
-use Rattle.md_sale.specs.Values.{pairs_of}
-use Rattle.md_pairs.specs.Odds.{AreOdds}
-use Rattle.md_pairs.specs.Tables.{IsProfileTable, Implements}
+use Rattle.md_asym_sale.specs.Forms.{pay_in}
+use Rattle.md_asym_sale.specs.ProgramOf.{IsSaleProgram}
+use Rattle.md_asym_sale.specs.Sides.{demands_in, right_of}
+use Rattle.md_asym_sale.specs.Values.{pairs_of}
+use Rattle.md_asym_tables.specs.Odds.{AreOdds}
+use Rattle.md_asym_tables.specs.Tables.{IsProfileTable, Implements}
 use Rattle.md_asym.specs.declared.sale.Realised.{Realised}
 
 -- the places are the pairs of an agent and a type, the programs those of the sale, and a set of pairs is over by how much its

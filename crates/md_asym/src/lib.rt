@@ -11,6 +11,3 @@ mod worth;
 pub use asym_answer::AsymAnswer;
 pub use md_cuts::CutsError as AsymError;
 pub use solving::solve_asym;
-
-#[cfg(test)]
-mod tests;

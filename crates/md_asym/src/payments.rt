@@ -4,13 +4,13 @@ ghost use Rattle.md_math.specs.Lists.{list_to, number_at};
 ghost use Rattle.md_math.specs.Sizes.{AllWithin};
 ghost use Rattle.md_mech.specs.Accepted.{number_limit};
 ghost use Rattle.md_setting.specs.Shaped.{IsShaped};
-ghost use Rattle.md_sale.specs.Forms.{pay_in};
-ghost use Rattle.md_sale.specs.ProgramOf.{column_count};
-ghost use Rattle.md_sale.specs.Values.{pairs_of};
+ghost use Rattle.md_asym_sale.specs.Forms.{pay_in};
+ghost use Rattle.md_asym_sale.specs.ProgramOf.{column_count};
+ghost use Rattle.md_asym_sale.specs.Values.{pairs_of};
 ghost use Rattle.md_asym.specs.SaleCuts.{odds_in, pays_in};
 
+use md_asym_sale::pair_count;
 use md_num::{NoMemory, Nums};
-use md_sale::pair_count;
 use md_setting::Setting;
 use std::alloc::Global;
 

@@ -3,15 +3,15 @@ ghost use Rattle.std.specs.Prelude.{◌≡◌, IfOk};
 ghost use Rattle.md_math.specs.Lists.{number_at};
 ghost use Rattle.md_cuts.specs.Cutting.{IsCutPoint, IsCutting};
 ghost use Rattle.md_cuts.specs.Worst.{IsWorst, NoneOver, WhereTable, WhereViolated};
-ghost use Rattle.md_sale.specs.Sale.{IsSale};
+ghost use Rattle.md_asym_sale.specs.Sale.{IsSale};
 ghost use Rattle.md_asym.specs.SaleCuts.{IsRealised, sale_cutting};
 
 use crate::payments::{odds_of, pays_of};
+use md_asym_sale::{pair_count, program};
+use md_asym_tables::{PairEnd, realise_pairs};
 use md_cuts::{CutProgram, Worst};
 use md_lp::{Lp, Sets};
 use md_num::{NoMemory, Nums};
-use md_pairs::{PairEnd, realise_pairs};
-use md_sale::{pair_count, program};
 use md_setting::Setting;
 use std::alloc::Global;
 use std::marker::Model;
@@ -24,7 +24,7 @@ pub(crate) struct Sale<'a> {
 
 impl<'a> Model for Sale<'a> {
     ghost use Rattle.md_setting.specs.Setting.{GeneralSetting};
-    ghost use Rattle.md_sale.specs.Sale.{IsSale};
+    ghost use Rattle.md_asym_sale.specs.Sale.{IsSale};
 
     ghost Value = { GeneralSetting };
 

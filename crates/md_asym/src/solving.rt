@@ -7,10 +7,10 @@ ghost use Rattle.md_mech.specs.Value.{IsValueOf};
 ghost use Rattle.md_cuts.specs.declared.cuts_error.CutsError.TheVariants.{Memory};
 ghost use Rattle.md_cuts.specs.declared.optimum.Optimum.{Optimum};
 ghost use Rattle.md_cuts.specs.CutRuns.{EndsSettled, EndsWide, HasSmallEntries, IsLeftAt, TellsWide, WhereWide};
-ghost use Rattle.md_sale.specs.Sale.{IsSale};
-ghost use Rattle.md_sale.specs.Values.{pairs_of};
-ghost use Rattle.md_pairs.specs.Odds.{AreOdds, HasOdds, HasPays};
-ghost use Rattle.md_pairs.specs.Tables.{IsProfileTable, Implements};
+ghost use Rattle.md_asym_sale.specs.Sale.{IsSale};
+ghost use Rattle.md_asym_sale.specs.Values.{pairs_of};
+ghost use Rattle.md_asym_tables.specs.Odds.{AreOdds, HasOdds, HasPays};
+ghost use Rattle.md_asym_tables.specs.Tables.{IsProfileTable, Implements};
 ghost use Rattle.md_asym.specs.SaleCuts.{sale_cutting};
 ghost use Rattle.md_asym.specs.Solved.{IsSolvedSale, TellsSale, mechanism_in};
 

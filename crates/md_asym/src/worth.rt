@@ -4,13 +4,13 @@ ghost use Rattle.md_math.specs.Divisors.{IsLeastTerms};
 ghost use Rattle.md_math.specs.Sizes.{IsWithin};
 ghost use Rattle.md_setting.specs.Meaning.{total_of};
 ghost use Rattle.md_setting.specs.Shaped.{IsShaped};
-ghost use Rattle.md_sale.specs.Sale.{IsSale};
-ghost use Rattle.md_sale.specs.Values.{pairs_of};
-ghost use Rattle.md_sale_laws.specs.Worth.{base_of};
+ghost use Rattle.md_asym_sale.specs.Sale.{IsSale};
+ghost use Rattle.md_asym_sale.specs.Values.{pairs_of};
+ghost use Rattle.md_asym_laws.specs.Worth.{base_of};
 ghost use Rattle.md_asym.specs.Gains.{AreSaleOdds, gain_of, gains_of, worth_by};
 
+use md_asym_sale::{marginal_at, pair_count, surplus_at};
 use md_num::{Frac, Nums, add_product, product};
-use md_sale::{marginal_at, pair_count, surplus_at};
 use md_setting::Setting;
 
 /// The designer's expected objective, in least terms: what the item is worth where it is kept, and for each pair what it

@@ -20,6 +20,3 @@ pub use auction_report::AuctionReport;
 pub use greatest::Greatest;
 pub use records::auction_report_text;
 pub use value_numbers::ValueNumbers;
-
-#[cfg(test)]
-mod tests;

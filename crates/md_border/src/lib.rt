@@ -18,6 +18,3 @@ pub use interim::Interim;
 pub use sides::{has_kind, right_side};
 pub use single_sets::singles;
 pub use worth::{auction_worth, surplus};
-
-#[cfg(test)]
-mod tests;

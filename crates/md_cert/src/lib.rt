@@ -15,6 +15,3 @@ pub use bound::Bound;
 pub use cert_fault::CertFault;
 pub use certificate::Certificate;
 pub use check::check_lp;
-
-#[cfg(test)]
-mod tests;

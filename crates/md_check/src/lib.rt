@@ -13,8 +13,3 @@ mod verdict;
 
 pub use checking::check;
 pub use verdict::{Reject, Verdict};
-
-#[cfg(test)]
-mod auction_tests;
-#[cfg(test)]
-mod tests;

@@ -11,6 +11,3 @@ mod weights;
 
 pub use counts::Counts;
 pub use refusal::CountsRefusal;
-
-#[cfg(test)]
-mod tests;

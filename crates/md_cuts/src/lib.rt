@@ -23,6 +23,3 @@ pub use cuts_error::CutsError;
 pub use optimum::Optimum;
 pub use running::cut_run;
 pub use solving::solve_auction;
-
-#[cfg(test)]
-mod tests;

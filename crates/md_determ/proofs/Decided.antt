@@ -12,7 +12,7 @@ use Rattle.md_mech.specs.declared.mechanism.Mechanism.{Mechanism}
 use Rattle.md_mech.specs.Mechanism.{IsMechanism}
 use Rattle.md_mech.specs.Optimal.{worth_of}
 use Rattle.md_mech.specs.Value.{IsValueOf}
-use Rattle.md_node.specs.Deterministic.{IsDeterministic, IsFirstLottery}
+use Rattle.md_determ_node.specs.Deterministic.{IsDeterministic, IsFirstLottery}
 use Rattle.md_tree.specs.Leaves.{IsWorthAtMost}
 use Rattle.md_tree.proofs.WorthLaws.{same-order}
 

@@ -16,8 +16,8 @@ use Rattle.md_simplex.specs.declared.simplex_error.SimplexError.TheVariants.{Too
 use Rattle.md_simplex.specs.Runs.{IsLeft}
 use Rattle.md_solve.proofs.RayLists as rays
 use Rattle.md_solve.proofs.WideFits.{wide-fits}
-use Rattle.md_node.specs.NodeProgram.{IsNodeProgram}
-use Rattle.md_node.proofs.OwnProgram.{own, own-meets}
+use Rattle.md_determ_node.specs.NodeProgram.{IsNodeProgram}
+use Rattle.md_determ_node.proofs.OwnProgram.{own, own-meets}
 use Rattle.md_determ.specs.Fitting.{HasFractions, IsLeftAt, IsProgramOfNode}
 
 module _ (s : GeneralSetting) (p : Program) (some : IsProgramOfNode s p) where

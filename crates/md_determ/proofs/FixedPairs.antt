@@ -9,8 +9,8 @@ use Rattle.md_setting.specs.Setting.{GeneralSetting}
 use Rattle.md_setting.specs.Meaning.{outcome_count, sizes_of}
 use Rattle.md_lp.specs.declared.pivot.Pivot.{Pivot}
 use Rattle.md_forms.proofs.PointLaws.{all-one}
-use Rattle.md_branching.specs.Fixed.{fixed_at}
-use Rattle.md_node.specs.NodeProgram.{IsNode}
+use Rattle.md_determ_branching.specs.Fixed.{fixed_at}
+use Rattle.md_determ_node.specs.NodeProgram.{IsNode}
 use Rattle.md_tree.specs.AnswerTo.{AreFixedFrom}
 use Rattle.md_determ.specs.Pairs.{ArePairsOf, pairs_at, pairs_by}
 

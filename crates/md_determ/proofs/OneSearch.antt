@@ -12,8 +12,8 @@ use Rattle.md_lp.specs.declared.pivot.Pivot.{Pivot}
 use Rattle.md_lp.specs.declared.wide.Wide.{Wide}
 use Rattle.md_cert.specs.declared.bound.Bound.{Bound}
 use Rattle.md_solve.proofs.OneFraction.{one_fraction}
-use Rattle.md_branching.specs.Fixed.{IsFirstFree, children_of}
-use Rattle.md_node.specs.Deterministic.{IsDeterministic}
+use Rattle.md_determ_branching.specs.Fixed.{IsFirstFree, children_of}
+use Rattle.md_determ_node.specs.Deterministic.{IsDeterministic}
 use Rattle.md_tree.specs.Trees.{root_of}
 use Rattle.md_tree.specs.declared.answer.DetAnswer.{DetAnswer}
 use Rattle.md_tree.specs.declared.answer.DetAnswer.TheVariants as answers

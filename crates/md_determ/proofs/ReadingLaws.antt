@@ -27,11 +27,11 @@ use Rattle.md_simplex.proofs.RunLaws.{one_first_wide, taken_not_left}
 use Rattle.md_simplex.proofs.SamePaths.{first_wide-same}
 use Rattle.md_simplex.proofs.SameRuns.{run-same}
 use Rattle.md_solve.proofs.Certificates.{unbounded-there}
-use Rattle.md_node.specs.Law.{IsNodeProgramWithLaws}
-use Rattle.md_node.specs.NodeProgram.{HasFixed, IsNode, IsNodeProgram}
-use Rattle.md_node.proofs.Laws.{root-certified, same_program}
-use Rattle.md_node.proofs.OwnProgram.{own}
-use Rattle.md_node.proofs.PointLaws.{with_laws}
+use Rattle.md_determ_node.specs.Law.{IsNodeProgramWithLaws}
+use Rattle.md_determ_node.specs.NodeProgram.{HasFixed, IsNode, IsNodeProgram}
+use Rattle.md_determ_node.proofs.Laws.{root-certified, same_program}
+use Rattle.md_determ_node.proofs.OwnProgram.{own}
+use Rattle.md_determ_node.proofs.PointLaws.{with_laws}
 use Rattle.md_tree.specs.Leaves.{IsCertified}
 use Rattle.md_tree.specs.Verdicts.{HasGrowth}
 use Rattle.md_determ.specs.Readings.{IsReadAt, IsWideAt, TellsCertificate}

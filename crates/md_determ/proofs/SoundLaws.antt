@@ -11,9 +11,9 @@ use Rattle.md_mech.specs.declared.mechanism.Mechanism.{Mechanism}
 use Rattle.md_mech.specs.Optimal.{worth_of}
 use Rattle.md_mech.specs.Value.{IsValueOf}
 use Rattle.md_cert.specs.declared.bound.Bound.{Bound}
-use Rattle.md_branching.specs.Fixed.{IsFree, children_of, with_fixed}
-use Rattle.md_branching.proofs.Laws.{AreOutcomes-child, length-with_fixed}
-use Rattle.md_node.specs.NodeProgram.{IsNode}
+use Rattle.md_determ_branching.specs.Fixed.{IsFree, children_of, with_fixed}
+use Rattle.md_determ_branching.proofs.Laws.{AreOutcomes-child, length-with_fixed}
+use Rattle.md_determ_node.specs.NodeProgram.{IsNode}
 use Rattle.md_tree.specs.Leaves.{IsSoundLeaf, IsWorthAtMost}
 use Rattle.md_tree.specs.Trees.{AreTrees, root_of}
 use Rattle.md_tree.specs.Verdicts.{ClaimsNothing, HasGrowth, IsRule, IsVerdict}

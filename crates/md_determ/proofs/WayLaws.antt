@@ -10,12 +10,12 @@ use Rattle.md_cert.specs.declared.bound.Bound.{Bound}
 use Rattle.md_parts.specs.Fitting.{HasFraction, IsFraction}
 use Rattle.md_lp.specs.declared.pivot.Pivot.{Pivot}
 use Rattle.md_lp.specs.declared.wide.Wide.{Wide}
-use Rattle.md_branching.specs.Fixed.{AreOutcomes, IsWhole, children_of}
-use Rattle.md_branching.specs.Tour.{Tour, current_of, rest_of}
-use Rattle.md_branching.proofs.Measure.{opens-first}
-use Rattle.md_node.specs.Deterministic.{IsDeterministic}
-use Rattle.md_node.specs.NodeProgram.{IsNode, row_count_of}
-use Rattle.md_node.proofs.Laws.{all-fixed}
+use Rattle.md_determ_branching.specs.Fixed.{AreOutcomes, IsWhole, children_of}
+use Rattle.md_determ_branching.specs.Tour.{Tour, current_of, rest_of}
+use Rattle.md_determ_branching.proofs.Measure.{opens-first}
+use Rattle.md_determ_node.specs.Deterministic.{IsDeterministic}
+use Rattle.md_determ_node.specs.NodeProgram.{IsNode, row_count_of}
+use Rattle.md_determ_node.proofs.Laws.{all-fixed}
 use Rattle.md_tree.specs.AnswerTo.{IsLeafFor}
 use Rattle.md_tree.specs.Trees.{AreTrees, IsTree, root_of}
 use Rattle.md_tree.specs.declared.answer.DetAnswer.{DetAnswer}

@@ -4,7 +4,7 @@ use Rattle.md_setting.specs.Setting.{GeneralSetting}
 use Rattle.md_mech.specs.Accepted.{IsAccepted}
 use Rattle.md_lp.specs.Program.{Program}
 use Rattle.md_parts.specs.Fitting.{AreMultipliers, HasFraction, IsBoundOver, IsRayFor}
-use Rattle.md_node.specs.NodeProgram.{IsNodeProgram}
+use Rattle.md_determ_node.specs.NodeProgram.{IsNodeProgram}
 use Rattle.md_simplex.specs.Runs.{IsRun}
 use Rattle.md_simplex.specs.declared.end.End.{End}
 use Rattle.md_simplex.specs.declared.simplex_error.SimplexError.{SimplexError}

@@ -2,7 +2,7 @@
 use Rattle.std.specs.Prelude.{◌≡◌, ℕ, List, [], ◌∷◌, length, Option, None, Some}
 use Rattle.md_math.specs.Lists.{up_to}
 use Rattle.md_lp.specs.declared.pivot.Pivot.{Pivot}
-use Rattle.md_branching.specs.Fixed.{fixed_at}
+use Rattle.md_determ_branching.specs.Fixed.{fixed_at}
 
 -- the pair of a rank and the outcome that is fixed there, if there is one
 abbrev pub pairs_by : ℕ → Option ℕ → List Pivot

@@ -11,7 +11,7 @@ use Rattle.md_claims.specs.Rays.{pays_along}
 use Rattle.md_simplex.specs.declared.end.End.{End}
 use Rattle.md_simplex.specs.declared.order.Order.TheVariants.{Forward, Backward}
 use Rattle.md_simplex.specs.Runs.{IsFirstWideOf, IsRun}
-use Rattle.md_node.specs.NodeProgram.{IsNodeProgram}
+use Rattle.md_determ_node.specs.NodeProgram.{IsNodeProgram}
 use Rattle.md_determ.specs.declared.reading.Reading.{Reading}
 use Rattle.md_determ.specs.declared.reading.Reading.TheVariants.{Optimal, Infeasible, Unbounded}
 

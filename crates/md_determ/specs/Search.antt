@@ -14,8 +14,8 @@ use Rattle.md_setting.specs.Setting.{GeneralSetting}
 use Rattle.md_setting.specs.Meaning.{outcome_count}
 use Rattle.md_mech.specs.declared.mechanism.Mechanism.{Mechanism}
 use Rattle.md_mech.specs.Value.{IsValueOf}
-use Rattle.md_branching.specs.Fixed.{children_of, IsFirstFree}
-use Rattle.md_node.specs.Deterministic.{IsDeterministic}
+use Rattle.md_determ_branching.specs.Fixed.{children_of, IsFirstFree}
+use Rattle.md_determ_node.specs.Deterministic.{IsDeterministic}
 use Rattle.md_tree.specs.Trees.{root_of}
 use Rattle.md_tree.specs.Leaves.{IsWorthAtMost}
 use Rattle.md_tree.specs.declared.node.Node.{Node}

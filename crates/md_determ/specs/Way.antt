@@ -5,9 +5,9 @@ use Rattle.md_setting.specs.Setting.{GeneralSetting}
 use Rattle.md_setting.specs.Meaning.{outcome_count, sizes_of}
 use Rattle.md_mech.specs.declared.mechanism.Mechanism.{Mechanism}
 use Rattle.md_mech.specs.Accepted.{IsAccepted}
-use Rattle.md_branching.specs.Fixed.{IsFirstFree, children_of}
-use Rattle.md_branching.specs.Tour.{current_of, left_of, rest_of}
-use Rattle.md_node.specs.NodeProgram.{IsNode, row_count_of}
+use Rattle.md_determ_branching.specs.Fixed.{IsFirstFree, children_of}
+use Rattle.md_determ_branching.specs.Tour.{current_of, left_of, rest_of}
+use Rattle.md_determ_node.specs.NodeProgram.{IsNode, row_count_of}
 use Rattle.md_tree.specs.AnswerTo.{IsDetAnswerTo, IsLeafFor}
 use Rattle.md_tree.specs.Trees.{AreTrees, IsTree, root_of}
 use Rattle.md_tree.specs.declared.answer.DetAnswer.{DetAnswer}

@@ -12,6 +12,3 @@ mod visiting;
 
 pub use reading::Reading;
 pub use solving::solve_determ;
-
-#[cfg(test)]
-mod tests;

@@ -2,7 +2,7 @@
 ghost use Rattle.std.specs.Prelude.{◌≡◌, ◌<◌, ◌++◌, length, IfOk, OnOk};
 ghost use Rattle.md_determ.specs.Pairs.{ArePairsOf, pairs_at};
 
-use md_branching::Fixed;
+use md_determ_branching::Fixed;
 use md_lp::{Path, Pivot};
 use md_num::NoMemory;
 use std::alloc::Global;

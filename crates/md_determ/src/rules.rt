@@ -1,13 +1,13 @@
 //! Mechanisms that a search finds: whether they are deterministic, and what they are worth against one another.
 ghost use Rattle.std.specs.Prelude.{◌≡◌, ◌↔◌, IfOk, IsTrue};
 ghost use Rattle.md_mech.specs.Accepted.{IsAccepted};
-ghost use Rattle.md_node.specs.Deterministic.{IsDeterministic};
+ghost use Rattle.md_determ_node.specs.Deterministic.{IsDeterministic};
 ghost use Rattle.md_tree.specs.Leaves.{IsWorthAtMost};
 ghost use Rattle.md_determ.specs.Search.{IsNoBetter};
 ghost use Rattle.md_determ.specs.Way.{IsAcceptedBest};
 
+use md_determ_node::first_lottery;
 use md_mech::{Mechanism, worth};
-use md_node::first_lottery;
 use md_num::{NoMemory, Nums};
 use md_setting::Setting;
 use std::alloc::Global;

@@ -1,10 +1,10 @@
 //! Where a search stands, and how it goes on.
 ghost use Rattle.std.specs.Prelude.{◌≢◌, [], OnOk};
-ghost use Rattle.md_branching.specs.Fixed.{IsWhole};
-ghost use Rattle.md_branching.specs.Tour.{current_of};
+ghost use Rattle.md_determ_branching.specs.Fixed.{IsWhole};
+ghost use Rattle.md_determ_branching.specs.Tour.{current_of};
 ghost use Rattle.md_determ.specs.Way.{IsClosed, IsSplit};
 
-use md_branching::Walk;
+use md_determ_branching::Walk;
 use md_mech::Mechanism;
 use md_num::{NoMemory, Width};
 use md_tree::{Node, Tree};

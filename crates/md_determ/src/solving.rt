@@ -9,7 +9,7 @@ ghost use Rattle.md_determ.specs.Way.{IsTold, IsUnderWay};
 
 use crate::search::Search;
 use crate::visiting::visit;
-use md_branching::Walk;
+use md_determ_branching::Walk;
 use md_mech::worth;
 use md_num::{NoMemory, Width};
 use md_setting::Setting;

@@ -6,7 +6,7 @@ use Rattle.md_math.proofs.Order.{*ℤ_cancel}
 use Rattle.md_dict.specs.declared.step.Step.{Step}
 use Rattle.md_dict.specs.Step.{raw_number, IsStepDivisor}
 use Rattle.md_dict.specs.Multiples.{HaveDivisor}
-use Rattle.md_least_rows.proofs.Quotients.{quotient_is}
+use Rattle.md_dict_rows.proofs.Quotients.{quotient_is}
 
 -- the divisor is the one of the rows
 same_divisor : (step : Step) (kept : List ℤ) (den g : ℤ) (dens : ℕ → ℤ) (table : ℕ → ℕ → ℤ) → (h : HaveDivisor step kept den dens table) → pos 0 <ℤ den → g *ℤ den ≡ step.den *ℤ step.pivot → h.divisor ≡ g

@@ -18,7 +18,7 @@ use Rattle.md_dict.specs.Exchange.{step_of, exchanged, IsExchange, AreWritten}
 use Rattle.md_dict.proofs.RawPivot.{IsPivot, raw_pivot, scaled_basic, basic_own}
 use Rattle.md_dict.proofs.Cancelling.{IsMultiple, IsGreatest, divided_dictionary, IsDictionary-same, IsDictionary-same_basis}
 use Rattle.md_dict.proofs.Change.{raw_at-basic, raw_at-kept, raw_at-right, Divides-raw_at}
-use Rattle.md_least_rows.proofs.Quotients.{quotient_is}
+use Rattle.md_dict_rows.proofs.Quotients.{quotient_is}
 use Rattle.md_dict.proofs.Exchange.{entry-kept, entry-basic, entry-right, leaving_seat, leaving_in, seat-entering, seat-leaving, seat-other, pivot_entry, raw_at-is}
 
 -- ---- places and columns after the pivot

@@ -13,12 +13,12 @@ use Rattle.md_dict.specs.declared.step.Step.{Step}
 use Rattle.md_dict.specs.declared.rows.Rows.{Rows}
 use Rattle.md_dict.specs.Step.{number_in, IsTable}
 use Rattle.md_math.specs.Divisors.{Divides}
-use Rattle.md_least_rows.specs.declared.combination.Combination.{Combination}
-use Rattle.md_least_rows.specs.declared.combination.LeastRow.{LeastRow}
-use Rattle.md_least_rows.specs.Combination.{IsCombination, IsLeastDen, IsReducedTo, IsTooWideRow}
+use Rattle.md_dict_rows.specs.declared.combination.Combination.{Combination}
+use Rattle.md_dict_rows.specs.declared.combination.LeastRow.{LeastRow}
+use Rattle.md_dict_rows.specs.Combination.{IsCombination, IsLeastDen, IsReducedTo, IsTooWideRow}
 use Rattle.md_dict.specs.Fill.{AreFilledBy, IsDenOf, IsRowsMultiple, IsWideFor, Leaves}
 use Rattle.md_dict.specs.Rows.{own_den, own_number, share_of, size_of}
-use Rattle.md_least_rows.specs.LeastRows.{IsLeastRow, IsRowSize}
+use Rattle.md_dict_rows.specs.LeastRows.{IsLeastRow, IsRowSize}
 use Rattle.md_dict.specs.Multiples.{IsMultipleOfTwo, IsNewRow}
 use Rattle.md_dict.specs.RowStep.{kept_in, stays_in, AreDone, CanBeRestored, IsCombinationOf, IsDoneRow, IsMadeRow, IsOwnRow, IsRowStep}
 use Rattle.md_dict.proofs.RowLaws.{kept_within, positive_share, within_by_share}
@@ -27,7 +27,7 @@ use Rattle.md_dict.proofs.Parts.{end_inside, in_part, length_part, within_part}
 use Rattle.md_dict.proofs.NewRows.{common_multiple}
 use Rattle.md_math.proofs.Order.{positive-*ℤ}
 use Rattle.md_dict.proofs.LeastMultiples.{IsLeastMultiple-more, IsLeastMultiple-none, IsLeastMultiple-same}
-use Rattle.md_division.proofs.Reading.{product_small, read_short, read_small}
+use Rattle.md_dict_division.proofs.Reading.{product_small, read_short, read_small}
 use Rattle.md_dict.proofs.Writing.{place_inside, written_beside, written_here}
 
 -- a number that was read at a place of a list whose numbers have 62 bits

@@ -7,11 +7,11 @@ use Rattle.md_math.proofs.Ring.{*ℤ_assoc}
 use Rattle.md_math.proofs.Division.{Divides_refl, Divides-neg_ℤ, Divides-zero}
 use Rattle.md_dict.specs.declared.step.Step.{Step}
 use Rattle.md_dict.specs.declared.rows.Rows.{Rows}
-use Rattle.md_least_rows.specs.declared.combination.Combination.{Combination}
+use Rattle.md_dict_rows.specs.declared.combination.Combination.{Combination}
 use Rattle.md_dict.specs.Dictionary.{basic_value}
 use Rattle.md_dict.specs.Rows.{own_den, own_number}
-use Rattle.md_least_rows.specs.LeastRows.{IsLeastRow}
-use Rattle.md_least_rows.specs.Combination.{AreLeastRows, IsLowered}
+use Rattle.md_dict_rows.specs.LeastRows.{IsLeastRow}
+use Rattle.md_dict_rows.specs.Combination.{AreLeastRows, IsLowered}
 use Rattle.md_dict.specs.RowStep.{IsRowStep, IsOwnRow, IsCombinationOf}
 
 -- what a basic column holds is a multiple of the denominator

@@ -5,7 +5,7 @@ use Rattle.std.proofs.lemmas.Int.{ints, unsigned_abs-mul}
 use Rattle.md_math.specs.Sizes.{IsWithin}
 use Rattle.md_math.specs.Divisors.{Divides}
 use Rattle.md_math.proofs.Division.{Divides-int_div, Divides-*ℤ_right, Divides_refl}
-use Rattle.md_least_rows.proofs.Quotients.{quotient_within}
+use Rattle.md_dict_rows.proofs.Quotients.{quotient_within}
 use Rattle.md_dict.specs.Dictionary.{basic_value}
 use Rattle.md_dict.specs.declared.step.Step.{Step}
 use Rattle.md_dict.specs.Wide.{IsNarrow}

@@ -9,12 +9,12 @@ use Rattle.md_math.proofs.Division.{Divides_trans, Divides_cancel, Divides-int_d
 use Rattle.md_math.proofs.Gcds.{gcd_of_two, family_gcd}
 use Rattle.md_math.proofs.Order.{*ℤ_cancel, positive-*ℤ, positive_from_*ℤ}
 use Rattle.md_math.proofs.Ring.{*ℤ_assoc, *ℤ-one}
-use Rattle.md_least_rows.proofs.LeastRows.{divides_row_factor}
+use Rattle.md_dict_rows.proofs.LeastRows.{divides_row_factor}
 use Rattle.md_dict.specs.declared.step.Step.{Step}
 use Rattle.md_dict.specs.Step.{raw_number, IsStepDivisor}
-use Rattle.md_least_rows.specs.LeastRows.{IsLeastRow}
+use Rattle.md_dict_rows.specs.LeastRows.{IsLeastRow}
 use Rattle.md_dict.specs.Multiples.{IsLeastMultiple, IsNewRow, HaveDivisor}
-use Rattle.md_least_rows.proofs.Quotients.{divides_from}
+use Rattle.md_dict_rows.proofs.Quotients.{divides_from}
 
 -- ---- numbers
 

@@ -22,15 +22,15 @@ use Rattle.md_dict.specs.Exchange.{exchanged, step_of, AreWritten, IsExchange, I
 use Rattle.md_dict.specs.Fill.{AreSameRows, IsFilledBy, IsNewTable, IsRowsMultiple, IsWideFor}
 use Rattle.md_dict.specs.Multiples.{HaveDivisor}
 use Rattle.md_dict.specs.Rows.{kept_of, own_den, own_number, share_of, size_of, AreRows, HasRows}
-use Rattle.md_least_rows.specs.LeastRows.{IsLeastRow, IsRowSize}
+use Rattle.md_dict_rows.specs.LeastRows.{IsLeastRow, IsRowSize}
 use Rattle.md_dict.specs.RowStep.{kept_in, IsDraft, IsRowStep}
 use Rattle.md_dict.proofs.Exchange.{leaving_in, IsSeated-step_of, IsStep-step_of}
 use Rattle.md_dict.proofs.Exchanged.{den_within, Holds-exchanged, IsNarrow-exchanged, IsReady-of, IsWideBasis-of, TakesColumn-exchanged}
 use Rattle.md_dict.proofs.Divided.{den_over, divided_numbers, IsStepDivisor-over}
-use Rattle.md_least_rows.proofs.Quotients.{quotient_is, factor_size}
+use Rattle.md_dict_rows.proofs.Quotients.{quotient_is, factor_size}
 use Rattle.md_dict.proofs.NewNumbers.{IsNarrow-from}
 use Rattle.md_dict.proofs.NewRows.{IsStepDivisor-rows}
-use Rattle.md_division.proofs.Reading.{product_small}
+use Rattle.md_dict_division.proofs.Reading.{product_small}
 use Rattle.md_dict.proofs.RowLaws.{kept_at, length-kept_of, size_reached, within_by_size, AllWithin-kept_of}
 use Rattle.md_dict.proofs.Filling.{IsLeastRow-same, IsRowSize-same}
 use Rattle.md_dict.proofs.Values.{not_narrow, IsStepDivisor-same, IsTable-with}

@@ -12,13 +12,13 @@ use Rattle.md_dict.specs.declared.step.Step.{Step}
 use Rattle.md_dict.specs.declared.rows.Rows.{Rows}
 use Rattle.md_dict.specs.declared.draft.Draft.{Draft}
 use Rattle.md_dict.specs.declared.old_rows.OldRows.{OldRows}
-use Rattle.md_least_rows.specs.declared.combination.LeastRow.{LeastRow}
+use Rattle.md_dict_rows.specs.declared.combination.LeastRow.{LeastRow}
 use Rattle.md_dict.specs.Step.{number_in, IsTable}
 use Rattle.md_dict.specs.Fill.{Leaves}
 use Rattle.md_dict.specs.Rows.{own_den, own_number, size_of}
 use Rattle.md_dict.specs.RowStep.{stays_in, AreOldFrom, AreOldRows, CanBeTurnedBack, IsDoneRow, IsDraft, IsMadeRow, IsNoted, IsOwnRow, IsRowStep}
 use Rattle.md_dict.proofs.Parts.{end_inside, in_part, length_part}
-use Rattle.md_division.proofs.Reading.{read_short, read_small}
+use Rattle.md_dict_division.proofs.Reading.{read_short, read_small}
 
 -- a number that was read, of 62 bits
 pub record IsRead (y x : ℤ) : Type 0 where

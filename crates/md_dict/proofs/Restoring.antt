@@ -15,7 +15,7 @@ use Rattle.md_dict.specs.declared.rows.Rows.{Rows}
 use Rattle.md_dict.specs.Step.{number_in}
 use Rattle.md_dict.specs.Fill.{Leaves}
 use Rattle.md_dict.specs.Rows.{own_number}
-use Rattle.md_division.proofs.Reading.{product_small, two_products_small}
+use Rattle.md_dict_division.proofs.Reading.{product_small, two_products_small}
 
 -- ---- one row
 

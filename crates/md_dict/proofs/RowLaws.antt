@@ -13,7 +13,7 @@ use Rattle.md_math.proofs.Ring.{zero-*ℤ, one-*ℤ}
 use Rattle.md_math.proofs.SizeLaws.{AllWithin-number_at, IsWithin-zero}
 use Rattle.md_dict.specs.declared.rows.Rows.{Rows}
 use Rattle.md_dict.specs.Rows.{own_den, own_number, share_of, size_of, kept_of, AreRows}
-use Rattle.md_least_rows.specs.LeastRows.{IsRowSize, IsLeastRow}
+use Rattle.md_dict_rows.specs.LeastRows.{IsRowSize, IsLeastRow}
 
 -- ---- the numbers over the denominator of all rows
 

@@ -13,21 +13,21 @@ use Rattle.md_math.proofs.Ring.{linear, ring, *ℤ-zero}
 use Rattle.md_math.proofs.SizeLaws.{AllWithin-number_at}
 use Rattle.md_dict.specs.declared.step.Step.{Step}
 use Rattle.md_dict.specs.declared.rows.Rows.{Rows}
-use Rattle.md_least_rows.specs.declared.combination.Combination.{Combination}
+use Rattle.md_dict_rows.specs.declared.combination.Combination.{Combination}
 use Rattle.md_dict.specs.Dictionary.{basic_value}
 use Rattle.md_dict.specs.Step.{number_in, old_number, raw_number, multiplier_of, factor_of, IsApart}
 use Rattle.md_dict.specs.Fill.{IsWideFor}
 use Rattle.md_dict.specs.Rows.{kept_of, own_den, own_number, share_of}
-use Rattle.md_least_rows.specs.LeastRows.{IsLeastRow}
+use Rattle.md_dict_rows.specs.LeastRows.{IsLeastRow}
 use Rattle.md_dict.specs.Multiples.{IsNewRow}
-use Rattle.md_least_rows.specs.Combination.{combined, combined_den, DividesCombination, IsCombination, IsInLeastTerms, IsTooWideRow}
+use Rattle.md_dict_rows.specs.Combination.{combined, combined_den, DividesCombination, IsCombination, IsInLeastTerms, IsTooWideRow}
 use Rattle.md_dict.specs.RowStep.{IsRowStep, IsOwnRow, IsCombinationOf}
 use Rattle.md_dict.proofs.RawPivot.{basic_own, basic_other, scaled_basic, basic_within}
 use Rattle.md_dict.proofs.StepDivisor.{raw_apart}
 use Rattle.md_dict.proofs.NewNumbers.{old_number-here, old_number-beside}
-use Rattle.md_least_rows.proofs.Quotients.{quotient_above}
+use Rattle.md_dict_rows.proofs.Quotients.{quotient_above}
 use Rattle.md_dict.proofs.RowLaws.{kept_at, positive_share}
-use Rattle.md_least_rows.proofs.Reducing.{combined_here, combined_beside}
+use Rattle.md_dict_rows.proofs.Reducing.{combined_here, combined_beside}
 use Rattle.md_dict.proofs.RowNumbers.{row_place}
 
 -- ---- the numbers before the pivot

@@ -5,13 +5,13 @@ use Rattle.md_math.specs.Lists.{number_at}
 use Rattle.md_math.proofs.Ring.{linear, ring, *ℤ_assoc}
 use Rattle.md_dict.specs.declared.step.Step.{Step}
 use Rattle.md_dict.specs.declared.rows.Rows.{Rows}
-use Rattle.md_least_rows.specs.declared.combination.Combination.{Combination}
-use Rattle.md_least_rows.specs.declared.combination.LeastRow.{LeastRow}
+use Rattle.md_dict_rows.specs.declared.combination.Combination.{Combination}
+use Rattle.md_dict_rows.specs.declared.combination.LeastRow.{LeastRow}
 use Rattle.md_dict.specs.Step.{number_in, IsTable}
-use Rattle.md_least_rows.specs.Combination.{IsReducedTo}
+use Rattle.md_dict_rows.specs.Combination.{IsReducedTo}
 use Rattle.md_dict.specs.RowStep.{CanBeTurnedBack, IsCombinationOf, IsOwnRow, IsRowStep}
 use Rattle.md_dict.proofs.Parts.{end_inside, within_part}
-use Rattle.md_least_rows.proofs.Reducing.{combined_beside}
+use Rattle.md_dict_rows.proofs.Reducing.{combined_beside}
 
 -- a difference of two products, each of whose factors is multiplied
 difference_times : (k m a f b : ℤ) → k *ℤ (m *ℤ a -ℤ f *ℤ b) ≡ (k *ℤ m) *ℤ a -ℤ (k *ℤ f) *ℤ b

@@ -13,7 +13,7 @@ use Rattle.md_dict.specs.Wide.{IsNarrow}
 use Rattle.md_dict.specs.Step.{new_entry, IsStepDivisor, IsTable}
 use Rattle.md_dict.specs.Fill.{IsWideFor}
 use Rattle.md_dict.specs.Exchange.{step_of, exchanged, IsExchange}
-use Rattle.md_division.proofs.Reading.{read_small, read_wide}
+use Rattle.md_dict_division.proofs.Reading.{read_small, read_wide}
 use Rattle.md_dict.proofs.Exchange.{limit_le, entry-right, entry-kept, entry-basic}
 use Rattle.md_dict.proofs.Exchanged.{IsReady-of, den_within}
 use Rattle.md_dict.proofs.RawPivot.{basic_other, basic_within}

@@ -3,7 +3,7 @@ use Rattle.std.specs.Prelude.{◌≡◌, ℕ, ◌+◌, ◌<◌, ℤ, pos, ◌*�
 use Rattle.md_math.specs.Divisors.{Divides}
 use Rattle.md_dict.specs.declared.step.Step.{Step}
 use Rattle.md_dict.specs.Step.{IsStepDivisor, raw_number}
-use Rattle.md_least_rows.specs.LeastRows.{IsLeastRow}
+use Rattle.md_dict_rows.specs.LeastRows.{IsLeastRow}
 
 -- a positive multiple of each of the first n numbers, which divides each other one
 pub record IsLeastMultiple (n : ℕ) (f : ℕ → ℤ) (d : ℤ) : Type 0 where

@@ -1,7 +1,7 @@
 -- A pivot of a table whose rows stand over denominators of their own.
 use Rattle.std.specs.Prelude.{◌≡◌, ◌≢◌, ℕ, ◌+◌, ◌^◌, ◌<◌, ◌≤◌, ◌==◌, ◌&&◌, not, Bool, true, false, ℤ, pos, ◌-ℤ◌, ◌*ℤ◌, ◌<ℤ◌, List, length, replicate}
 use Rattle.md_math.specs.Sizes.{AllWithin, IsWithin}
-use Rattle.md_least_rows.specs.declared.combination.LeastRow.{LeastRow}
+use Rattle.md_dict_rows.specs.declared.combination.LeastRow.{LeastRow}
 use Rattle.md_dict.specs.Multiples.{IsNewRow}
 use Rattle.std.specs.Ordering.{int_eq}
 use Rattle.md_math.specs.Lists.{number_at}
@@ -10,10 +10,10 @@ use Rattle.md_dict.specs.declared.step.Step.{Step}
 use Rattle.md_dict.specs.declared.rows.Rows.{Rows}
 use Rattle.md_dict.specs.declared.draft.Draft.{Draft}
 use Rattle.md_dict.specs.declared.old_rows.OldRows.{OldRows}
-use Rattle.md_least_rows.specs.declared.combination.Combination.{Combination}
+use Rattle.md_dict_rows.specs.declared.combination.Combination.{Combination}
 use Rattle.md_dict.specs.Step.{IsStep, IsTable, number_in}
 use Rattle.md_dict.specs.Rows.{kept_of, own_den, own_number, AreRows}
-use Rattle.md_least_rows.specs.LeastRows.{IsRowSize}
+use Rattle.md_dict_rows.specs.LeastRows.{IsRowSize}
 
 -- the numbers of a pivot's rows over the denominator of all
 abbrev pub kept_in : Step → Rows → List ℤ

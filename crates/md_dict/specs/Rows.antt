@@ -3,7 +3,7 @@ use Rattle.std.specs.Prelude.{◌≡◌, ℕ, ◌+◌, ◌*◌, ◌<◌, ◌^◌
 use Rattle.md_math.specs.Lists.{list_to, number_at, up_to}
 use Rattle.md_math.specs.Sizes.{IsWithin, AllWithin}
 use Rattle.md_math.specs.Divisors.{Divides, IsCommonDivisor}
-use Rattle.md_least_rows.specs.LeastRows.{IsLeastRow, IsRowSize}
+use Rattle.md_dict_rows.specs.LeastRows.{IsLeastRow, IsRowSize}
 use Rattle.md_dict.specs.declared.rows.Rows.{Rows}
 
 -- a row's number at a place, over the row's denominator

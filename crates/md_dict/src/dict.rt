@@ -17,7 +17,7 @@ use crate::rows::Rows;
 use crate::sizes::greatest_product;
 use crate::step::{Step, basic_number};
 use crate::wide::first_wide;
-use md_least_rows::Witnesses;
+use md_dict_rows::Witnesses;
 use md_lp::{Entry, Lp};
 use md_num::Width;
 use std::alloc::Global;

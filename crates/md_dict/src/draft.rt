@@ -6,7 +6,7 @@ ghost use Rattle.md_math.specs.Divisors.{Divides};
 
 use crate::multiples::{are_sizes_within, share_out};
 use crate::rows::{Rows, filled};
-use md_division::is_within;
+use md_dict_division::is_within;
 use md_num::NoMemory;
 use std::alloc::Global;
 use std::mem;

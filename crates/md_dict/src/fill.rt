@@ -11,7 +11,7 @@ use crate::copies::{copy_row, put_row};
 use crate::multiples::with_multiple;
 use crate::old_rows::{OldRows, lowest_combination, stays};
 use crate::step::Step;
-use md_least_rows::{LeastRow, Witnesses, exact_den, reduce, row_size};
+use md_dict_rows::{LeastRow, Witnesses, exact_den, reduce, row_size};
 
 // What came of writing the rows after a pivot: how many were written before the first one that is too wide by itself, the least common multiple of their denominators, and the last one of these.
 #[derive(Clone, Copy)]

@@ -12,7 +12,7 @@ ghost use Rattle.md_dict.specs.Wide.{IsFirstWide, IsNarrow};
 
 use crate::rows::filled;
 use crate::sizes::are_surely_within;
-use md_division::is_within;
+use md_dict_division::is_within;
 use md_lp::{Entry, Lp, RowKind};
 use md_num::NoMemory;
 use std::alloc::Global;

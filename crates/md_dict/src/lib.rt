@@ -18,6 +18,3 @@ mod wide;
 
 pub use dict::Dict;
 pub use refusals::{StartRefusal, TooWide};
-
-#[cfg(test)]
-mod tests;

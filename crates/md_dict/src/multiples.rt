@@ -5,7 +5,7 @@ ghost use Rattle.md_math.specs.Sizes.{AllWithin, IsWithin};
 ghost use Rattle.md_math.specs.Divisors.{Divides};
 ghost use Rattle.md_dict.specs.Multiples.{IsLeastMultiple, IsMultipleOfTwo};
 
-use md_division::{common_divisor, is_within};
+use md_dict_division::{common_divisor, is_within};
 use md_num::{exact_quotient, product};
 
 // Whether a number divides a multiple, both of which have mostly 64 bits.

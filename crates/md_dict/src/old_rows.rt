@@ -5,7 +5,7 @@ ghost use Rattle.md_dict.specs.declared.rows.Rows.{Rows};
 ghost use Rattle.md_dict.specs.RowStep.{AreOldRows, IsCombinationOf, stays_in};
 
 use crate::step::{Step, basic_number};
-use md_least_rows::Combination;
+use md_dict_rows::Combination;
 
 // What a pivot reads of the rows as they were: their denominators and sizes, the numbers of the pivot row, each row's number at the place of the pivot, and a row of zeros.
 #[derive(Clone, Copy)]

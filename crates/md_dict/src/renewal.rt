@@ -12,7 +12,7 @@ use crate::old_rows::OldRows;
 use crate::restore::restore_rows;
 use crate::rows::Rows;
 use crate::step::Step;
-use md_least_rows::Witnesses;
+use md_dict_rows::Witnesses;
 
 // Notes what the pivot needs of the rows as they are.
 fn note(step: &Step, rows: &Rows, draft: &mut Draft)

@@ -3,9 +3,9 @@ ghost use Rattle.std.specs.Prelude.{◌≡◌, ℕ, ◌+◌, ◌-◌, ◌*◌, t
 ghost use Rattle.md_math.specs.Sizes.{AllWithin, IsWithin};
 ghost use Rattle.md_math.specs.Lists.{number_at};
 ghost use Rattle.md_math.specs.Divisors.{Divides};
-ghost use Rattle.md_least_rows.specs.LeastRows.{IsRowSize};
+ghost use Rattle.md_dict_rows.specs.LeastRows.{IsRowSize};
 
-use md_least_rows::row_size;
+use md_dict_rows::row_size;
 use md_num::NoMemory;
 use std::alloc::Global;
 

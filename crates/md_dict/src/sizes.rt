@@ -2,8 +2,8 @@
 ghost use Rattle.std.specs.Prelude.{◌≡◌, ℕ, ◌+◌, ◌*◌, ◌<◌, ◌≤◌, ◌^◌, ◌⊎◌, pos, ◌*ℤ◌, ◌≤ℤ◌, length, slice_set, unsigned_abs, IsTrue};
 ghost use Rattle.md_math.specs.Lists.{number_at};
 ghost use Rattle.md_math.specs.Sizes.{AllWithin, IsWithin};
-ghost use Rattle.md_least_rows.specs.Reduce.{IsGreatestSize};
-ghost use Rattle.md_least_rows.specs.LeastRows.{IsRowSize};
+ghost use Rattle.md_dict_rows.specs.Reduce.{IsGreatestSize};
+ghost use Rattle.md_dict_rows.specs.LeastRows.{IsRowSize};
 
 // A quick test of whether each number is at most the limit in size: the sizes are joined bit by bit, and no size exceeds what comes of it.
 pub fn are_surely_within(numbers: &[i64], limit: u128) -> bool

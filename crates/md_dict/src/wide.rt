@@ -9,7 +9,7 @@ ghost use Rattle.md_dict.specs.Wide.{IsFirstWide, IsNarrow};
 
 use crate::rows::Rows;
 use crate::step::{Step, basic_number};
-use md_division::{Divider, is_within};
+use md_dict_division::{Divider, is_within};
 use md_lp::Entry;
 use md_num::{exact_quotient, product};
 

@@ -1,10 +1,10 @@
 -- What a call answers: what the program says of the words and the two files.
 use Rattle.std.specs.Prelude.{◌≡◌, ◌⊎◌, ℕ, List, [], Option, Some, length}
 use Rattle.std.specs.Str.{IsUtf8}
-use Rattle.md_words.specs.Words.{command_of}
+use Rattle.md_cli_words.specs.Words.{command_of}
 use Rattle.md_top.specs.Promises.{IsComplete, IsHeadlineOf}
 use Rattle.md_top.specs.Reply.{IsSaid}
-use Rattle.md_driver.specs.Saying.{Saying, SinkChange, IsDelivered}
+use Rattle.md_cli_driver.specs.Saying.{Saying, SinkChange, IsDelivered}
 use Rattle.md_embed.specs.Files.{files_in}
 use Rattle.md_embed.specs.Texts.{laid_in}
 use Rattle.md_embed.specs.Words.{words_in}

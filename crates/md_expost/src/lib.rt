@@ -19,6 +19,3 @@ pub use realise_end::RealiseEnd;
 pub use realising::realise;
 pub use refusal::MassRefusal;
 pub use sums::mass_sum;
-
-#[cfg(test)]
-mod tests;

@@ -14,6 +14,3 @@ pub use fair_answer::FairAnswer;
 pub use means::least;
 pub use program::fair_program;
 pub use solving::solve_fair;
-
-#[cfg(test)]
-mod tests;

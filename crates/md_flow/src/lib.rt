@@ -14,6 +14,3 @@ pub use flow_end::FlowEnd;
 pub use net::Net;
 pub use solving::solve;
 pub use steps::Steps;
-
-#[cfg(test)]
-mod tests;

@@ -11,6 +11,3 @@ mod making;
 mod refusal;
 
 pub use making::make;
-
-#[cfg(test)]
-mod tests;

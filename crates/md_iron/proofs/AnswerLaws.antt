@@ -22,16 +22,16 @@ use Rattle.md_reduced.specs.Conditions.{conditions_of}
 use Rattle.md_reduced.specs.ProgramOf.{IsReducedProgram}
 use Rattle.md_parts.specs.Fitting.{IsBoundOver}
 use Rattle.md_claims.specs.AuctionCertificates.{auction_certificate}
-use Rattle.md_virtual.specs.Pools.{Pools}
-use Rattle.md_virtual.specs.VirtualValues.{IsPooledAuction}
-use Rattle.md_virtual.specs.Odds.{interim_of}
-use Rattle.md_virtual.specs.Cuts.{cuts_of}
-use Rattle.md_ironed.specs.Rows.{rows_of}
+use Rattle.md_iron_values.specs.Pools.{Pools}
+use Rattle.md_iron_values.specs.VirtualValues.{IsPooledAuction}
+use Rattle.md_iron_values.specs.Odds.{interim_of}
+use Rattle.md_iron_values.specs.Cuts.{cuts_of}
+use Rattle.md_iron_laws.specs.Rows.{rows_of}
 use Rattle.md_answer.specs.AuctionAnswerTo.{IsAuctionAnswer}
 use Rattle.md_answer.specs.declared.answer.Answer.TheVariants.{AuctionOptimal}
-use Rattle.md_virtual.proofs.DemandLaws.{excess-none}
-use Rattle.md_ironed.proofs.Lists.{closed-certified}
-use Rattle.md_ironed.proofs.Printed.{printed-point}
+use Rattle.md_iron_values.proofs.DemandLaws.{excess-none}
+use Rattle.md_iron_laws.proofs.Lists.{closed-certified}
+use Rattle.md_iron_laws.proofs.Printed.{printed-point}
 use Rattle.md_iron.specs.ShortBounds.{IsBoundIn, IsClosedBound}
 use Rattle.md_iron.proofs.BoundLaws.{rows-count}
 use Rattle.md_iron.proofs.ConditionRows.{condition_in, conditions-rows}

@@ -18,15 +18,15 @@ use Rattle.md_forms.proofs.OneProgram.{same_program}
 use Rattle.md_cert.specs.declared.bound.Bound.{Bound}
 use Rattle.md_reduced.specs.ProgramOf.{column_count, IsReducedProgram}
 use Rattle.md_reduced.specs.Sides.{cost_of}
-use Rattle.md_virtual.specs.Pools.{Pools}
-use Rattle.md_virtual.specs.Cuts.{cuts_of}
-use Rattle.md_virtual.specs.VirtualValues.{IsPooledAuction}
-use Rattle.md_ironed.specs.Rows.{rows_of, row_form}
-use Rattle.md_ironed.specs.Multipliers.{multiplier_num, multiplier_den}
-use Rattle.md_ironed.proofs.Certificates.{row_in, row-inside, factor-positive}
-use Rattle.md_ironed.proofs.Divisors.{row-below, divisor_of, divisor_of-divides}
-use Rattle.md_ironed.proofs.Fractions.{den-positive}
-use Rattle.md_ironed.proofs.ProgramForms.{is-program}
+use Rattle.md_iron_values.specs.Pools.{Pools}
+use Rattle.md_iron_values.specs.Cuts.{cuts_of}
+use Rattle.md_iron_values.specs.VirtualValues.{IsPooledAuction}
+use Rattle.md_iron_laws.specs.Rows.{rows_of, row_form}
+use Rattle.md_iron_laws.specs.Multipliers.{multiplier_num, multiplier_den}
+use Rattle.md_iron_laws.proofs.Certificates.{row_in, row-inside, factor-positive}
+use Rattle.md_iron_laws.proofs.Divisors.{row-below, divisor_of, divisor_of-divides}
+use Rattle.md_iron_laws.proofs.Fractions.{den-positive}
+use Rattle.md_iron_laws.proofs.ProgramForms.{is-program}
 use Rattle.md_iron.specs.RowMultipliers.{IsDividedBy, AreRowMultipliers}
 use Rattle.md_iron.specs.Shares.{fraction_in, AreLeastFractions, AreOver}
 use Rattle.md_iron.specs.ShortBounds.{AreShortMultipliers, IsClosedBound, HasNoShortBound}

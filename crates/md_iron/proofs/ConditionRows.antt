@@ -24,12 +24,12 @@ use Rattle.md_reduced.specs.declared.condition.ReducedCondition.{ReducedConditio
 use Rattle.md_reduced.specs.declared.condition.ReducedCondition.TheVariants.{Truth, Rational, Cut}
 use Rattle.md_reduced.specs.Conditions.{conditions_of}
 use Rattle.md_reduced.specs.ProgramOf.{IsReducedProgram}
-use Rattle.md_virtual.specs.Pools.{Pools}
-use Rattle.md_virtual.specs.Cuts.{begins, set_from, cuts_of}
-use Rattle.md_ironed.specs.Rows.{ProgramRow, truth_row, rational_row, cut_row, cut_rows, rows_of, row_right}
-use Rattle.md_ironed.proofs.Divisors.{row-in, line-of, cut-right-positive}
-use Rattle.md_ironed.proofs.Lists.{map-cut_rows}
-use Rattle.md_ironed.proofs.ProgramForms.{map-parts}
+use Rattle.md_iron_values.specs.Pools.{Pools}
+use Rattle.md_iron_values.specs.Cuts.{begins, set_from, cuts_of}
+use Rattle.md_iron_laws.specs.Rows.{ProgramRow, truth_row, rational_row, cut_row, cut_rows, rows_of, row_right}
+use Rattle.md_iron_laws.proofs.Divisors.{row-in, line-of, cut-right-positive}
+use Rattle.md_iron_laws.proofs.Lists.{map-cut_rows}
+use Rattle.md_iron_laws.proofs.ProgramForms.{map-parts}
 use Rattle.md_iron.specs.RowMultipliers.{IsMultiplierOf, IsMultiplierAt}
 
 -- ---- all conditions

@@ -2,12 +2,12 @@
 use Rattle.std.proofs.Common.{◌≡◌, ◌≢◌, ℕ, ◌+◌, ℤ, pos, ◌+ℤ◌, ◌*ℤ◌, refl, sym, ap, ◌∙◌, eq-eqb, ne_eqb}
 use Rattle.md_num.specs.declared.frac.Frac.{Frac}
 use Rattle.md_setting.specs.Auction.{SymmetricAuction, total_weight}
-use Rattle.md_virtual.specs.Gaps.{gap_in, scale_in}
-use Rattle.md_virtual.specs.Odds.{share_den}
-use Rattle.md_virtual.specs.Pools.{Pools}
-use Rattle.md_virtual.specs.VirtualValues.{weight_from}
-use Rattle.md_ironed.specs.Multipliers.{apart_by, steeper_by, steeper_den}
-use Rattle.md_ironed.specs.Rows.{truth_row, rational_row, cut_row}
+use Rattle.md_iron_values.specs.Gaps.{gap_in, scale_in}
+use Rattle.md_iron_values.specs.Odds.{share_den}
+use Rattle.md_iron_values.specs.Pools.{Pools}
+use Rattle.md_iron_values.specs.VirtualValues.{weight_from}
+use Rattle.md_iron_laws.specs.Multipliers.{apart_by, steeper_by, steeper_den}
+use Rattle.md_iron_laws.specs.Rows.{truth_row, rational_row, cut_row}
 use Rattle.md_iron.specs.RowMultipliers.{IsMultiplierOf}
 
 -- a fraction that is known by other names of its numbers

@@ -13,11 +13,11 @@ use Rattle.md_border.proofs.DemandLaws.{total-positive}
 use Rattle.md_expost.specs.declared.masses.Masses.{Masses}
 use Rattle.md_cert.specs.declared.bound.Bound.{Bound}
 use Rattle.md_reduced.specs.ProgramOf.{IsReducedProgram}
-use Rattle.md_virtual.specs.Pools.{Pools}
-use Rattle.md_virtual.specs.VirtualValues.{weight_to, virtual_to}
-use Rattle.md_virtual.proofs.AuctionLaws.{share_den-positive}
-use Rattle.md_pools.specs.ByRule.{IsAuctionByRule, AreSamePools}
-use Rattle.md_pools.proofs.RuleLaws.{one-by_rule}
+use Rattle.md_iron_values.specs.Pools.{Pools}
+use Rattle.md_iron_values.specs.VirtualValues.{weight_to, virtual_to}
+use Rattle.md_iron_values.proofs.AuctionLaws.{share_den-positive}
+use Rattle.md_iron_pools.specs.ByRule.{IsAuctionByRule, AreSamePools}
+use Rattle.md_iron_pools.proofs.RuleLaws.{one-by_rule}
 use Rattle.md_iron.specs.ClosedForms.{IsClosedForm, IsOneForm}
 use Rattle.md_iron.specs.ShortBounds.{HasNoShortBound, IsClosedBound}
 use Rattle.md_iron.proofs.SamePools.{same-interim, same-cuts, same-short}

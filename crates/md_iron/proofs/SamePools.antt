@@ -8,17 +8,17 @@ use Rattle.md_math.proofs.SumLaws.{sum_to-same}
 use Rattle.md_setting.specs.Auction.{SymmetricAuction, value_count}
 use Rattle.md_lp.specs.Program.{Program}
 use Rattle.md_mech.specs.Rows.{by_report}
-use Rattle.md_virtual.specs.Pools.{Pools, over_pool}
-use Rattle.md_virtual.specs.Odds.{step_of, share_den, odds_in, pay_in_pools, interim_of}
-use Rattle.md_virtual.specs.Cuts.{begins, set_from, cuts_of}
-use Rattle.md_virtual.specs.Gaps.{scale_in, gap_in}
-use Rattle.md_virtual.specs.VirtualValues.{weight_to, weight_from, virtual_to}
-use Rattle.md_ironed.specs.Multipliers.{apart_by, sum_before, weight_of_before, multiplier_num, multiplier_den}
-use Rattle.md_ironed.specs.Rows.{ProgramRow, truth_row, rational_row, cut_row, rows_of}
-use Rattle.md_ironed.specs.RowsIn.{IsRowIn}
-use Rattle.md_ironed.proofs.Divisors.{row-below}
-use Rattle.md_ironed.proofs.ProgramForms.{rows-in}
-use Rattle.md_pools.specs.ByRule.{AreSamePools}
+use Rattle.md_iron_values.specs.Pools.{Pools, over_pool}
+use Rattle.md_iron_values.specs.Odds.{step_of, share_den, odds_in, pay_in_pools, interim_of}
+use Rattle.md_iron_values.specs.Cuts.{begins, set_from, cuts_of}
+use Rattle.md_iron_values.specs.Gaps.{scale_in, gap_in}
+use Rattle.md_iron_values.specs.VirtualValues.{weight_to, weight_from, virtual_to}
+use Rattle.md_iron_laws.specs.Multipliers.{apart_by, sum_before, weight_of_before, multiplier_num, multiplier_den}
+use Rattle.md_iron_laws.specs.Rows.{ProgramRow, truth_row, rational_row, cut_row, rows_of}
+use Rattle.md_iron_laws.specs.RowsIn.{IsRowIn}
+use Rattle.md_iron_laws.proofs.Divisors.{row-below}
+use Rattle.md_iron_laws.proofs.ProgramForms.{rows-in}
+use Rattle.md_iron_pools.specs.ByRule.{AreSamePools}
 use Rattle.md_iron.specs.ShortBounds.{AreShortMultipliers}
 
 -- ---- odds and payments

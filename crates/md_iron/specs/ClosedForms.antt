@@ -7,10 +7,10 @@ use Rattle.md_border.specs.Worth.{IsWorthOf}
 use Rattle.md_expost.specs.declared.masses.Masses.{Masses}
 use Rattle.md_expost.specs.Implementing.{Implements}
 use Rattle.md_cert.specs.declared.bound.Bound.{Bound}
-use Rattle.md_virtual.specs.Pools.{Pools}
-use Rattle.md_virtual.specs.Odds.{interim_of}
-use Rattle.md_virtual.specs.Cuts.{cuts_of}
-use Rattle.md_pools.specs.ByRule.{IsAuctionByRule}
+use Rattle.md_iron_values.specs.Pools.{Pools}
+use Rattle.md_iron_values.specs.Odds.{interim_of}
+use Rattle.md_iron_values.specs.Cuts.{cuts_of}
+use Rattle.md_iron_pools.specs.ByRule.{IsAuctionByRule}
 use Rattle.md_answer.specs.declared.answer.Answer.{Answer}
 use Rattle.md_answer.specs.declared.answer.Answer.TheVariants.{AuctionOptimal}
 use Rattle.md_iron.specs.ShortBounds.{HasNoShortBound, IsClosedBound}

@@ -3,9 +3,9 @@ use Rattle.std.specs.Prelude.{◌≡◌, ℕ, ◌<◌, ℤ, ◌*ℤ◌, List, sl
 use Rattle.md_num.specs.declared.frac.Frac.{Frac}
 use Rattle.md_setting.specs.Auction.{SymmetricAuction, value_count}
 use Rattle.md_lp.specs.Program.{Program, right_at}
-use Rattle.md_virtual.specs.Pools.{Pools}
-use Rattle.md_ironed.specs.Rows.{ProgramRow, cut_row, rows_of, row_right}
-use Rattle.md_ironed.specs.Multipliers.{multiplier_num, multiplier_den}
+use Rattle.md_iron_values.specs.Pools.{Pools}
+use Rattle.md_iron_laws.specs.Rows.{ProgramRow, cut_row, rows_of, row_right}
+use Rattle.md_iron_laws.specs.Multipliers.{multiplier_num, multiplier_den}
 use Rattle.md_iron.specs.Shares.{fraction_in}
 
 -- the row of the cut that a value begins with was divided by the number at that value

@@ -6,9 +6,9 @@ use Rattle.md_setting.specs.Auction.{SymmetricAuction, value_count}
 use Rattle.md_lp.specs.Program.{Program, row_count}
 use Rattle.md_cert.specs.declared.bound.Bound.{Bound}
 use Rattle.md_reduced.specs.ProgramOf.{IsReducedProgram}
-use Rattle.md_virtual.specs.Pools.{Pools}
-use Rattle.md_virtual.specs.Cuts.{cuts_of}
-use Rattle.md_ironed.specs.Multipliers.{AreMultipliers}
+use Rattle.md_iron_values.specs.Pools.{Pools}
+use Rattle.md_iron_values.specs.Cuts.{cuts_of}
+use Rattle.md_iron_laws.specs.Multipliers.{AreMultipliers}
 use Rattle.md_check.specs.Programs.{OfProgram}
 
 -- the multipliers `main` over `over` of the rows are those that certify the pools, and all these numbers have at most 62 bits

@@ -12,8 +12,8 @@ use crate::bounds::closed_bound;
 use md_answer::Answer;
 use md_border::{Interim, auction_worth};
 use md_expost::{Masses, RealiseEnd, realise};
+use md_iron_pools::{cuts, interim, pool};
 use md_num::NoMemory;
-use md_pools::{cuts, interim, pool};
 use md_setting::Auction;
 use std::alloc::Global;
 

@@ -2,16 +2,16 @@
 ghost use Rattle.std.specs.Prelude.{◌≡◌, length, IfOk, MatchOption};
 ghost use Rattle.md_setting.specs.Auction.{value_count};
 ghost use Rattle.md_lp.specs.Cuts.{AreCuts};
-ghost use Rattle.md_virtual.specs.Cuts.{cuts_of};
-ghost use Rattle.md_pools.specs.Pooling.{IsPooling, pools_of};
+ghost use Rattle.md_iron_values.specs.Cuts.{cuts_of};
+ghost use Rattle.md_iron_pools.specs.Pooling.{IsPooling, pools_of};
 ghost use Rattle.md_iron.specs.ShortBounds.{HasNoShortBound, IsClosedBound};
 
 use crate::rows::multipliers;
 use crate::shares::over_one;
 use md_cert::Bound;
+use md_iron_pools::AuctionPools;
 use md_lp::Sets;
 use md_num::NoMemory;
-use md_pools::AuctionPools;
 use md_reduced::program;
 use md_setting::Auction;
 use std::alloc::Global;

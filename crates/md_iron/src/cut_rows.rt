@@ -5,18 +5,18 @@ ghost use Rattle.md_math.specs.Sizes.{IsWithin};
 ghost use Rattle.md_setting.specs.Auction.{value_count};
 ghost use Rattle.md_lp.specs.Program.{right_at, row_count};
 ghost use Rattle.md_border.specs.Sides.{right_by_counts};
-ghost use Rattle.md_virtual.specs.Odds.{share_den};
-ghost use Rattle.md_ironed.specs.Multipliers.{steeper_by, steeper_den, sum_before, weight_of_before};
-ghost use Rattle.md_ironed.specs.Rows.{cut_row};
-ghost use Rattle.md_pools.specs.Pooling.{IsPooling, pools_of};
+ghost use Rattle.md_iron_values.specs.Odds.{share_den};
+ghost use Rattle.md_iron_laws.specs.Multipliers.{steeper_by, steeper_den, sum_before, weight_of_before};
+ghost use Rattle.md_iron_laws.specs.Rows.{cut_row};
+ghost use Rattle.md_iron_pools.specs.Pooling.{IsPooling, pools_of};
 ghost use Rattle.md_iron.specs.RowMultipliers.{IsMultiplierOf};
 ghost use Rattle.md_iron.specs.Shares.{IsLeastFraction};
 
 use crate::truth_rows::least_terms;
 use md_border::right_side;
+use md_iron_pools::{AuctionPools, Chord, chord_of, share_of_all};
 use md_lp::Lp;
 use md_num::{Frac, cross_difference, exact_quotient, product};
-use md_pools::{AuctionPools, Chord, chord_of, share_of_all};
 use md_setting::Auction;
 
 /// What the row of the cut is multiplied by that a value begins with, whose row was divided by `divisor`.

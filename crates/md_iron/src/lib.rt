@@ -14,6 +14,3 @@ mod truth_rows;
 
 pub use ironed::Ironed;
 pub use ironing::iron;
-
-#[cfg(test)]
-mod tests;

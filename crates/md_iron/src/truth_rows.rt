@@ -2,17 +2,17 @@
 ghost use Rattle.std.specs.Prelude.{◌≡◌, ℕ, ◌+◌, ◌*◌, ◌<◌, ◌^◌, ℤ, pos, ◌+ℤ◌, ◌*ℤ◌, ◌<ℤ◌, unsigned_abs};
 ghost use Rattle.md_math.specs.Sizes.{IsWithin};
 ghost use Rattle.md_setting.specs.Auction.{total_weight, value_count};
-ghost use Rattle.md_virtual.specs.Gaps.{gap_in, scale_in};
-ghost use Rattle.md_virtual.specs.Pools.{Pools};
-ghost use Rattle.md_virtual.specs.VirtualValues.{weight_from};
-ghost use Rattle.md_ironed.specs.Multipliers.{apart_by};
-ghost use Rattle.md_ironed.specs.Rows.{truth_row, rational_row};
-ghost use Rattle.md_pools.specs.Pooling.{IsPooling, pools_of};
+ghost use Rattle.md_iron_values.specs.Gaps.{gap_in, scale_in};
+ghost use Rattle.md_iron_values.specs.Pools.{Pools};
+ghost use Rattle.md_iron_values.specs.VirtualValues.{weight_from};
+ghost use Rattle.md_iron_laws.specs.Multipliers.{apart_by};
+ghost use Rattle.md_iron_laws.specs.Rows.{truth_row, rational_row};
+ghost use Rattle.md_iron_pools.specs.Pooling.{IsPooling, pools_of};
 ghost use Rattle.md_iron.specs.RowMultipliers.{IsMultiplierOf};
 ghost use Rattle.md_iron.specs.Shares.{IsLeastFraction};
 
+use md_iron_pools::{AuctionPools, chord_gap, weight_from};
 use md_num::{Frac, add_product, product};
-use md_pools::{AuctionPools, chord_gap, weight_from};
 use md_setting::Auction;
 
 /// What the row is multiplied by that says that a bidder with a value does not gain by telling another one: 0 but between

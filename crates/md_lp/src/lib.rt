@@ -26,6 +26,3 @@ pub use row_kind::RowKind;
 pub use sets::Sets;
 pub use term::Term;
 pub use wide::Wide;
-
-#[cfg(test)]
-mod tests;

@@ -76,22 +76,3 @@ impl Nums {
         self.items.as_slice()
     }
 }
-
-#[cfg(test)]
-mod tests {
-    use super::*;
-    use std::test::Fail;
-
-    #[test]
-    fn holds_what_was_pushed(rt: HostRuntime) -> Result<(), Fail> {
-        let mut nums = Nums::new(rt.alloc());
-        assert!(rt; nums.is_empty());
-        nums.push(-7)?;
-        nums.push(170141183460469231731687303715884105727)?;
-        assert_eq!(rt;
-            nums.as_slice(),
-            [-7, 170141183460469231731687303715884105727].as_slice()
-        );
-        Ok(())
-    }
-}

@@ -153,20 +153,3 @@ pub fn write_whole(x: i128, to: &mut Vec<u8>) -> Result<(), NoMemory>
     to.extend_from_slice(buffer.format(x).as_bytes())?;
     Ok(())
 }
-
-#[cfg(test)]
-mod tests {
-    use super::*;
-    use std::test::Fail;
-
-    #[test]
-    fn writes_after_what_is_there(rt: HostRuntime) -> Result<(), Fail> {
-        let mut text = Vec::from_slice(rt.alloc(), b"at ")?;
-        write_whole(-1208925819614629174706176, &mut text)?;
-        assert_eq!(rt;
-            text.as_slice(),
-            b"at -1208925819614629174706176".as_slice()
-        );
-        Ok(())
-    }
-}

@@ -31,6 +31,3 @@ pub use reader::Reader;
 pub use refusal::AnswerRefusal;
 pub use value::{push_value, read_value};
 pub use version::Version;
-
-#[cfg(test)]
-mod tests;

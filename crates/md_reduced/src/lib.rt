@@ -14,6 +14,3 @@ pub use condition::{ReducedCondition, condition_at, row_count};
 pub use interim::interim_of;
 pub use names::row_name;
 pub use reduced::{program, program_with};
-
-#[cfg(test)]
-mod tests;

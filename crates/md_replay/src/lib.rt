@@ -9,6 +9,3 @@ mod text;
 pub use carrying::replay;
 pub use outcome::{Followed, Replay, ReplayError};
 pub use text::replay_text;
-
-#[cfg(test)]
-mod tests;

@@ -27,6 +27,3 @@ pub use report::Report;
 pub use type_numbers::TypeNumbers;
 pub use worst::Worst;
 pub use worst_records::with_fraction;
-
-#[cfg(test)]
-mod tests;

@@ -11,6 +11,3 @@ mod solving;
 pub use flow_end::FlowEnd;
 pub use net::Net;
 pub use solving::solve;
-
-#[cfg(test)]
-mod tests;

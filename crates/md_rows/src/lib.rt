@@ -13,6 +13,3 @@ mod terms;
 pub use mechanisms::{mechanism_of, payments_of};
 pub use points::point_of;
 pub use program::{push_rows, rows_of};
-
-#[cfg(test)]
-mod tests;

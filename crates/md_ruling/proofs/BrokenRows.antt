@@ -8,7 +8,7 @@ use Rattle.md_setting.specs.Meaning.{outcome_count}
 use Rattle.md_mech.specs.declared.broken.Broken.{Broken}
 use Rattle.md_mech.specs.declared.mechanism.Mechanism.{Mechanism}
 use Rattle.md_mech.specs.Rows.{Condition, IsFirstBroken, conditions_of}
-use Rattle.md_branching.specs.Fixed.{children_of}
+use Rattle.md_determ_branching.specs.Fixed.{children_of}
 use Rattle.md_tree.specs.Verdicts.{IsFirstLeafFault, IsVerdict}
 use Rattle.md_tree.specs.declared.answer.DetAnswer.{DetAnswer}
 use Rattle.md_tree.specs.declared.answer.DetAnswer.TheVariants as answers

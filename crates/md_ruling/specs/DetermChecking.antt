@@ -11,9 +11,9 @@ use Rattle.md_tree.specs.declared.verdict.DetVerdict.{DetVerdict}
 use Rattle.md_tree.specs.declared.verdict.DetVerdict.TheVariants.{Valid, Undecided}
 use Rattle.md_tree.specs.Verdicts.{ClaimHolds, ClaimsNothing, IsVerdict}
 use Rattle.md_tree_text.specs.Answers.{determ_answer_of}
-use Rattle.md_driver.specs.declared.refusal.Refusal.{Refusal}
-use Rattle.md_driver.specs.declared.refusal.Refusal.TheVariants as refusal
-use Rattle.md_driver.specs.Saying.{Saying}
+use Rattle.md_cli_driver.specs.declared.refusal.Refusal.{Refusal}
+use Rattle.md_cli_driver.specs.declared.refusal.Refusal.TheVariants as refusal
+use Rattle.md_cli_driver.specs.Saying.{Saying}
 use Rattle.md_ruling.specs.Verdicts.{TellsVerdict}
 
 -- the text where it says an answer, and else the reason to refuse it

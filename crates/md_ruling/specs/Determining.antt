@@ -10,7 +10,7 @@ use Rattle.md_tree.specs.Verdicts.{ClaimHolds, ClaimsNothing, IsVerdict}
 use Rattle.md_tree_text.specs.Answers.{determ_answer_of}
 use Rattle.md_tree_text.specs.Rows.{text_of_determ}
 use Rattle.md_determ.specs.Search.{IsSearched}
-use Rattle.md_driver.specs.Saying.{Saying}
+use Rattle.md_cli_driver.specs.Saying.{Saying}
 
 -- the status of each kind of answer
 abbrev pub status_of_determ : DetAnswer → ℕ

@@ -9,7 +9,7 @@ use Rattle.md_tree.specs.declared.verdict.DetReject.{DetReject}
 use Rattle.md_tree.specs.declared.verdict.DetReject.TheVariants.{Lottery, Audit, Value, Leaf, Worth, Root}
 use Rattle.md_tree.specs.declared.verdict.DetVerdict.{DetVerdict}
 use Rattle.md_tree.specs.declared.verdict.DetVerdict.TheVariants.{Valid, Undecided, Rejected}
-use Rattle.md_driver.specs.Saying.{Saying}
+use Rattle.md_cli_driver.specs.Saying.{Saying}
 
 abbrev pub valid_text : List ℕ
 valid_text = codes "valid" ++ 10 ∷ []

@@ -1,11 +1,11 @@
 //! The command `determ`: the best deterministic mechanism of a setting, or why there is none.
 ghost use Rattle.std.specs.Prelude.{◌≡◌, IfOk};
-ghost use Rattle.md_driver.specs.Reading.{is_general};
-ghost use Rattle.md_driver.specs.Saying.{said};
+ghost use Rattle.md_cli_driver.specs.Reading.{is_general};
+ghost use Rattle.md_cli_driver.specs.Saying.{said};
 ghost use Rattle.md_ruling.specs.Determining.{IsDeterm, IsDetermStatus, IsDetermined, status_of_determ};
 
+use md_cli_driver::{Answered, OneFile, Refusal, general, is_general};
 use md_determ::solve_determ;
-use md_driver::{Answered, OneFile, Refusal, general, is_general};
 use md_num::{NoMemory, Width};
 use md_setting::{Setting, SettingFile};
 use md_tree::DetAnswer;

@@ -7,13 +7,13 @@ ghost use Rattle.md_mech.specs.Rows.{conditions_of};
 ghost use Rattle.md_records.specs.Written.{record_text};
 ghost use Rattle.md_tree.specs.declared.verdict.DetReject.TheVariants as rejects;
 ghost use Rattle.md_tree_check.specs.Texts.{IsCheckedText, IsReadText};
-ghost use Rattle.md_driver.specs.Reading.{is_general};
-ghost use Rattle.md_driver.specs.Saying.{said};
+ghost use Rattle.md_cli_driver.specs.Reading.{is_general};
+ghost use Rattle.md_cli_driver.specs.Saying.{said};
 ghost use Rattle.md_ruling.specs.DetermChecking.{IsDetermCheck, IsDetermCheckStatus, IsDetermCheckedText, determ_text_in};
 ghost use Rattle.md_ruling.specs.Verdicts.{IsRejected, rejected};
 
 use crate::answer_text::AnswerText;
-use md_driver::{Answered, Refusal, TwoFiles, general, is_general};
+use md_cli_driver::{Answered, Refusal, TwoFiles, general, is_general};
 use md_mech::{Broken, row_name};
 use md_num::NoMemory;
 use md_records::{Row, write_records};

@@ -16,6 +16,3 @@ mod reports;
 pub use drawing::draw;
 pub use drawn::Drawn;
 pub use refusal::DrawRefusal;
-
-#[cfg(test)]
-mod tests;

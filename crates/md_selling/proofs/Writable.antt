@@ -7,12 +7,12 @@ use Rattle.md_lp.specs.Program.{Program}
 use Rattle.md_cert.specs.Fitting.{FitsBound, FitsRows}
 use Rattle.md_cert.specs.declared.bound.Bound.{Bound}
 use Rattle.md_parts.specs.Fitting.{AreMultipliers, IsBoundOver}
-use Rattle.md_sale.specs.Conditions.{conditions_of}
-use Rattle.md_sale.specs.ProgramOf.{IsSaleProgram}
-use Rattle.md_sale.specs.Values.{pairs_of}
-use Rattle.md_sale.proofs.BuiltLaws.{rows-count}
-use Rattle.md_pairs.specs.Odds.{AreOdds}
-use Rattle.md_pairs.specs.Tables.{IsProfileTable}
+use Rattle.md_asym_sale.specs.Conditions.{conditions_of}
+use Rattle.md_asym_sale.specs.ProgramOf.{IsSaleProgram}
+use Rattle.md_asym_sale.specs.Values.{pairs_of}
+use Rattle.md_asym_sale.proofs.BuiltLaws.{rows-count}
+use Rattle.md_asym_tables.specs.Odds.{AreOdds}
+use Rattle.md_asym_tables.specs.Tables.{IsProfileTable}
 use Rattle.md_asym.specs.Solved.{IsSolvedSale}
 use Rattle.md_asym.specs.declared.asym_answer.AsymAnswer.{AsymAnswer}
 use Rattle.md_selling.specs.SaleTexts.{IsWritable}

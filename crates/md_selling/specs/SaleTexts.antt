@@ -11,9 +11,9 @@ use Rattle.md_records.specs.Written.{text_of_records}
 use Rattle.md_parts.specs.declared.version.Version.TheVariants.{One}
 use Rattle.md_parts.specs.Fitting.{IsBoundOver}
 use Rattle.md_parts.specs.Rows.{bound_rows, cut_rows, end_row, first_row, number_row, profile_rows, value_row}
-use Rattle.md_sale.specs.Conditions.{conditions_of}
-use Rattle.md_sale.specs.Pairs.{pair_number}
-use Rattle.md_sale.specs.Values.{pairs_of}
+use Rattle.md_asym_sale.specs.Conditions.{conditions_of}
+use Rattle.md_asym_sale.specs.Pairs.{pair_number}
+use Rattle.md_asym_sale.specs.Values.{pairs_of}
 use Rattle.md_asym.specs.declared.asym_answer.AsymAnswer.{AsymAnswer}
 
 -- the texts of the numbers of a bidder's types, in their order

@@ -8,15 +8,15 @@ use Rattle.md_mech.specs.Optimal.{IsOptimal}
 use Rattle.md_mech.specs.Value.{IsValueOf}
 use Rattle.md_cuts.specs.CutRuns.{EndsSettled, EndsWide}
 use Rattle.md_cuts.specs.declared.optimum.Optimum.{Optimum}
-use Rattle.md_sale.specs.Sale.{IsSale}
-use Rattle.md_pairs.specs.Odds.{AreOdds, HasOdds, HasPays}
-use Rattle.md_pairs.specs.Tables.{IsProfileTable, Implements}
+use Rattle.md_asym_sale.specs.Sale.{IsSale}
+use Rattle.md_asym_tables.specs.Odds.{AreOdds, HasOdds, HasPays}
+use Rattle.md_asym_tables.specs.Tables.{IsProfileTable, Implements}
 use Rattle.md_asym.specs.SaleCuts.{sale_cutting}
 use Rattle.md_asym.specs.Solved.{IsSolvedSale, mechanism_in}
 use Rattle.md_asym.specs.declared.asym_answer.AsymAnswer.{AsymAnswer}
-use Rattle.md_driver.specs.declared.refusal.Refusal.TheVariants as refusal
-use Rattle.md_driver.specs.Refused.{refused}
-use Rattle.md_driver.specs.Saying.{Saying}
+use Rattle.md_cli_driver.specs.declared.refusal.Refusal.TheVariants as refusal
+use Rattle.md_cli_driver.specs.Refused.{refused}
+use Rattle.md_cli_driver.specs.Saying.{Saying}
 use Rattle.md_selling.specs.SaleTexts.{text_of_sale}
 use Rattle.md_selling.specs.WideTexts.{text_of_wide}
 

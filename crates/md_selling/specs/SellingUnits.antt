@@ -15,7 +15,7 @@ use Rattle.md_unit_tables.specs.Tables.{ImplementsUnits, IsUnitTable, table_of}
 use Rattle.md_units.specs.Solved.{IsSolvedUnits, mechanism_in}
 use Rattle.md_units.specs.UnitCuts.{unit_cutting}
 use Rattle.md_units.specs.declared.units_answer.UnitsAnswer.{UnitsAnswer}
-use Rattle.md_driver.specs.Saying.{Saying}
+use Rattle.md_cli_driver.specs.Saying.{Saying}
 use Rattle.md_selling.specs.UnitTexts.{text_of_units}
 use Rattle.md_selling.specs.WideTexts.{text_of_wide}
 

@@ -1,18 +1,18 @@
 //! The command `asym`: the best mechanism of a sale of one item to bidders who differ.
 ghost use Rattle.std.specs.Prelude.{◌≡◌, ◌⊎◌, IfErr, IfOk};
-ghost use Rattle.md_sale.specs.Sale.{IsSale};
-ghost use Rattle.md_driver.specs.declared.refusal.Refusal.TheVariants as refusal;
-ghost use Rattle.md_driver.specs.Reading.{is_general};
-ghost use Rattle.md_driver.specs.Refused.{refused, status_of};
-ghost use Rattle.md_driver.specs.Saying.{said};
+ghost use Rattle.md_asym_sale.specs.Sale.{IsSale};
+ghost use Rattle.md_cli_driver.specs.declared.refusal.Refusal.TheVariants as refusal;
+ghost use Rattle.md_cli_driver.specs.Reading.{is_general};
+ghost use Rattle.md_cli_driver.specs.Refused.{refused, status_of};
+ghost use Rattle.md_cli_driver.specs.Saying.{said};
 ghost use Rattle.md_selling.specs.Selling.{IsAsym, IsAsymOf, IsAsymStatus, IsSelling};
 
 use crate::asym_text::answer_text;
 use crate::wide_text::wide_text;
 use md_asym::{AsymError, solve_asym};
-use md_driver::{Answered, OneFile, Refusal, general, is_general};
+use md_asym_sale::is_sale;
+use md_cli_driver::{Answered, OneFile, Refusal, general, is_general};
 use md_num::{NoMemory, Width};
-use md_sale::is_sale;
 use md_setting::{Setting, SettingFile};
 use std::alloc::Global;
 

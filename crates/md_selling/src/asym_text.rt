@@ -4,17 +4,17 @@ ghost use Rattle.md_space.specs.Profiles.{profile_count};
 ghost use Rattle.md_setting.specs.Meaning.{agent_count, sizes_of};
 ghost use Rattle.md_records.specs.Written.{text_of_records};
 ghost use Rattle.md_parts.specs.Rows.{profile_rows};
-ghost use Rattle.md_sale.specs.Sale.{IsSale};
-ghost use Rattle.md_sale.specs.Values.{pairs_of};
+ghost use Rattle.md_asym_sale.specs.Sale.{IsSale};
+ghost use Rattle.md_asym_sale.specs.Values.{pairs_of};
 ghost use Rattle.md_selling.specs.SaleTexts.{IsWritable, agent_row, agent_rows, text_of_sale, type_texts};
 
 use md_asym::AsymAnswer;
+use md_asym_sale::{agents, pair_number, row_count};
 use md_num::{NoMemory, Nums};
 use md_parts::{
     Version, push_bound, push_cuts, push_end, push_first, push_numbers, push_pays, push_value,
 };
 use md_records::{Row, write_records};
-use md_sale::{agents, pair_number, row_count};
 use md_setting::Setting;
 use std::alloc::Global;
 

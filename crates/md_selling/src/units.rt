@@ -1,16 +1,16 @@
 //! The command `units`: the best mechanism that sells some identical units to bidders who each want one.
 ghost use Rattle.std.specs.Prelude.{◌≡◌, IfOk};
 ghost use Rattle.md_units.specs.Numbers.{IsUnitNumber};
-ghost use Rattle.md_driver.specs.declared.refusal.Refusal.TheVariants as refusal;
-ghost use Rattle.md_driver.specs.Reading.{is_auction};
-ghost use Rattle.md_driver.specs.Refused.{refused};
-ghost use Rattle.md_driver.specs.Saying.{said};
+ghost use Rattle.md_cli_driver.specs.declared.refusal.Refusal.TheVariants as refusal;
+ghost use Rattle.md_cli_driver.specs.Reading.{is_auction};
+ghost use Rattle.md_cli_driver.specs.Refused.{refused};
+ghost use Rattle.md_cli_driver.specs.Saying.{said};
 ghost use Rattle.md_selling.specs.SellingUnits.{IsUnitSelling, IsUnits, IsUnitsStatus};
 
 use crate::unit_number::UnitNumber;
 use crate::units_text::answer_text;
 use crate::wide_text::wide_text;
-use md_driver::{Answered, NoFile, OneFile, Refusal, auction, is_auction};
+use md_cli_driver::{Answered, NoFile, OneFile, Refusal, auction, is_auction};
 use md_num::{NoMemory, Width};
 use md_setting::{Auction, SettingFile};
 use md_units::{UnitsError, solve_units};

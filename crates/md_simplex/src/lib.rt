@@ -20,6 +20,3 @@ pub use rules::next;
 pub use runs::run;
 pub use simplex_error::SimplexError;
 pub use step::Step;
-
-#[cfg(test)]
-mod tests;

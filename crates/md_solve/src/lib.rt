@@ -7,8 +7,3 @@ mod general;
 mod solving;
 
 pub use solving::solve;
-
-#[cfg(test)]
-mod auction_tests;
-#[cfg(test)]
-mod tests;

@@ -12,7 +12,7 @@ use Rattle.md_check.specs.AuctionVerdicts.{AuctionClaimHolds, IsAuctionVerdict}
 use Rattle.md_check.specs.declared.verdict.Verdict.TheVariants.{Valid}
 use Rattle.md_iron.specs.ClosedForms.{IsClosedAnswer, IsOneAnswer}
 use Rattle.md_solving.specs.Ironing.{PrintsClosedForm}
-use Rattle.md_driver.specs.Reading.{is_auction}
+use Rattle.md_cli_driver.specs.Reading.{is_auction}
 
 -- an auction is not general
 pub not-general : (file : SettingFile) → is_auction file ≡ true → ¬ IsGeneral file

@@ -19,10 +19,10 @@ use Rattle.md_check.proofs.AuctionLaws.{if_sound_auction}
 use Rattle.md_check.proofs.VerdictLaws.{sound-valid}
 use Rattle.md_solving.specs.AuctionHeadline.{IsAuctionHeadline}
 use Rattle.md_solving.specs.Checking.{IsVerdictOn}
-use Rattle.md_driver.specs.Reading.{answer_in, answer_or_refusal}
+use Rattle.md_cli_driver.specs.Reading.{answer_in, answer_or_refusal}
 use Rattle.md_solving.specs.Drilling.{IsReadable, sure_verdict}
 use Rattle.md_solving.specs.Headline.{IsHeadline, IsSolveStatus}
-use Rattle.md_driver.specs.Saying.{Saying}
+use Rattle.md_cli_driver.specs.Saying.{Saying}
 use Rattle.md_solving.specs.Solving.{IsSolve}
 
 -- a text says one answer

@@ -23,7 +23,7 @@ use Rattle.md_fair.specs.Shown.{IsSo}
 use Rattle.md_fair.specs.Solved.{IsFairlySolved, IsFairlyWide}
 use Rattle.md_solving.specs.Fair.{IsFairSaying, status_of_fair, text_of_fair, text_of_wide}
 use Rattle.md_solving.specs.Headline.{IsEndStatus}
-use Rattle.md_driver.specs.Saying.{Saying}
+use Rattle.md_cli_driver.specs.Saying.{Saying}
 
 -- what is known of an answer: what it claims is so, and it tells what the paths come to
 pub record IsShownFair (s : GeneralSetting) (width : ℕ) (answer : FairAnswer) : Type 0 where

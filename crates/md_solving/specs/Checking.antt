@@ -6,7 +6,7 @@ use Rattle.md_answer.specs.declared.answer.Answer.{Answer}
 use Rattle.md_check.specs.declared.verdict.Verdict.{Verdict}
 use Rattle.md_check.specs.AuctionVerdicts.{IsAuctionVerdict}
 use Rattle.md_check.specs.Verdicts.{IsVerdict}
-use Rattle.md_driver.specs.Saying.{Saying}
+use Rattle.md_cli_driver.specs.Saying.{Saying}
 use Rattle.md_solving.specs.Verdicts.{TellsVerdict}
 
 -- the verdict on an answer is this

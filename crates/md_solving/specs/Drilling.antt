@@ -13,10 +13,10 @@ use Rattle.md_answer.specs.declared.answer.Answer.TheVariants.{Table, Optimal, I
 use Rattle.md_check.specs.declared.verdict.Verdict.{Verdict}
 use Rattle.md_check.specs.declared.verdict.Verdict.TheVariants.{Valid, Undecided, Rejected}
 use Rattle.md_solving.specs.Checking.{IsVerdictOn}
-use Rattle.md_driver.specs.Reading.{answer_in}
+use Rattle.md_cli_driver.specs.Reading.{answer_in}
 use Rattle.md_solving.specs.Headline.{IsSolveStatus}
 use Rattle.md_solving.specs.Numbers.{IsSaidOfNumber}
-use Rattle.md_driver.specs.Saying.{Saying}
+use Rattle.md_cli_driver.specs.Saying.{Saying}
 use Rattle.md_solving.specs.Solving.{IsSolve}
 
 -- ---- the records

@@ -24,7 +24,7 @@ use Rattle.md_fair.specs.FairProgram.{IsFairProgram}
 use Rattle.md_fair.specs.Shown.{IsSo}
 use Rattle.md_fair.specs.Solved.{IsFairlySolved, IsFairlyWide}
 use Rattle.md_solving.specs.Headline.{IsEndStatus}
-use Rattle.md_driver.specs.Saying.{Saying}
+use Rattle.md_cli_driver.specs.Saying.{Saying}
 
 -- ---- the text
 

@@ -5,7 +5,7 @@ use Rattle.md_setting.specs.declared.file.SettingFile.{SettingFile}
 use Rattle.md_setting.specs.declared.file.SettingFile.TheVariants.{General, Auction}
 use Rattle.md_iron.specs.ClosedForms.{HasLongMultipliers, IsClosedForm, IsOneForm}
 use Rattle.md_solving.specs.AuctionHeadline.{PrintsAuctionOptimal}
-use Rattle.md_driver.specs.Saying.{Saying}
+use Rattle.md_cli_driver.specs.Saying.{Saying}
 use Rattle.md_solving.specs.Verdicts.{undecided_text}
 
 -- an answer whose mechanism is optimal and which the checker finds valid; it is that of the pools that the rule names, and no other

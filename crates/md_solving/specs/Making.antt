@@ -4,7 +4,7 @@ use Rattle.md_setting.specs.declared.file.SettingFile.{SettingFile}
 use Rattle.md_toml.specs.File.{setting_of}
 use Rattle.md_gen.specs.Generated.{IsGenerated}
 use Rattle.md_solving.specs.Numbers.{IsSaidOfNumber}
-use Rattle.md_driver.specs.Saying.{Saying}
+use Rattle.md_cli_driver.specs.Saying.{Saying}
 
 -- the text, read back as a setting file, says the setting of the number
 pub record IsMade (number : ℕ) (saying : Saying) : Type 0 where

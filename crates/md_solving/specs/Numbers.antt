@@ -1,8 +1,8 @@
 -- Numbers that stand for settings, and what is said of those that do not.
 use Rattle.std.specs.Prelude.{◌≡◌, ◌⊎◌, ◌≤◌, ℕ, ℤ, pos}
-use Rattle.md_driver.specs.declared.refusal.Refusal.TheVariants as refusal
-use Rattle.md_driver.specs.Refused.{refused}
-use Rattle.md_driver.specs.Saying.{Saying}
+use Rattle.md_cli_driver.specs.declared.refusal.Refusal.TheVariants as refusal
+use Rattle.md_cli_driver.specs.Refused.{refused}
+use Rattle.md_cli_driver.specs.Saying.{Saying}
 
 -- the number z is n, which stands for a setting
 pub record IsInRange (z : ℤ) (n : ℕ) : Type 0 where

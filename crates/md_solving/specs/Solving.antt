@@ -13,7 +13,7 @@ use Rattle.md_solve.specs.AuctionSolved.{IsAuctionSolved}
 use Rattle.md_solve.specs.Solved.{IsSolved}
 use Rattle.md_solving.specs.AuctionHeadline.{IsAuctionHeadline}
 use Rattle.md_solving.specs.Headline.{IsHeadline}
-use Rattle.md_driver.specs.Saying.{Saying}
+use Rattle.md_cli_driver.specs.Saying.{Saying}
 
 -- the status of each kind of answer; a table is none that is given
 abbrev pub status_of_answer : Answer → ℕ

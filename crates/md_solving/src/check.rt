@@ -10,13 +10,13 @@ ghost use Rattle.md_answer.specs.AnswerTo.{IsAnswerTo};
 ghost use Rattle.md_answer.specs.AuctionAnswerTo.{IsAuctionAnswer};
 ghost use Rattle.md_check.specs.declared.verdict.Reject.TheVariants as rejects;
 ghost use Rattle.md_solving.specs.Checking.{IsCheck, IsCheckStatus};
-ghost use Rattle.md_driver.specs.Reading.{answer_in, is_any};
-ghost use Rattle.md_driver.specs.Saying.{said};
+ghost use Rattle.md_cli_driver.specs.Reading.{answer_in, is_any};
+ghost use Rattle.md_cli_driver.specs.Saying.{said};
 ghost use Rattle.md_solving.specs.Verdicts.{IsBrokenRow, IsRejected, rejected};
 
 use md_answer::{Answer, read_answer};
 use md_check::{Reject, Verdict, check};
-use md_driver::{Answered, Refusal, TwoFiles, general};
+use md_cli_driver::{Answered, Refusal, TwoFiles, general};
 use md_mech::{Broken, row_name};
 use md_num::{Frac, NoMemory};
 use md_records::{Row, write_records};

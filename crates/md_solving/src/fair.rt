@@ -2,11 +2,11 @@
 ghost use Rattle.std.specs.Prelude.{◌≡◌, IfOk};
 ghost use Rattle.md_solving.specs.Fair.{IsFair, IsFairSaying, status_of_fair};
 ghost use Rattle.md_solving.specs.Headline.{IsSolveStatus};
-ghost use Rattle.md_driver.specs.Reading.{is_general};
-ghost use Rattle.md_driver.specs.Saying.{said};
+ghost use Rattle.md_cli_driver.specs.Reading.{is_general};
+ghost use Rattle.md_cli_driver.specs.Saying.{said};
 
 use crate::fair_text::{answer_text, wide_text};
-use md_driver::{Answered, OneFile, Refusal, general, is_general};
+use md_cli_driver::{Answered, OneFile, Refusal, general, is_general};
 use md_fair::{FairAnswer, solve_fair};
 use md_num::{NoMemory, Width};
 use md_setting::{Setting, SettingFile};

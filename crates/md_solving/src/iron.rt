@@ -1,11 +1,11 @@
 //! The command `iron`: an optimal mechanism of an auction in closed form.
 ghost use Rattle.std.specs.Prelude.{◌≡◌, true, IfOk};
 ghost use Rattle.md_solving.specs.Ironing.{IsIron, IsIronStatus};
-ghost use Rattle.md_driver.specs.Reading.{is_auction};
-ghost use Rattle.md_driver.specs.Saying.{said};
+ghost use Rattle.md_cli_driver.specs.Reading.{is_auction};
+ghost use Rattle.md_cli_driver.specs.Saying.{said};
 
 use md_answer::write_answer;
-use md_driver::{Answered, OneFile, Refusal, is_auction};
+use md_cli_driver::{Answered, OneFile, Refusal, is_auction};
 use md_iron::{Ironed, iron};
 use md_num::NoMemory;
 use md_setting::SettingFile;

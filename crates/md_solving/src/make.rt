@@ -1,12 +1,12 @@
 //! The command `make`: the setting that a number stands for.
 ghost use Rattle.std.specs.Prelude.{◌≡◌, ◌⊎◌, ◌≤◌, ℕ, IfOk, IfErr, MatchResult};
-ghost use Rattle.md_driver.specs.declared.refusal.Refusal.TheVariants as refusal;
+ghost use Rattle.md_cli_driver.specs.declared.refusal.Refusal.TheVariants as refusal;
 ghost use Rattle.md_solving.specs.Making.{IsMade, IsMake, IsMakeStatus};
 ghost use Rattle.md_solving.specs.Numbers.{IsInRange};
-ghost use Rattle.md_driver.specs.Refused.{refused, status_of};
-ghost use Rattle.md_driver.specs.Saying.{said};
+ghost use Rattle.md_cli_driver.specs.Refused.{refused, status_of};
+ghost use Rattle.md_cli_driver.specs.Saying.{said};
 
-use md_driver::{Answered, NoFile, Refusal};
+use md_cli_driver::{Answered, NoFile, Refusal};
 use md_gen::make;
 use md_num::NoMemory;
 use md_toml::write_setting;

@@ -1,12 +1,12 @@
 //! The command `solve`: the best mechanism of a setting, or why there is none.
 ghost use Rattle.std.specs.Prelude.{◌≡◌, IfOk};
 ghost use Rattle.md_solving.specs.Headline.{IsSolveStatus};
-ghost use Rattle.md_driver.specs.Reading.{is_any};
-ghost use Rattle.md_driver.specs.Saying.{said};
+ghost use Rattle.md_cli_driver.specs.Reading.{is_any};
+ghost use Rattle.md_cli_driver.specs.Saying.{said};
 ghost use Rattle.md_solving.specs.Solving.{IsSolve, status_of_answer};
 
 use md_answer::{Answer, write_answer};
-use md_driver::{Answered, OneFile, Refusal};
+use md_cli_driver::{Answered, OneFile, Refusal};
 use md_num::{NoMemory, Width};
 use md_setting::SettingFile;
 use md_solve::solve;

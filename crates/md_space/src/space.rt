@@ -182,23 +182,3 @@ fn strides(alloc: Global, types: &[u8], profiles: u32) -> Result<Vec<u32>, Alloc
     }
     Ok(strides)
 }
-
-#[cfg(test)]
-mod tests {
-    use super::*;
-    use std::test::Fail;
-
-    #[test]
-    fn the_last_agent_changes_fastest(rt: HostRuntime) -> Result<(), Fail> {
-        let Ok(space) = Space::new(rt.alloc(), &[2, 3]) else {
-            return Err("no space")?;
-        };
-        assert_eq!(rt; space.profiles(), 6);
-        assert_eq!(rt; space.agents(), 2);
-        assert_eq!(rt; space.report(2, 0), 0);
-        assert_eq!(rt; space.report(2, 1), 2);
-        assert_eq!(rt; space.report(3, 0), 1);
-        assert_eq!(rt; space.replace(2, 0, 1), 5);
-        Ok(())
-    }
-}

@@ -15,8 +15,6 @@ mod key;
 mod known;
 mod print;
 mod refusal;
-#[cfg(test)]
-mod tests;
 mod values;
 mod write;
 

@@ -8,15 +8,15 @@ use Rattle.md_mech.specs.declared.broken.Broken.{Broken}
 use Rattle.md_mech.specs.declared.mechanism.Mechanism.{Mechanism}
 use Rattle.md_mech.specs.Rows.{IsFirstBroken, conditions_of}
 use Rattle.md_mech.specs.RowName.{name_of}
-use Rattle.md_driver.specs.declared.refusal.Refusal.{Refusal}
-use Rattle.md_driver.specs.declared.refusal.Refusal.TheVariants as refusal
-use Rattle.md_driver.specs.Refused.{HasMadeLine, IsTold, refused, status_of}
+use Rattle.md_cli_driver.specs.declared.refusal.Refusal.{Refusal}
+use Rattle.md_cli_driver.specs.declared.refusal.Refusal.TheVariants as refusal
+use Rattle.md_cli_driver.specs.Refused.{HasMadeLine, IsTold, refused, status_of}
 use Rattle.md_using.specs.Auditing.{IsBrokenSaying, broken_text}
 use Rattle.md_top.specs.Reply.{IsReply, IsSaidBy, IsSaidOfOrder, work_of}
-use Rattle.md_driver.specs.Saying.{Saying}
-use Rattle.md_driver.specs.Works.{IsCarriedOut, IsOutcome}
-use Rattle.md_driver.proofs.Works.{err_same, memory_fault}
-use Rattle.md_words.specs.Words.{Order}
+use Rattle.md_cli_driver.specs.Saying.{Saying}
+use Rattle.md_cli_driver.specs.Works.{IsCarriedOut, IsOutcome}
+use Rattle.md_cli_driver.proofs.Works.{err_same, memory_fault}
+use Rattle.md_cli_words.specs.Words.{Order}
 
 -- ---- saying
 

@@ -5,21 +5,21 @@ use Rattle.std.specs.Prelude.{◌⊎◌, nat_lt, MatchResult}
 use Rattle.std.specs.Option.{ForSome}
 use Rattle.std.proofs.lemmas.Bool.Decides.{nat_tests, eqb_tells, leb_tells}
 use Rattle.md_ports.specs.Faults.{Rose}
-use Rattle.md_words.specs.Commands.{command_in}
-use Rattle.md_words.specs.Words.{Order, command_of}
-use Rattle.md_words.specs.declared.command.Command.{Command}
-use Rattle.md_words.specs.declared.command.Command.TheVariants.{Audit, Rows, Check, Solve, Replay, Realise, Fair, Asym, Units, Determ, DetermCheck, Run, Report, Iron, Make, Drill}
+use Rattle.md_cli_words.specs.Commands.{command_in}
+use Rattle.md_cli_words.specs.Words.{Order, command_of}
+use Rattle.md_cli_words.specs.declared.command.Command.{Command}
+use Rattle.md_cli_words.specs.declared.command.Command.TheVariants.{Audit, Rows, Check, Solve, Replay, Realise, Fair, Asym, Units, Determ, DetermCheck, Run, Report, Iron, Make, Drill}
 use Rattle.md_setting.specs.declared.file.SettingFile.{SettingFile}
 use Rattle.md_setting.specs.declared.file.SettingFile.TheVariants.{General, Auction}
-use Rattle.md_driver.specs.declared.refusal.Refusal.{Refusal}
-use Rattle.md_driver.specs.declared.refusal.Refusal.TheVariants as refusal
+use Rattle.md_cli_driver.specs.declared.refusal.Refusal.{Refusal}
+use Rattle.md_cli_driver.specs.declared.refusal.Refusal.TheVariants as refusal
 use Rattle.md_top.specs.Promises.{IsComplete, IsFaultless, IsHeadlineBy, IsHeadlineOf, IsPrinted, IsReplied}
-use Rattle.md_driver.specs.Refused.{refused, status_of}
-use Rattle.md_driver.specs.Reading.{is_any, setting_in}
+use Rattle.md_cli_driver.specs.Refused.{refused, status_of}
+use Rattle.md_cli_driver.specs.Reading.{is_any, setting_in}
 use Rattle.md_top.specs.Reply.{IsReply, IsSaid, IsSaidBy, IsSaidOfOrder}
-use Rattle.md_driver.specs.Works.{IsSaidOf}
+use Rattle.md_cli_driver.specs.Works.{IsSaidOf}
 use Rattle.md_solving.specs.Solving.{IsShownBy, IsSolve}
-use Rattle.md_driver.specs.Saying.{IsDelivered, IsSent, Saying, SinkChange, is_answer, write_fault}
+use Rattle.md_cli_driver.specs.Saying.{IsDelivered, IsSent, Saying, SinkChange, is_answer, write_fault}
 
 below_test : (status : ℕ) → status < 64 → nat_lt status 64 ≡ true
 below_test status below = grind (arith, nat_tests)

@@ -2,13 +2,13 @@
 use Rattle.std.specs.Prelude.{◌≡◌, ◌≢◌, ◌++◌, ◌<◌, ◌≤◌, ℕ, List, Option, None, Some, MatchResult}
 use Rattle.std.specs.Option.{ForSome}
 use Rattle.md_ports.specs.Faults.{Rose}
-use Rattle.md_words.specs.declared.command.Command.{Command}
-use Rattle.md_words.specs.declared.command.Command.TheVariants.{Audit, Rows, Check, Solve, Replay, Realise, Fair, Asym, Units, Determ, DetermCheck, Run, Report, Iron, Make, Drill}
-use Rattle.md_words.specs.Words.{Order}
+use Rattle.md_cli_words.specs.declared.command.Command.{Command}
+use Rattle.md_cli_words.specs.declared.command.Command.TheVariants.{Audit, Rows, Check, Solve, Replay, Realise, Fair, Asym, Units, Determ, DetermCheck, Run, Report, Iron, Make, Drill}
+use Rattle.md_cli_words.specs.Words.{Order}
 use Rattle.md_setting.specs.declared.file.SettingFile.{SettingFile}
-use Rattle.md_driver.specs.Reading.{is_any, setting_in}
+use Rattle.md_cli_driver.specs.Reading.{is_any, setting_in}
 use Rattle.md_top.specs.Reply.{HasFaulted, IsReply}
-use Rattle.md_driver.specs.Saying.{IsDelivered, SinkChange}
+use Rattle.md_cli_driver.specs.Saying.{IsDelivered, SinkChange}
 use Rattle.md_solving.specs.Solving.{IsShownBy}
 
 -- ---- the headline

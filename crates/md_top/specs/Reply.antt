@@ -1,18 +1,18 @@
 -- What each command says of the files that it names.
 use Rattle.std.specs.Prelude.{◌≡◌, ◌⊎◌, ℕ, ℤ, unsigned_abs, Bool, true, false, List, Option, None, Some, IsSome}
-use Rattle.md_words.specs.Commands.{command_in}
-use Rattle.md_words.specs.declared.command.Command.{Command}
-use Rattle.md_words.specs.declared.command.Command.TheVariants.{Audit, Rows, Check, Solve, Replay, Realise, Fair, Asym, Units, Determ, DetermCheck, Run, Report, Iron, Make, Drill}
-use Rattle.md_words.specs.Words.{Order, command_of}
+use Rattle.md_cli_words.specs.Commands.{command_in}
+use Rattle.md_cli_words.specs.declared.command.Command.{Command}
+use Rattle.md_cli_words.specs.declared.command.Command.TheVariants.{Audit, Rows, Check, Solve, Replay, Realise, Fair, Asym, Units, Determ, DetermCheck, Run, Report, Iron, Make, Drill}
+use Rattle.md_cli_words.specs.Words.{Order, command_of}
 use Rattle.md_mech.specs.declared.mechanism.Mechanism.{Mechanism}
 use Rattle.md_border.specs.declared.interim.Interim.{Interim}
 use Rattle.md_answer.specs.declared.answer.Answer.{Answer}
 use Rattle.md_answer.specs.declared.pivots_file.Pivots.{Pivots}
-use Rattle.md_driver.specs.declared.refusal.Refusal.TheVariants as refusal
-use Rattle.md_driver.specs.Saying.{Saying}
-use Rattle.md_driver.specs.Reading.{answer_in, is_any, is_auction, is_general}
-use Rattle.md_driver.specs.Refused.{refused}
-use Rattle.md_driver.specs.Works.{Work, no_file, one_file, two_files, IsReplyTo, HasFaultedIn}
+use Rattle.md_cli_driver.specs.declared.refusal.Refusal.TheVariants as refusal
+use Rattle.md_cli_driver.specs.Saying.{Saying}
+use Rattle.md_cli_driver.specs.Reading.{answer_in, is_any, is_auction, is_general}
+use Rattle.md_cli_driver.specs.Refused.{refused}
+use Rattle.md_cli_driver.specs.Works.{Work, no_file, one_file, two_files, IsReplyTo, HasFaultedIn}
 use Rattle.md_solving.specs.Headline.{IsSolveStatus}
 use Rattle.md_using.specs.Auditing.{mechanism_in, IsAudit, IsAuditStatus}
 use Rattle.md_using.specs.Listing.{IsRows, IsRowsStatus}

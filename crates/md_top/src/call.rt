@@ -1,18 +1,18 @@
 //! The whole call: from words and files to a text and a status.
 ghost use Rattle.std.specs.Prelude.{map, string_bytes};
-ghost use Rattle.md_words.specs.Orders.{asked};
-ghost use Rattle.md_words.specs.Words.{command_of};
+ghost use Rattle.md_cli_words.specs.Orders.{asked};
+ghost use Rattle.md_cli_words.specs.Words.{command_of};
 ghost use Rattle.md_top.specs.Promises.{IsComplete, IsHeadlineOf};
 ghost use Rattle.md_top.specs.Reply.{IsSaid, IsSaidOfOrder};
-ghost use Rattle.md_driver.specs.Saying.{Saying, IsDelivered, IsSent, change_of};
-ghost use Rattle.md_driver.specs.Refused.{IsTold, refused};
-ghost use Rattle.md_driver.specs.declared.refusal.Refusal.{Refusal};
+ghost use Rattle.md_cli_driver.specs.Saying.{Saying, IsDelivered, IsSent, change_of};
+ghost use Rattle.md_cli_driver.specs.Refused.{IsTold, refused};
+ghost use Rattle.md_cli_driver.specs.declared.refusal.Refusal.{Refusal};
 
 use crate::run::run;
 use crate::send::send;
-use md_driver::{Refusal, want_of_memory};
+use md_cli_driver::{Refusal, want_of_memory};
+use md_cli_words::{Order, order_of};
 use md_ports::{Shelf, Sink};
-use md_words::{Order, order_of};
 use std::alloc::Global;
 
 /// Carries out the command that the words ask for, says what comes of it by one write to a sink, and gives the status

@@ -1,17 +1,17 @@
 //! The commands, each carried out over its files.
 ghost use Rattle.std.specs.Prelude.{ℕ, List};
-ghost use Rattle.md_words.specs.Orders.{asked};
+ghost use Rattle.md_cli_words.specs.Orders.{asked};
 ghost use Rattle.md_top.specs.Reply.{units_work, work_of};
-ghost use Rattle.md_driver.specs.Works.{IsCarriedOut};
+ghost use Rattle.md_cli_driver.specs.Works.{IsCarriedOut};
 
-use md_driver::{Answered, Refusal, of_none, of_one, of_two};
+use md_cli_driver::{Answered, Refusal, of_none, of_one, of_two};
+use md_cli_words::{Command, Order};
 use md_num::Width;
 use md_ports::Shelf;
 use md_ruling::{Determ, DetermCheck};
 use md_selling::{Asym, UnitNumber, Units, UnitsRefused};
 use md_solving::{Check, Drill, Fair, Iron, Make, Solve};
 use md_using::{Audit, Draw, Realise, Replay, Rows, Tell};
-use md_words::{Command, Order};
 use std::alloc::Global;
 
 /// Carries a command out.

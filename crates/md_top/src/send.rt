@@ -1,6 +1,6 @@
 //! Writing what a call says.
 ghost use Rattle.std.specs.Prelude.{◌≢◌};
-ghost use Rattle.md_driver.specs.Saying.{IsSent, write_fault};
+ghost use Rattle.md_cli_driver.specs.Saying.{IsSent, write_fault};
 
 use md_ports::Sink;
 

@@ -13,13 +13,13 @@ use Rattle.md_mech.specs.Accepted.{IsAccepted}
 use Rattle.md_mech.specs.Admissible.{IsAdmissible}
 use Rattle.md_mech.specs.Optimal.{worth_of}
 use Rattle.md_claims.proofs.SettingClaims as claims
-use Rattle.md_branching.specs.Fixed.{IsFree, with_fixed, children_of, Agrees}
-use Rattle.md_branching.specs.Tour.{SomeAgrees}
-use Rattle.md_branching.proofs.Laws.{length-with_fixed, AreOutcomes-nothing, AreOutcomes-child, some-first, some-none, some-cases, some-of_children}
-use Rattle.md_node.specs.Deterministic.{IsDeterministic, IsChoice, IsOptimalDeterministic, HasNoDeterministic, GrowsDeterministic}
-use Rattle.md_node.specs.NodeProgram.{IsNode, HasFixed}
-use Rattle.md_node.proofs.PointLaws.{with_laws}
-use Rattle.md_node.proofs.Laws.{choice, agrees, leaf-optimal, leaf-infeasible, grows-deterministic}
+use Rattle.md_determ_branching.specs.Fixed.{IsFree, with_fixed, children_of, Agrees}
+use Rattle.md_determ_branching.specs.Tour.{SomeAgrees}
+use Rattle.md_determ_branching.proofs.Laws.{length-with_fixed, AreOutcomes-nothing, AreOutcomes-child, some-first, some-none, some-cases, some-of_children}
+use Rattle.md_determ_node.specs.Deterministic.{IsDeterministic, IsChoice, IsOptimalDeterministic, HasNoDeterministic, GrowsDeterministic}
+use Rattle.md_determ_node.specs.NodeProgram.{IsNode, HasFixed}
+use Rattle.md_determ_node.proofs.PointLaws.{with_laws}
+use Rattle.md_determ_node.proofs.Laws.{choice, agrees, leaf-optimal, leaf-infeasible, grows-deterministic}
 use Rattle.md_tree.specs.Trees.{AreTrees, IsTree, root_of}
 use Rattle.md_tree.specs.AnswerTo.{IsLeafFor}
 use Rattle.md_tree.specs.Leaves.{IsNoBetter, IsSoundLeaf, IsWorthAtMost}

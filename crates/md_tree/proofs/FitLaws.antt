@@ -27,7 +27,7 @@ use Rattle.md_rows.proofs.PointLaws.{point-length, point-nonneg, point-within}
 use Rattle.md_claims.specs.Certificates.{unbounded_certificate}
 use Rattle.md_claims.specs.Rays.{paying, ray_of}
 use Rattle.md_parts.specs.Fitting.{AreMultipliers, IsRayFor}
-use Rattle.md_node.specs.NodeProgram.{IsNodeProgram, row_count_of}
+use Rattle.md_determ_node.specs.NodeProgram.{IsNodeProgram, row_count_of}
 use Rattle.md_tree.specs.AnswerTo.{IsLeafFor}
 use Rattle.md_tree.specs.Leaves.{OfCertificate, IsCertified, IsRefused, IsCertifiedLeaf, IsRefusedLeaf}
 use Rattle.md_tree.specs.declared.node.Node.{Node}

@@ -22,9 +22,9 @@ use Rattle.md_cert.specs.declared.certificate.Certificate.TheVariants as certifi
 use Rattle.md_cert.proofs.SameCertificates.{certified-same}
 use Rattle.md_rows.proofs.OneProgram as rows
 use Rattle.md_claims.specs.Certificates.{optimal_certificate, unbounded_certificate}
-use Rattle.md_branching.specs.Fixed.{children_of}
-use Rattle.md_node.specs.Deterministic.{HasNoLottery, IsDeterministic, IsFirstLottery}
-use Rattle.md_node.proofs.Laws.{same_certificates}
+use Rattle.md_determ_branching.specs.Fixed.{children_of}
+use Rattle.md_determ_node.specs.Deterministic.{HasNoLottery, IsDeterministic, IsFirstLottery}
+use Rattle.md_determ_node.proofs.Laws.{same_certificates}
 use Rattle.md_tree.specs.Trees.{AreTrees, root_of}
 use Rattle.md_tree.specs.Leaves.{IsCertified, IsRefused, IsCertifiedLeaf, IsRefusedLeaf, IsSoundLeaf}
 use Rattle.md_tree.specs.Verdicts.{IsLeafFault, IsFirstLeafFault, IsVerdictFrom, IsTreeVerdict, IsOtherValue, IsRule, IsRuleFault, IsOptimalVerdict, HasGrowth, HasNoGrowth, IsUnboundedVerdict}

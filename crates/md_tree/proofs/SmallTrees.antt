@@ -13,10 +13,10 @@ use Rattle.md_mech.specs.Accepted.{IsAccepted}
 use Rattle.md_mech.specs.Rows.{conditions_of}
 use Rattle.md_mech.proofs.CountLaws.{conditions-length}
 use Rattle.md_cert.specs.declared.bound.Bound.{Bound}
-use Rattle.md_branching.specs.Fixed.{nothing_fixed, with_fixed, IsFree}
-use Rattle.md_branching.proofs.Laws.{fixed_at-nothing}
+use Rattle.md_determ_branching.specs.Fixed.{nothing_fixed, with_fixed, IsFree}
+use Rattle.md_determ_branching.proofs.Laws.{fixed_at-nothing}
 use Rattle.md_parts.specs.Fitting.{AreMultipliers, IsBoundOver}
-use Rattle.md_node.specs.NodeProgram.{fixed_count, row_count_of}
+use Rattle.md_determ_node.specs.NodeProgram.{fixed_count, row_count_of}
 use Rattle.md_tree.specs.Trees.{AreTrees, IsTree, root_of}
 use Rattle.md_tree.specs.AnswerTo.{IsLeafFor}
 use Rattle.md_tree.specs.declared.node.Node.{Node}

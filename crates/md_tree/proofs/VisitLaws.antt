@@ -6,7 +6,7 @@ use Rattle.md_space.specs.Profiles.{profile_count}
 use Rattle.md_setting.specs.Setting.{GeneralSetting}
 use Rattle.md_setting.specs.Meaning.{outcome_count, sizes_of}
 use Rattle.md_mech.specs.declared.mechanism.Mechanism.{Mechanism}
-use Rattle.md_branching.specs.Tour.{Tour, current_of, rest_of}
+use Rattle.md_determ_branching.specs.Tour.{Tour, current_of, rest_of}
 use Rattle.md_tree.specs.Trees.{AreTrees, root_of}
 use Rattle.md_tree.specs.AnswerTo.{IsLeafFor}
 use Rattle.md_tree.specs.Verdicts.{IsVerdictFrom, IsTreeVerdict}

@@ -6,7 +6,7 @@ use Rattle.md_setting.specs.Meaning.{outcome_count, sizes_of}
 use Rattle.md_mech.specs.Accepted.{IsAccepted}
 use Rattle.md_lp.specs.declared.pivot.Pivot.{Pivot}
 use Rattle.md_parts.specs.Fitting.{IsFraction, AreMultipliers, IsBoundOver, IsRayFor, HasFraction}
-use Rattle.md_node.specs.NodeProgram.{row_count_of}
+use Rattle.md_determ_node.specs.NodeProgram.{row_count_of}
 use Rattle.md_tree.specs.Trees.{IsTree}
 use Rattle.md_tree.specs.declared.node.Node.{Node}
 use Rattle.md_tree.specs.declared.node.Node.TheVariants.{Branch, Infeasible, Optimal}

@@ -8,7 +8,7 @@ use Rattle.md_cert.specs.declared.certificate.Certificate.{Certificate}
 use Rattle.md_cert.specs.declared.certificate.Certificate.TheVariants as certificates
 use Rattle.md_cert.specs.Certified.{Certified}
 use Rattle.md_claims.specs.Certificates.{optimal_certificate}
-use Rattle.md_node.specs.NodeProgram.{IsNodeProgram}
+use Rattle.md_determ_node.specs.NodeProgram.{IsNodeProgram}
 use Rattle.md_tree.specs.declared.node.Node.{Node}
 use Rattle.md_tree.specs.declared.node.Node.TheVariants.{Branch, Infeasible, Optimal}
 

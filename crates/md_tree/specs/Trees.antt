@@ -3,7 +3,7 @@ use Rattle.std.specs.Prelude.{ℕ, List, [], ◌∷◌, ◌++◌, Option}
 use Rattle.md_space.specs.Profiles.{profile_count}
 use Rattle.md_setting.specs.Setting.{GeneralSetting}
 use Rattle.md_setting.specs.Meaning.{outcome_count, sizes_of}
-use Rattle.md_branching.specs.Fixed.{IsFree, children_of, nothing_fixed}
+use Rattle.md_determ_branching.specs.Fixed.{IsFree, children_of, nothing_fixed}
 use Rattle.md_tree.specs.declared.node.Node.{Node}
 use Rattle.md_tree.specs.declared.node.Node.TheVariants.{Branch}
 

@@ -19,8 +19,8 @@ use Rattle.md_lp.specs.Program.{Program}
 use Rattle.md_cert.specs.Certified.{Certified}
 use Rattle.md_rows.specs.ProgramOf.{IsProgramOf}
 use Rattle.md_claims.specs.Certificates.{unbounded_certificate}
-use Rattle.md_branching.specs.Fixed.{children_of}
-use Rattle.md_node.specs.Deterministic.{IsDeterministic, IsFirstLottery, IsOptimalDeterministic, HasNoDeterministic, GrowsDeterministic}
+use Rattle.md_determ_branching.specs.Fixed.{children_of}
+use Rattle.md_determ_node.specs.Deterministic.{IsDeterministic, IsFirstLottery, IsOptimalDeterministic, HasNoDeterministic, GrowsDeterministic}
 use Rattle.md_tree.specs.Trees.{AreTrees, root_of}
 use Rattle.md_tree.specs.Leaves.{IsCertifiedLeaf, IsRefusedLeaf, IsNoBetter, IsSoundLeaf}
 use Rattle.md_tree.specs.declared.node.Node.{Node}

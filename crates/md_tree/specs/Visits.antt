@@ -3,7 +3,7 @@ use Rattle.std.specs.Prelude.{ℕ, List, ◌++◌, Option, None, Some}
 use Rattle.md_setting.specs.Setting.{GeneralSetting}
 use Rattle.md_mech.specs.declared.mechanism.Mechanism.{Mechanism}
 use Rattle.md_mech.specs.Accepted.{IsAccepted}
-use Rattle.md_branching.specs.Fixed.{IsFree, children_of}
+use Rattle.md_determ_branching.specs.Fixed.{IsFree, children_of}
 use Rattle.md_tree.specs.AnswerTo.{IsLeafFor}
 use Rattle.md_tree.specs.Leaves.{IsSoundLeaf}
 use Rattle.md_tree.specs.Verdicts.{IsLeafFault}

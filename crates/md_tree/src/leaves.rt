@@ -1,6 +1,6 @@
 //! The check of one leaf.
 ghost use Rattle.std.specs.Prelude.{MatchBool, MatchOption, IfOk, option_map};
-ghost use Rattle.md_node.specs.NodeProgram.{IsNode};
+ghost use Rattle.md_determ_node.specs.NodeProgram.{IsNode};
 ghost use Rattle.md_tree.specs.AnswerTo.{IsLeafFor};
 ghost use Rattle.md_tree.specs.Leaves.{IsSoundLeaf, IsCertifiedLeaf, IsRefusedLeaf};
 ghost use Rattle.md_tree.specs.Verdicts.{IsLeafFault};
@@ -10,10 +10,10 @@ use crate::certificates::leaf_certificate;
 use crate::node::Node;
 use crate::verdict::DetReject;
 use crate::worths::is_no_better;
-use md_branching::Fixed;
 use md_cert::check_lp;
+use md_determ_branching::Fixed;
+use md_determ_node::node_program;
 use md_mech::Mechanism;
-use md_node::node_program;
 use md_num::NoMemory;
 use md_setting::Setting;
 use std::alloc::Global;

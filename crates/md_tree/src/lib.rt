@@ -18,6 +18,3 @@ pub use node::Node;
 pub use tree::Tree;
 pub use verdict::{DetReject, DetVerdict};
 pub use worths::other_value;
-
-#[cfg(test)]
-mod tests;

@@ -5,9 +5,9 @@ use Rattle.md_setting.specs.Setting.{GeneralSetting}
 use Rattle.md_setting.specs.Meaning.{outcome_count, sizes_of}
 use Rattle.md_mech.specs.declared.mechanism.Mechanism.{Mechanism}
 use Rattle.md_parts.specs.Reading.{Rest}
-use Rattle.md_branching.specs.Fixed.{nothing_fixed}
-use Rattle.md_branching.specs.Tour.{Tour, current_of, rest_of}
-use Rattle.md_branching.proofs.Measure.{opens-first}
+use Rattle.md_determ_branching.specs.Fixed.{nothing_fixed}
+use Rattle.md_determ_branching.specs.Tour.{Tour, current_of, rest_of}
+use Rattle.md_determ_branching.proofs.Measure.{opens-first}
 use Rattle.md_tree.specs.AnswerTo.{IsLeafFor}
 use Rattle.md_tree.specs.Trees.{AreTrees, root_of}
 use Rattle.md_tree.specs.Visits.{opens_after}

@@ -3,7 +3,7 @@ use Rattle.std.specs.Prelude.{◌≡◌, ℕ, List, [], ◌∷◌, Option, Ok}
 use Rattle.md_setting.specs.Setting.{GeneralSetting}
 use Rattle.md_mech.specs.declared.mechanism.Mechanism.{Mechanism}
 use Rattle.md_parts.specs.Reading.{Reading, Rest}
-use Rattle.md_branching.specs.Tour.{Tour, current_of, rest_of}
+use Rattle.md_determ_branching.specs.Tour.{Tour, current_of, rest_of}
 use Rattle.md_tree.specs.declared.answer.DetAnswer.{DetAnswer}
 use Rattle.md_tree.specs.declared.node.Node.{Node}
 use Rattle.md_tree.specs.declared.verdict.DetVerdict.{DetVerdict}

@@ -10,6 +10,3 @@ mod trees;
 
 pub use md_tree_text::AnswerRefusal;
 pub use texts::{check_text, read_text};
-
-#[cfg(test)]
-mod tests;

@@ -2,11 +2,11 @@
 ghost use Rattle.std.specs.Prelude.{◌≡◌, ◌≢◌, [], IfOk, option_map};
 ghost use Rattle.md_space.specs.Profiles.{profile_count};
 ghost use Rattle.md_setting.specs.Meaning.{outcome_count, sizes_of};
-ghost use Rattle.md_branching.specs.Tour.{current_of, rest_of};
+ghost use Rattle.md_determ_branching.specs.Tour.{current_of, rest_of};
 ghost use Rattle.md_tree.specs.Visits.{IsBest, IsNodeFor, opens_after};
 ghost use Rattle.md_tree_check.specs.Judging.{IsNodeJudged};
 
-use md_branching::Walk;
+use md_determ_branching::Walk;
 use md_mech::Mechanism;
 use md_num::NoMemory;
 use md_setting::Setting;

@@ -2,13 +2,13 @@
 ghost use Rattle.std.specs.Prelude.{◌≡◌, ◌≢◌, ◌<◌, ◌^◌, [], Err, length, MatchResult, option_map};
 ghost use Rattle.md_space.specs.Profiles.{profile_count};
 ghost use Rattle.md_setting.specs.Meaning.{outcome_count, sizes_of};
-ghost use Rattle.md_branching.specs.Tour.{current_of};
+ghost use Rattle.md_determ_branching.specs.Tour.{current_of};
 ghost use Rattle.md_tree.specs.Visits.{IsBest};
 ghost use Rattle.md_tree_text.specs.Trees.{node_of, tree_of};
 ghost use Rattle.md_tree_check.specs.Judging.{IsJudgedTree, IsNextJudged};
 
 use crate::nodes::judge_node;
-use md_branching::Walk;
+use md_determ_branching::Walk;
 use md_mech::Mechanism;
 use md_parts::{AnswerRefusal, Reader};
 use md_setting::Setting;

@@ -20,8 +20,8 @@ use Rattle.md_parts.specs.Table.{profile_fields, denominator_of, lottery_of, pay
 use Rattle.md_parts.specs.Multipliers.{row_fields, after_row, row_records, numbers_for, face_of, bound_denominator, bound_of}
 use Rattle.md_parts.proofs.Blocks.{in_two}
 use Rattle.md_parts.proofs.Repeats.{fewer_left}
-use Rattle.md_node.specs.NodeProgram.{row_count_of}
-use Rattle.md_branching.specs.Fixed.{fixed_at}
+use Rattle.md_determ_node.specs.NodeProgram.{row_count_of}
+use Rattle.md_determ_branching.specs.Fixed.{fixed_at}
 use Rattle.md_tree.specs.declared.node.Node.{Node}
 use Rattle.md_tree.specs.declared.node.Node.TheVariants.{Branch, Infeasible, Optimal}
 use Rattle.md_tree_text.specs.Trees.{free_branch, branch_of, leaf_words, infeasible_leaf, optimal_leaf, leaf_of, node_of}

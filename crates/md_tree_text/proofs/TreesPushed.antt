@@ -6,9 +6,9 @@ use Rattle.std.proofs.lemmas.Option.{get_or_from_slice_get, slice_get_within}
 use Rattle.md_space.specs.Profiles.{profile_count}
 use Rattle.md_setting.specs.Setting.{GeneralSetting}
 use Rattle.md_setting.specs.Meaning.{outcome_count, sizes_of}
-use Rattle.md_branching.specs.Fixed.{nothing_fixed, AreOutcomes}
-use Rattle.md_branching.specs.Tour.{Tour, current_of, rest_of}
-use Rattle.md_node.specs.NodeProgram.{IsNode}
+use Rattle.md_determ_branching.specs.Fixed.{nothing_fixed, AreOutcomes}
+use Rattle.md_determ_branching.specs.Tour.{Tour, current_of, rest_of}
+use Rattle.md_determ_node.specs.NodeProgram.{IsNode}
 use Rattle.md_tree.specs.AnswerTo.{IsLeafFor}
 use Rattle.md_tree.specs.Trees.{AreTrees, IsTree, root_of}
 use Rattle.md_tree.specs.declared.node.Node.{Node}

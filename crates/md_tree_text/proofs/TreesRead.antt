@@ -6,8 +6,8 @@ use Rattle.md_setting.specs.Meaning.{outcome_count, sizes_of}
 use Rattle.md_parts.specs.declared.refusal.AnswerRefusal.{AnswerRefusal}
 use Rattle.md_parts.specs.declared.refusal.AnswerRefusal.TheVariants.{End}
 use Rattle.md_parts.specs.Reading.{Rest, then_read}
-use Rattle.md_branching.specs.Fixed.{nothing_fixed}
-use Rattle.md_branching.specs.Tour.{Tour, current_of, rest_of}
+use Rattle.md_determ_branching.specs.Fixed.{nothing_fixed}
+use Rattle.md_determ_branching.specs.Tour.{Tour, current_of, rest_of}
 use Rattle.md_tree.specs.AnswerTo.{IsLeafFor}
 use Rattle.md_tree.specs.Trees.{AreTrees, IsTree, root_of}
 use Rattle.md_tree.specs.declared.node.Node.{Node}

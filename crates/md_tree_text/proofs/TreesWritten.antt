@@ -26,9 +26,9 @@ use Rattle.md_parts.proofs.WrittenRecords.{holds-none, holds-cons, number_field-
 use Rattle.md_parts.proofs.WrittenRows.{place-holds}
 use Rattle.md_parts.proofs.WrittenTables.{written-then, written-as, written-record}
 use Rattle.md_parts.proofs.WrittenParts.{mechanism-written, face-written, bound-written, face_row, both_row, IsSome, rows-some, mechanism-some}
-use Rattle.md_branching.specs.Fixed.{fixed_at, with_fixed, children_of, IsFree}
-use Rattle.md_branching.proofs.Laws.{length-with_fixed}
-use Rattle.md_node.specs.NodeProgram.{row_count_of}
+use Rattle.md_determ_branching.specs.Fixed.{fixed_at, with_fixed, children_of, IsFree}
+use Rattle.md_determ_branching.proofs.Laws.{length-with_fixed}
+use Rattle.md_determ_node.specs.NodeProgram.{row_count_of}
 use Rattle.md_tree.specs.AnswerTo.{IsLeafFor}
 use Rattle.md_tree.specs.Trees.{AreTrees, IsTree, root_of}
 use Rattle.md_tree.specs.declared.node.Node.{Node}

@@ -2,7 +2,7 @@
 use Rattle.std.specs.Prelude.{ℕ, List, Option}
 use Rattle.md_setting.specs.Setting.{GeneralSetting}
 use Rattle.md_parts.specs.Fitting.{HasWidePlaces}
-use Rattle.md_branching.specs.Fixed.{IsFree}
+use Rattle.md_determ_branching.specs.Fixed.{IsFree}
 use Rattle.md_tree.specs.AnswerTo.{IsLeafFor}
 use Rattle.md_tree.specs.declared.node.Node.{Node}
 use Rattle.md_tree.specs.declared.node.Node.TheVariants.{Branch, Infeasible, Optimal}

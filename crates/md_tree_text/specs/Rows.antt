@@ -6,7 +6,7 @@ use Rattle.md_setting.specs.Setting.{GeneralSetting}
 use Rattle.md_setting.specs.Meaning.{outcome_count}
 use Rattle.md_parts.specs.declared.version.Version.TheVariants.{One}
 use Rattle.md_parts.specs.Rows.{again_row, bound_rows, end_row, face_rows, first_row, mechanism_rows, number_row, ray_rows, value_row, wide_rows}
-use Rattle.md_node.specs.NodeProgram.{row_count_of}
+use Rattle.md_determ_node.specs.NodeProgram.{row_count_of}
 use Rattle.md_tree.specs.Trees.{root_of}
 use Rattle.md_tree.specs.declared.node.Node.{Node}
 use Rattle.md_tree.specs.declared.node.Node.TheVariants as nodes

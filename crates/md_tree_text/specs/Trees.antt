@@ -11,8 +11,8 @@ use Rattle.md_parts.specs.Reading.{Reading, ◌>>=◌, nothing_more, read_record
 use Rattle.md_parts.specs.Repeated.{comes_next}
 use Rattle.md_parts.specs.Multipliers.{bound_of, face_of}
 use Rattle.md_parts.specs.Table.{mechanism_of}
-use Rattle.md_branching.specs.Fixed.{children_of, fixed_at}
-use Rattle.md_node.specs.NodeProgram.{row_count_of}
+use Rattle.md_determ_branching.specs.Fixed.{children_of, fixed_at}
+use Rattle.md_determ_node.specs.NodeProgram.{row_count_of}
 use Rattle.md_tree.specs.Trees.{root_of}
 use Rattle.md_tree.specs.declared.node.Node.{Node}
 use Rattle.md_tree.specs.declared.node.Node.TheVariants.{Branch, Infeasible, Optimal}

@@ -18,6 +18,3 @@ pub use nodes::read_node;
 pub use reading::{read_by_kind, read_determ};
 pub use walking::step;
 pub use writing::write_determ;
-
-#[cfg(test)]
-mod tests;

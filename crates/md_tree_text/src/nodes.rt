@@ -6,13 +6,13 @@ ghost use Rattle.md_setting.specs.Meaning.{sizes_of};
 ghost use Rattle.md_parts.specs.Fields.{place_field};
 ghost use Rattle.md_parts.specs.FirstRecord.{word_among};
 ghost use Rattle.md_parts.specs.Reading.{read_record};
-ghost use Rattle.md_branching.specs.Fixed.{fixed_at};
-ghost use Rattle.md_node.specs.NodeProgram.{IsNode};
+ghost use Rattle.md_determ_branching.specs.Fixed.{fixed_at};
+ghost use Rattle.md_determ_node.specs.NodeProgram.{IsNode};
 ghost use Rattle.md_tree_text.specs.Fitting.{IsNodeFor};
 ghost use Rattle.md_tree_text.specs.Trees.{free_branch, branch_of, leaf_words, infeasible_leaf, optimal_leaf, leaf_of, node_of};
 
 use crate::walking::rows_at;
-use md_branching::Fixed;
+use md_determ_branching::Fixed;
 use md_parts::{AnswerRefusal, Reader, read_bound, read_face, read_mechanism};
 use md_setting::Setting;
 use md_tree::Node;

@@ -6,7 +6,7 @@ ghost use Rattle.md_tree_text.specs.Trees.{tree_of};
 
 use crate::nodes::read_node;
 use crate::walking::step;
-use md_branching::Walk;
+use md_determ_branching::Walk;
 use md_parts::{AnswerRefusal, Reader};
 use md_setting::Setting;
 use md_tree::Tree;

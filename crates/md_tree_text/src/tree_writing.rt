@@ -1,14 +1,14 @@
 //! Writing search trees.
 ghost use Rattle.std.specs.Prelude.{◌≡◌, ◌++◌, ◌∷◌, [], pos, codes, OnOk};
 ghost use Rattle.md_parts.specs.Rows.{bound_rows, face_rows, mechanism_rows};
-ghost use Rattle.md_node.specs.NodeProgram.{IsNode};
+ghost use Rattle.md_determ_node.specs.NodeProgram.{IsNode};
 ghost use Rattle.md_tree.specs.AnswerTo.{IsLeafFor};
 ghost use Rattle.md_tree.specs.Trees.{IsTree};
 ghost use Rattle.md_tree_text.specs.Fitting.{IsNodeFor};
 ghost use Rattle.md_tree_text.specs.Rows.{rows_at, tree_rows};
 
 use crate::walking::{rows_at, step};
-use md_branching::{Fixed, Walk};
+use md_determ_branching::{Fixed, Walk};
 use md_num::NoMemory;
 use md_parts::{push_bound, push_face, push_mechanism, push_numbers};
 use md_records::Row;

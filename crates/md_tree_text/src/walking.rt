@@ -1,11 +1,11 @@
 //! The node that a walk visits: how many rows its program has, and the way on behind it.
 ghost use Rattle.std.specs.Prelude.{◌≡◌, ◌≢◌, ◌≤◌, [], length};
-ghost use Rattle.md_branching.specs.Tour.{current_of, rest_of};
-ghost use Rattle.md_node.specs.NodeProgram.{IsNode, fixed_count, row_count_of};
+ghost use Rattle.md_determ_branching.specs.Tour.{current_of, rest_of};
+ghost use Rattle.md_determ_node.specs.NodeProgram.{IsNode, fixed_count, row_count_of};
 ghost use Rattle.md_tree_text.specs.Fitting.{MayStand};
 ghost use Rattle.md_tree_text.specs.Trees.{opens_after};
 
-use md_branching::{Fixed, Walk};
+use md_determ_branching::{Fixed, Walk};
 use md_setting::Setting;
 use md_tree::Node;
 

@@ -13,6 +13,3 @@ mod unit_net;
 
 pub use realising::realise_units;
 pub use unit_end::UnitEnd;
-
-#[cfg(test)]
-mod tests;

@@ -15,6 +15,3 @@ pub use programs::program;
 pub use sides::right_side;
 pub use solving::solve_units;
 pub use units_answer::UnitsAnswer;
-
-#[cfg(test)]
-mod tests;

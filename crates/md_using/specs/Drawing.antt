@@ -18,11 +18,11 @@ use Rattle.md_run.specs.Refusals.{IsRefused}
 use Rattle.md_run.specs.declared.drawn.Drawn.{Drawn}
 use Rattle.md_run.specs.declared.refusal.DrawRefusal.{DrawRefusal}
 use Rattle.md_run.specs.declared.refusal.DrawRefusal.TheVariants as draws
-use Rattle.md_driver.specs.declared.refusal.Refusal.{Refusal}
-use Rattle.md_driver.specs.declared.refusal.Refusal.TheVariants as refusal
-use Rattle.md_driver.specs.Reading.{answer_in, and_then}
-use Rattle.md_driver.specs.Refused.{refused}
-use Rattle.md_driver.specs.Saying.{Saying}
+use Rattle.md_cli_driver.specs.declared.refusal.Refusal.{Refusal}
+use Rattle.md_cli_driver.specs.declared.refusal.Refusal.TheVariants as refusal
+use Rattle.md_cli_driver.specs.Reading.{answer_in, and_then}
+use Rattle.md_cli_driver.specs.Refused.{refused}
+use Rattle.md_cli_driver.specs.Saying.{Saying}
 
 -- ---- the answer
 

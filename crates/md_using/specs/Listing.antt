@@ -4,7 +4,7 @@ use Rattle.md_setting.specs.declared.file.SettingFile.{SettingFile}
 use Rattle.md_setting.specs.declared.file.SettingFile.TheVariants.{General, Auction}
 use Rattle.md_listing.specs.Listing.{IsListing}
 use Rattle.md_listing.specs.Reduced.{IsReducedListing}
-use Rattle.md_driver.specs.Saying.{Saying}
+use Rattle.md_cli_driver.specs.Saying.{Saying}
 
 -- the text lists the program
 abbrev pub IsListingOf : SettingFile → List ℕ → Type 0

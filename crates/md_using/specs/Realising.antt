@@ -19,9 +19,9 @@ use Rattle.md_parts.specs.Rows.{number_row, end_row}
 use Rattle.md_parts.specs.declared.refusal.AnswerRefusal.{AnswerRefusal}
 use Rattle.md_answer.specs.MassRecords.{mass_rows}
 use Rattle.md_answer.specs.Odds.{odds_of}
-use Rattle.md_driver.specs.declared.refusal.Refusal.{Refusal}
-use Rattle.md_driver.specs.declared.refusal.Refusal.TheVariants as refusal
-use Rattle.md_driver.specs.Saying.{Saying}
+use Rattle.md_cli_driver.specs.declared.refusal.Refusal.{Refusal}
+use Rattle.md_cli_driver.specs.declared.refusal.Refusal.TheVariants as refusal
+use Rattle.md_cli_driver.specs.Saying.{Saying}
 
 abbrev pub odds_or_refusal : Result Interim AnswerRefusal → Result Interim Refusal
 odds_or_refusal (Ok interim) = Ok interim

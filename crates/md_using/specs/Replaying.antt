@@ -14,10 +14,10 @@ use Rattle.md_answer.specs.AuctionPivots.{auction_pivots_of}
 use Rattle.md_answer.specs.Pivots.{pivots_of}
 use Rattle.md_answer.specs.declared.pivots_file.Pivots.{Pivots}
 use Rattle.md_parts.specs.declared.refusal.AnswerRefusal.{AnswerRefusal}
-use Rattle.md_driver.specs.declared.refusal.Refusal.{Refusal}
-use Rattle.md_driver.specs.declared.refusal.Refusal.TheVariants as refusal
-use Rattle.md_driver.specs.Refused.{refused}
-use Rattle.md_driver.specs.Saying.{Saying}
+use Rattle.md_cli_driver.specs.declared.refusal.Refusal.{Refusal}
+use Rattle.md_cli_driver.specs.declared.refusal.Refusal.TheVariants as refusal
+use Rattle.md_cli_driver.specs.Refused.{refused}
+use Rattle.md_cli_driver.specs.Saying.{Saying}
 
 -- the status of pivots that lead to no wide basis, and of those that do
 abbrev pub status_of_replay : Option Entry → ℕ

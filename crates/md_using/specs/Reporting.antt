@@ -23,7 +23,7 @@ use Rattle.md_auction_report.specs.Admissible.{IsTruthfulAndRational, IsToldWhol
 use Rattle.md_auction_report.specs.Mechanisms.{JudgesMechanisms}
 use Rattle.md_auction_report.specs.Records.{report_text as auction_report_text}
 use Rattle.md_auction_report.specs.ReportOf.{IsAuctionReportOf}
-use Rattle.md_driver.specs.Saying.{Saying}
+use Rattle.md_cli_driver.specs.Saying.{Saying}
 
 -- The text tells of a mechanism what it does. It is admissible exactly where the text tells no gain and no loss above 0, and
 -- no deficit below.

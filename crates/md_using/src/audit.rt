@@ -4,13 +4,13 @@ ghost use Rattle.md_setting.specs.ByKind.{WhereGeneral};
 ghost use Rattle.md_setting.specs.Setting.{GeneralSetting};
 ghost use Rattle.md_mech.specs.Accepted.{IsAccepted};
 ghost use Rattle.md_answer.specs.AnswerTo.{IsAnswerTo};
-ghost use Rattle.md_driver.specs.declared.refusal.Refusal.TheVariants as refusal;
+ghost use Rattle.md_cli_driver.specs.declared.refusal.Refusal.TheVariants as refusal;
 ghost use Rattle.md_using.specs.Auditing.{IsAudit, IsAuditStatus, IsVerdict, broken_text, mechanism_in, mechanism_of};
-ghost use Rattle.md_driver.specs.Reading.{is_general};
-ghost use Rattle.md_driver.specs.Saying.{said};
+ghost use Rattle.md_cli_driver.specs.Reading.{is_general};
+ghost use Rattle.md_cli_driver.specs.Saying.{said};
 
 use md_answer::{Answer, read_answer};
-use md_driver::{Answered, Refusal, TwoFiles, general, is_general};
+use md_cli_driver::{Answered, Refusal, TwoFiles, general, is_general};
 use md_mech::{Broken, Mechanism, audit, row_name};
 use md_num::{NoMemory, write_whole};
 use md_setting::{Setting, SettingFile};

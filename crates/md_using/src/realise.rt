@@ -6,14 +6,14 @@ ghost use Rattle.md_setting.specs.Auction.{value_count};
 ghost use Rattle.md_border.specs.Odds.{IsInterim};
 ghost use Rattle.md_expost.specs.Masses.{AreMasses};
 ghost use Rattle.md_records.specs.Written.{text_of_records};
-ghost use Rattle.md_driver.specs.Reading.{is_auction};
+ghost use Rattle.md_cli_driver.specs.Reading.{is_auction};
 ghost use Rattle.md_using.specs.Realising.{IsRealise, IsRealiseStatus, IsRealising, odds_in, table_rows, violated_row};
-ghost use Rattle.md_driver.specs.Saying.{said};
+ghost use Rattle.md_cli_driver.specs.Saying.{said};
 
 use md_answer::{push_masses, read_odds};
 use md_border::{Interim, excess};
+use md_cli_driver::{Answered, Refusal, TwoFiles, auction, is_auction};
 use md_counts::Counts;
-use md_driver::{Answered, Refusal, TwoFiles, auction, is_auction};
 use md_expost::{Masses, RealiseEnd, realise};
 use md_num::NoMemory;
 use md_parts::push_numbers;

@@ -8,15 +8,15 @@ ghost use Rattle.md_border.specs.Odds.{IsInterim};
 ghost use Rattle.md_answer.specs.AnswerTo.{IsAnswerTo};
 ghost use Rattle.md_answer.specs.AuctionAnswerTo.{IsAuctionAnswer};
 ghost use Rattle.md_using.specs.Drawing.{drawable_in, has_table};
-ghost use Rattle.md_driver.specs.Reading.{is_any};
+ghost use Rattle.md_cli_driver.specs.Reading.{is_any};
 ghost use Rattle.md_using.specs.Reporting.{IsAuctionText, IsGeneralText, IsInterimText, IsMechanismText, IsReporting, IsReportStatus, IsReportText};
-ghost use Rattle.md_driver.specs.Saying.{said};
+ghost use Rattle.md_cli_driver.specs.Saying.{said};
 
 use crate::draw::drawable;
 use md_answer::{Answer, read_answer};
 use md_auction_report::{AuctionReport, auction_report_text};
 use md_border::Interim;
-use md_driver::{Answered, Refusal, TwoFiles};
+use md_cli_driver::{Answered, Refusal, TwoFiles};
 use md_lp::Sets;
 use md_mech::Mechanism;
 use md_num::NoMemory;

@@ -1,10 +1,10 @@
 //! The command `rows`: the linear program of a setting.
 ghost use Rattle.std.specs.Prelude.{◌≡◌, IfOk};
 ghost use Rattle.md_using.specs.Listing.{IsListingOf, IsRows, IsRowsStatus};
-ghost use Rattle.md_driver.specs.Reading.{is_any};
-ghost use Rattle.md_driver.specs.Saying.{said};
+ghost use Rattle.md_cli_driver.specs.Reading.{is_any};
+ghost use Rattle.md_cli_driver.specs.Saying.{said};
 
-use md_driver::{Answered, OneFile, Refusal};
+use md_cli_driver::{Answered, OneFile, Refusal};
 use md_listing::{list_program, list_reduced};
 use md_num::NoMemory;
 use md_setting::SettingFile;

@@ -4,7 +4,7 @@ use Rattle.std.proofs.lemmas.Int.{to_z-of_z}
 use Rattle.md_math.specs.Lists.{number_at}
 use Rattle.md_math.specs.Sizes.{AllWithin}
 use Rattle.md_mech.specs.Accepted.{number_limit}
-use Rattle.md_pairs.specs.Odds.{AreOdds}
+use Rattle.md_asym_tables.specs.Odds.{AreOdds}
 use Rattle.md_asym.proofs.SalePrograms.{none-over, odds-fit, pays-small, worst-of}
 use Rattle.md_asym.proofs.sale.worst_of.Goals as goal
 

@@ -4,7 +4,7 @@ use Rattle.md_math.proofs.Readings.{read, read_of, product_is}
 use Rattle.md_space.specs.Profiles.{profile_at}
 use Rattle.md_space.proofs.Walks.{profile_count-pos}
 use Rattle.md_setting.specs.Meaning.{sizes_of}
-use Rattle.md_sale.proofs.SaleLaws.{first-profile, value-kept}
+use Rattle.md_asym_sale.proofs.SaleLaws.{first-profile, value-kept}
 use Rattle.md_asym.proofs.GainLaws.{base-within}
 use Rattle.md_asym.proofs.worth.base.Goals as goal
 

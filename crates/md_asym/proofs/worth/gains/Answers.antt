@@ -5,7 +5,7 @@ use Rattle.md_math.proofs.Bits.{read_result}
 use Rattle.md_math.proofs.Readings.{read, read_of}
 use Rattle.md_math.proofs.SumLaws.{sum_to-more}
 use Rattle.md_mech.proofs.WorthLaws.{step_fits}
-use Rattle.md_sale.specs.Values.{pairs_of, marginal_at}
+use Rattle.md_asym_sale.specs.Values.{pairs_of, marginal_at}
 use Rattle.md_asym.specs.Gains.{gain_of}
 use Rattle.md_asym.proofs.GainLaws.{gains-within, weight-small}
 use Rattle.md_asym.proofs.worth.gains.Goals as goal

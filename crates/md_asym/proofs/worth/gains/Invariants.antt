@@ -1,6 +1,6 @@
 use Rattle.std.proofs.Common.{◌≡◌, ◌*ℤ◌}
 use Rattle.md_math.specs.Sums.{sum_to}
-use Rattle.md_sale.specs.Values.{marginal_at}
+use Rattle.md_asym_sale.specs.Values.{marginal_at}
 use Rattle.md_asym.specs.Gains.{gain_of}
 use Rattle.md_asym.proofs.worth.gains.Given as goal
 

@@ -3,7 +3,7 @@ use Rattle.md_math.specs.Sizes.{IsWithin}
 use Rattle.md_math.proofs.Readings.{read, read_of, read_small, add_product_fits, add_product_is}
 use Rattle.md_math.proofs.Ring.{linear}
 use Rattle.md_mech.specs.Accepted.{number_limit}
-use Rattle.md_sale_laws.specs.Worth.{base_of}
+use Rattle.md_asym_laws.specs.Worth.{base_of}
 use Rattle.md_asym.specs.Gains.{gains_of}
 use Rattle.md_asym.proofs.GainLaws.{base-within, den-within, worth-within}
 use Rattle.md_asym.proofs.worth.worth_over_whole.Goals as goal

@@ -1,4 +1,4 @@
-use Rattle.md_branching.specs.Tour.{left_of}
+use Rattle.md_determ_branching.specs.Tour.{left_of}
 use Rattle.md_determ.specs.Way.{IsUnderWay}
 use Rattle.md_determ.proofs.solving.search_from_root.Given as goal
 

@@ -1,7 +1,7 @@
 use Rattle.std.proofs.Common.{◌≡◌, ◌+◌, subst, arith}
 use Rattle.md_dict.specs.Fill.{IsRowsMultiple}
 use Rattle.md_dict.specs.Multiples.{IsMultipleOfTwo}
-use Rattle.md_division.proofs.Reading.{read_wide}
+use Rattle.md_dict_division.proofs.Reading.{read_wide}
 use Rattle.md_dict.proofs.OldRows.{AreOldFrom-later}
 use Rattle.md_dict.proofs.Filling.{rows_room, IsRowsMultiple-more}
 use Rattle.md_dict.proofs.fill.whole_den.Goals as goal

@@ -1,5 +1,5 @@
 use Rattle.std.proofs.Common.{◌∙◌, refl, sym, arith}
-use Rattle.md_division.proofs.Reading.{read_short}
+use Rattle.md_dict_division.proofs.Reading.{read_short}
 use Rattle.md_dict.proofs.Writing.{IsTable-set}
 use Rattle.md_dict.proofs.NewNumbers.{Leaves-more}
 use Rattle.md_dict.proofs.OldRows.{read_den, read_factor}

@@ -4,7 +4,7 @@ use Rattle.md_math.proofs.Division.{Divides_refl}
 use Rattle.md_math.proofs.SizeLaws.{AllWithin-set}
 use Rattle.md_math.proofs.Bits.{read_result}
 use Rattle.md_dict.specs.Multiples.{IsMultipleOfTwo}
-use Rattle.md_division.proofs.Reading.{read_short}
+use Rattle.md_dict_division.proofs.Reading.{read_short}
 use Rattle.md_dict.proofs.OldRows.{AreOldFrom-next, AreOldFrom-same}
 use Rattle.md_dict.proofs.Filling.{rows_room, AreFilledBy-left, AreFilledBy-more, AreFilledBy-none, IsRowsMultiple-filled}
 use Rattle.md_dict.proofs.fill.write_rows.Goals as goal

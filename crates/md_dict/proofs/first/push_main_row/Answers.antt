@@ -8,7 +8,7 @@ use Rattle.md_math.proofs.SizeLaws.{IsWithin-wider, IsWithin-neg_ℤ}
 use Rattle.md_lp.specs.Program.{row_count}
 use Rattle.md_dict.specs.FirstTable.{column_count, first_number}
 use Rattle.md_dict.specs.Start.{IsBuilt}
-use Rattle.md_division.proofs.Reading.{read_small, read_short}
+use Rattle.md_dict_division.proofs.Reading.{read_small, read_short}
 use Rattle.md_dict.proofs.Building.{IsBuilt-push}
 use Rattle.md_dict.proofs.FirstRows.{length-filled, main_number, with_main_zeros}
 use Rattle.md_dict.proofs.first.push_main_row.Goals as goal

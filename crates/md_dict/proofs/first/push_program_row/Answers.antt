@@ -5,7 +5,7 @@ use Rattle.md_math.proofs.SizeLaws.{IsWithin-wider}
 use Rattle.md_lp.specs.Program.{right_at}
 use Rattle.md_dict.specs.FirstTable.{column_count, sign_at}
 use Rattle.md_dict.specs.Start.{IsBuilt}
-use Rattle.md_division.proofs.Reading.{read_small}
+use Rattle.md_dict_division.proofs.Reading.{read_small}
 use Rattle.md_dict.proofs.FirstRows.{with_right}
 use Rattle.md_dict.proofs.first.push_program_row.Goals as goal
 

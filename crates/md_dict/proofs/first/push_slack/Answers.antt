@@ -7,7 +7,7 @@ use Rattle.md_lp.specs.Program.{kind_at}
 use Rattle.md_lp.specs.declared.row_kind.RowKind.TheVariants.{AtMost}
 use Rattle.md_dict.specs.FirstTable.{column_count, sign_at}
 use Rattle.md_dict.specs.FirstRows.{IsBuiltBefore}
-use Rattle.md_division.proofs.Reading.{read_small}
+use Rattle.md_dict_division.proofs.Reading.{read_small}
 use Rattle.md_dict.proofs.FirstRows.{with_slack}
 use Rattle.md_dict.proofs.first.push_slack.Goals as goal
 

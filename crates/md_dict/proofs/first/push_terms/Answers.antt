@@ -6,7 +6,7 @@ use Rattle.md_lp.specs.Program.{row_at}
 use Rattle.md_lp.specs.Shape.{column_in}
 use Rattle.md_lp.proofs.SparseRows.{no_term}
 use Rattle.md_dict.specs.FirstTable.{column_count, sign_at}
-use Rattle.md_division.proofs.Reading.{read_small}
+use Rattle.md_dict_division.proofs.Reading.{read_small}
 use Rattle.md_dict.proofs.FirstRows.{HasTerms-none, HasTerms-all, HasTerms-next, column_reached}
 use Rattle.md_dict.proofs.first.push_terms.Goals as goal
 

@@ -2,7 +2,7 @@ use Rattle.std.proofs.Common.{◌≡◌, ◌+◌, ◌^◌, sym, refl, subst, ari
 use Rattle.md_math.specs.Lists.{number_at}
 use Rattle.md_math.specs.Sizes.{IsWithin}
 use Rattle.md_math.proofs.SizeLaws.{IsWithin-wider}
-use Rattle.md_division.proofs.Reading.{read_short}
+use Rattle.md_dict_division.proofs.Reading.{read_short}
 use Rattle.md_dict.proofs.FaceRow.{AreLess-more, difference_small, difference_fits}
 use Rattle.md_dict.proofs.first.subtract_row.Goals as goal
 

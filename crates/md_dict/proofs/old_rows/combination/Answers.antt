@@ -3,7 +3,7 @@ use Rattle.std.proofs.lemmas.Int.{ints}
 use mir.Syntax.{w64}
 use Rattle.md_math.proofs.SizeLaws.{fits_from_IsWithin}
 use Rattle.md_math.proofs.Bits.{read_result}
-use Rattle.md_division.proofs.Reading.{read_short}
+use Rattle.md_dict_division.proofs.Reading.{read_short}
 use Rattle.md_dict.proofs.OldRows.{leaving_value, read_den, read_factor}
 use Rattle.md_dict.proofs.RowSteps.{pivot_row_in}
 use Rattle.md_dict.proofs.old_rows.combination.Goals as goal

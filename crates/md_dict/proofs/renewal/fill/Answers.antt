@@ -5,7 +5,7 @@ use Rattle.md_math.specs.Sizes.{AllWithin}
 use Rattle.md_dict.specs.Multiples.{IsLeastMultiple}
 use Rattle.md_dict.specs.RowStep.{AreOldFrom, CanBeRestored}
 use Rattle.md_dict.specs.Step.{number_in}
-use Rattle.md_division.proofs.Reading.{read_wide}
+use Rattle.md_dict_division.proofs.Reading.{read_wide}
 use Rattle.md_dict.proofs.Filling.{IsRowsMultiple-filled, IsTable-own}
 use Rattle.md_dict.proofs.OldRows.{first_part, old_rows_of, AreOldFrom-all}
 use Rattle.md_dict.proofs.renewal.fill.Goals as goal

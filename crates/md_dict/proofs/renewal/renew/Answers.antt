@@ -1,7 +1,7 @@
 use Rattle.std.proofs.Common.{◌+◌, ◌<◌, refl, sym, ap, ◌∙◌, subst, inr, arith}
 use Rattle.md_dict.specs.declared.rows.Rows.{Rows}
 use Rattle.md_dict.specs.RowStep.{AreRestorable, IsNoted}
-use Rattle.md_division.proofs.Reading.{read_wide}
+use Rattle.md_dict_division.proofs.Reading.{read_wide}
 use Rattle.md_dict.proofs.NewTable.{new_table, next_draft, shared_draft}
 use Rattle.md_dict.proofs.renewal.renew.Goals as goal
 

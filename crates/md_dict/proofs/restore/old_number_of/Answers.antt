@@ -1,7 +1,7 @@
 use Rattle.std.proofs.Common.{◌≡◌, ◌^◌, refl, sym, subst}
 use Rattle.md_math.specs.Sizes.{IsWithin}
 use Rattle.md_dict.specs.Rows.{own_number}
-use Rattle.md_division.proofs.Reading.{read_short, read_wide}
+use Rattle.md_dict_division.proofs.Reading.{read_short, read_wide}
 use Rattle.md_dict.proofs.OldRows.{own_within, pivot_number, read_factor}
 use Rattle.md_dict.proofs.RowSteps.{pivot_own_positive, pivot_row_in}
 use Rattle.md_dict.proofs.restore.old_number_of.Goals as goal

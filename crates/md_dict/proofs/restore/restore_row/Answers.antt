@@ -1,6 +1,6 @@
 use Rattle.std.proofs.Common.{◌<◌, sym, ◌∙◌, subst, arith}
 use Rattle.md_math.specs.Sizes.{IsWithin}
-use Rattle.md_division.proofs.Reading.{read_short}
+use Rattle.md_dict_division.proofs.Reading.{read_short}
 use Rattle.md_dict.proofs.Filling.{own_limit}
 use Rattle.md_dict.proofs.restore.restore_row.Goals as goal
 

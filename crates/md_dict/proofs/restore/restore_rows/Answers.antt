@@ -2,7 +2,7 @@ use Rattle.std.proofs.Common.{inl, inr, ◌∙◌, arith}
 use Rattle.std.proofs.lemmas.Bool.{cases_lt}
 use Rattle.md_math.specs.Lists.{number_at}
 use Rattle.md_dict.specs.Step.{number_in}
-use Rattle.md_division.proofs.Reading.{read_short}
+use Rattle.md_dict_division.proofs.Reading.{read_short}
 use Rattle.md_dict.proofs.Filling.{CanBeRestored-same}
 use Rattle.md_dict.proofs.Restoring.{AreHalfRestored-more, AreHalfRestored-none}
 use Rattle.md_dict.proofs.restore.restore_rows.Goals as goal

@@ -9,7 +9,7 @@ use Rattle.md_dict.specs.declared.rows.Rows.{Rows}
 use Rattle.md_dict.specs.Step.{number_in}
 use Rattle.md_dict.specs.Rows.{own_den, own_number}
 use Rattle.md_dict.specs.RowStep.{AreOldRows, CanBeTurnedBack}
-use Rattle.md_division.proofs.Reading.{product_small, sizes_small, widened}
+use Rattle.md_dict_division.proofs.Reading.{product_small, sizes_small, widened}
 use Rattle.md_dict.proofs.Parts.{AllWithin-part, end_inside, in_part, length_part, within_part, Leaves-part, IsTable-part}
 use Rattle.md_dict.proofs.OldRows.{read_den, read_factor}
 use Rattle.md_dict.proofs.RowSteps.{pivot_row_in}

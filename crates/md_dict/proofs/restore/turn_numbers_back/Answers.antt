@@ -4,7 +4,7 @@ use Rattle.md_math.specs.Sizes.{IsWithin}
 use Rattle.md_math.proofs.SizeLaws.{AllWithin-number_at, AllWithin-set, IsWithin-wider}
 use Rattle.md_dict.specs.Rows.{own_number}
 use Rattle.md_dict.specs.RowStep.{AreOldTimes}
-use Rattle.md_division.proofs.Reading.{read_short, read_wide}
+use Rattle.md_dict_division.proofs.Reading.{read_short, read_wide}
 use Rattle.md_dict.proofs.OldRows.{own_within}
 use Rattle.md_dict.proofs.Filling.{own_limit}
 use Rattle.md_dict.proofs.Restoring.{IsHalfTurned-more}

@@ -3,7 +3,7 @@ use mir.Syntax.{w64}
 use Rattle.md_math.specs.Sizes.{IsWithin}
 use Rattle.md_math.proofs.SizeLaws.{fits_from_IsWithin}
 use Rattle.md_math.proofs.Division.{Divides-from_product}
-use Rattle.md_division.proofs.Reading.{read, read_short, read_small, read_wide, sizes_small, widened}
+use Rattle.md_dict_division.proofs.Reading.{read, read_short, read_small, read_wide, sizes_small, widened}
 use Rattle.md_dict.proofs.Restoring.{changed_small, product_is, quotient_is_own, sum_fits, whole_is}
 use Rattle.md_dict.proofs.restore.undone.Goals as goal
 

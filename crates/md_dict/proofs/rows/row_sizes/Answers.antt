@@ -1,7 +1,7 @@
 use Rattle.std.proofs.Common.{◌≡◌, ◌+◌, ◌*◌, [], ◌∷◌, ◌++◌, arith}
 use Rattle.std.proofs.lemmas.List.{length_push}
 use Rattle.md_math.specs.Lists.{number_at}
-use Rattle.md_division.proofs.Reading.{read_short}
+use Rattle.md_dict_division.proofs.Reading.{read_short}
 use Rattle.md_dict.proofs.RowLaws.{sizes_pushed}
 use Rattle.md_dict.proofs.rows.row_sizes.Goals as goal
 

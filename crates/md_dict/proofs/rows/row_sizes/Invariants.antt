@@ -1,6 +1,6 @@
 use Rattle.std.proofs.Common.{◌≡◌, ℕ, ◌+◌, ◌*◌, ◌<◌, length}
 use Rattle.md_math.specs.Lists.{number_at}
-use Rattle.md_least_rows.specs.LeastRows.{IsRowSize}
+use Rattle.md_dict_rows.specs.LeastRows.{IsRowSize}
 use Rattle.md_dict.proofs.rows.row_sizes.Given as goal
 
 abbrev pub invariant-loop-row : goal.invariant-loop-row

@@ -6,7 +6,7 @@ use Rattle.md_math.specs.Sizes.{IsWithin}
 use Rattle.md_math.proofs.Order.{≤ℤ_trans}
 use Rattle.md_math.proofs.SizeLaws.{AllWithin-number_at}
 use Rattle.md_math.proofs.Bits.{read_result}
-use Rattle.md_division.proofs.Reading.{read_short, read_product, product_small}
+use Rattle.md_dict_division.proofs.Reading.{read_short, read_product, product_small}
 use Rattle.md_dict.proofs.sizes.greatest_product.Goals as goal
 
 pub loop-row-preserved : goal.loop-row-preserved

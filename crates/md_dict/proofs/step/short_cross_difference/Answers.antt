@@ -1,5 +1,5 @@
 use Rattle.std.proofs.Common.{◌≡◌, ◌-ℤ◌, ◌*ℤ◌, refl}
-use Rattle.md_division.proofs.Reading.{read, read_cast}
+use Rattle.md_dict_division.proofs.Reading.{read, read_cast}
 use Rattle.md_dict.proofs.ShortProducts.{IsShort, are_short}
 use Rattle.md_dict.proofs.step.short_cross_difference.Goals as goal
 use Rattle.md_dict.proofs.step.short_cross_difference.Goals.{After-from-4}

@@ -4,7 +4,7 @@ use Rattle.md_math.specs.Sizes.{IsWithin}
 use Rattle.md_math.proofs.Bits.{read_result}
 use Rattle.md_dict.specs.Step.{new_entry}
 use Rattle.md_dict.specs.RowStep.{kept_in}
-use Rattle.md_least_rows.proofs.Quotients.{above_from_not}
+use Rattle.md_dict_rows.proofs.Quotients.{above_from_not}
 use Rattle.md_dict.proofs.wide.first_wide.Goals as goal
 
 pub returns-in-Some : goal.returns-in-Some

@@ -1,6 +1,6 @@
 use Rattle.md_math.proofs.Bits.{read_result}
-use Rattle.md_division.proofs.Reading.{read_wide, read_small, sizes_small}
-use Rattle.md_least_rows.proofs.Quotients.{quotient_is}
+use Rattle.md_dict_division.proofs.Reading.{read_wide, read_small, sizes_small}
+use Rattle.md_dict_rows.proofs.Quotients.{quotient_is}
 use Rattle.md_dict.proofs.wide.new_den.Goals as goal
 
 pub product-requires : goal.product-requires

@@ -1,7 +1,7 @@
 use Rattle.md_math.proofs.Bits.{read_result}
 use Rattle.md_dict.specs.RowStep.{kept_in}
 use Rattle.md_dict.proofs.Change.{Divides-raw_at}
-use Rattle.md_least_rows.proofs.Quotients.{quotient_is}
+use Rattle.md_dict_rows.proofs.Quotients.{quotient_is}
 use Rattle.md_dict.proofs.wide.new_entry.Goals as goal
 
 pub quotient-requires-clause-exact : goal.quotient-requires-clause-exact

@@ -2,7 +2,7 @@ use Rattle.std.proofs.Common.{◌≡◌, ◌+◌, ◌<◌, ◌≤◌, ◌^◌, �
 use Rattle.md_math.proofs.Bits.{read_result}
 use Rattle.md_dict.specs.Step.{raw_number, seat_after}
 use Rattle.md_dict.specs.RowStep.{kept_in}
-use Rattle.md_division.proofs.Reading.{read_small, product_small}
+use Rattle.md_dict_division.proofs.Reading.{read_small, product_small}
 use Rattle.md_dict.proofs.Change.{raw_at-basic, raw_at-kept, raw_at-right}
 use Rattle.md_dict.proofs.wide.raw_at.Goals as goal
 use Rattle.md_dict.proofs.wide.raw_at.Goals.{After-basic_number}

@@ -1,4 +1,4 @@
-use Rattle.md_pools.specs.Pooling.{pools_of}
+use Rattle.md_iron_pools.specs.Pooling.{pools_of}
 use Rattle.md_iron.proofs.AnswerLaws.{closed-writable, pools-border}
 use Rattle.md_iron.proofs.OneForm.{one-form}
 use Rattle.md_iron.proofs.ShareLaws.{where-some}

@@ -1,6 +1,6 @@
 use Rattle.std.proofs.Common.{subst}
 use Rattle.md_reduced.specs.ProgramOf.{IsReducedProgram}
-use Rattle.md_pools.specs.Pooling.{pools_of}
+use Rattle.md_iron_pools.specs.Pooling.{pools_of}
 use Rattle.md_iron.proofs.BoundLaws.{bound-end}
 use Rattle.md_iron.proofs.bounds.closed_bound.Goals as goal
 

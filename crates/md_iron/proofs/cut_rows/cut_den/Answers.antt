@@ -3,7 +3,7 @@ use Rattle.md_math.specs.Sizes.{IsWithin}
 use Rattle.md_math.proofs.Order.{positive-*ℤ}
 use Rattle.md_math.proofs.Readings.{IsRead, read, read_of, read_small, product_fits, product_is}
 use Rattle.md_math.proofs.SizeLaws.{IsWithin-*ℤ}
-use Rattle.md_virtual.specs.Odds.{share_den}
+use Rattle.md_iron_values.specs.Odds.{share_den}
 use Rattle.md_iron.proofs.cut_rows.cut_den.Goals as goal
 
 pub product-weights-requires : goal.product-weights-requires

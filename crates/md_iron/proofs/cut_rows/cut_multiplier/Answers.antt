@@ -2,8 +2,8 @@ use Rattle.std.proofs.Common.{◌-ℤ◌, ◌*ℤ◌, ap₂, ◌∙◌}
 use Rattle.std.proofs.lemmas.Int.{to_z-of_z}
 use mir.Syntax.{w128}
 use Rattle.md_math.proofs.Bits.{read_result}
-use Rattle.md_virtual.specs.Odds.{share_den}
-use Rattle.md_pools.specs.Pooling.{pools_of}
+use Rattle.md_iron_values.specs.Odds.{share_den}
+use Rattle.md_iron_pools.specs.Pooling.{pools_of}
 use Rattle.md_iron.proofs.MultiplierLaws.{ratio-is, multiplier-cut}
 use Rattle.md_iron.proofs.cut_rows.cut_multiplier.Goals as goal
 

@@ -5,8 +5,8 @@ use Rattle.md_math.proofs.Bits.{read_result}
 use Rattle.md_setting.specs.Auction.{value_count}
 use Rattle.md_reduced.specs.Conditions.{conditions_of}
 use Rattle.md_reduced.specs.declared.condition.ReducedCondition.TheVariants.{Cut}
-use Rattle.md_ironed.specs.Rows.{cut_row}
-use Rattle.md_pools.specs.Pooling.{pools_of}
+use Rattle.md_iron_laws.specs.Rows.{cut_row}
+use Rattle.md_iron_pools.specs.Pooling.{pools_of}
 use Rattle.md_iron.specs.RowMultipliers.{IsMultiplierOf}
 use Rattle.md_iron.proofs.ConditionRows.{at-truth, at-rational, at-cut, cut-at}
 use Rattle.md_iron.proofs.rows.multiplier.Goals as goal

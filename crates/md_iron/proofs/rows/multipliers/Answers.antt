@@ -2,7 +2,7 @@ use Rattle.std.proofs.Common.{length, ap, arith, length-append}
 use Rattle.md_num.specs.declared.frac.Frac.{Frac}
 use Rattle.md_iron.specs.RowMultipliers.{IsMultiplierAt}
 use Rattle.md_iron.specs.Shares.{IsLeastFraction}
-use Rattle.md_pools.specs.Pooling.{pools_of}
+use Rattle.md_iron_pools.specs.Pooling.{pools_of}
 use Rattle.md_iron.proofs.ShareLaws.{each-pushed}
 use Rattle.md_iron.proofs.rows.multipliers.Goals as goal
 

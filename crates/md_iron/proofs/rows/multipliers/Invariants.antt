@@ -1,7 +1,7 @@
 use Rattle.std.proofs.Common.{◌≡◌, length}
 use Rattle.md_iron.specs.RowMultipliers.{AreRowMultipliers}
 use Rattle.md_iron.specs.Shares.{AreLeastFractions}
-use Rattle.md_pools.specs.Pooling.{pools_of}
+use Rattle.md_iron_pools.specs.Pooling.{pools_of}
 use Rattle.md_iron.proofs.rows.multipliers.Given as goal
 
 abbrev pub invariant-loop-row : goal.invariant-loop-row

@@ -4,9 +4,9 @@ use Rattle.md_math.specs.Sizes.{IsWithin}
 use Rattle.md_math.proofs.Readings.{IsRead, widened, difference_fits, difference_is}
 use Rattle.md_math.proofs.Ring.{linear}
 use Rattle.md_math.proofs.SizeLaws.{IsWithin-difference}
-use Rattle.md_pools.proofs.InterimLaws.{value-within}
-use Rattle.md_virtual.proofs.AuctionLaws.{values-rise}
-use Rattle.md_ironed.specs.Multipliers.{apart_by}
+use Rattle.md_iron_pools.proofs.InterimLaws.{value-within}
+use Rattle.md_iron_values.proofs.AuctionLaws.{values-rise}
+use Rattle.md_iron_laws.specs.Multipliers.{apart_by}
 use Rattle.md_iron.proofs.truth_rows.apart.Goals as goal
 
 small : (c : goal.After-from-2) → IsWithin 1000000 (apart_by c.args.auction.now c.args.high c.args.low)

@@ -2,7 +2,7 @@ use Rattle.std.proofs.Common.{◌^◌, ◌+ℤ◌, ◌*ℤ◌, ap₂, ◌∙◌,
 use Rattle.std.proofs.lemmas.Int.{to_z-of_z}
 use mir.Syntax.{w128}
 use Rattle.md_math.proofs.Bits.{read_result, read_within}
-use Rattle.md_virtual.specs.VirtualValues.{weight_from}
+use Rattle.md_iron_values.specs.VirtualValues.{weight_from}
 use Rattle.md_iron.proofs.MultiplierLaws.{ratio-is}
 use Rattle.md_iron.proofs.truth_rows.downward.Goals as goal
 

@@ -4,7 +4,7 @@ use Rattle.md_math.proofs.Readings.{IsRead, read, read_small, read_of, widened, 
 use Rattle.md_math.proofs.Ring.{linear}
 use Rattle.md_math.proofs.SizeLaws.{IsWithin-*ℤ, IsWithin-+ℤ}
 use Rattle.md_border.proofs.WorthLaws.{revenue-within}
-use Rattle.md_virtual.specs.VirtualValues.{weight_from}
+use Rattle.md_iron_values.specs.VirtualValues.{weight_from}
 use Rattle.md_iron.proofs.truth_rows.downward_num.Goals as goal
 
 pub product-requires : goal.product-requires

@@ -1,7 +1,7 @@
 use Rattle.std.proofs.Common.{arith}
 use Rattle.std.proofs.lemmas.Int.{to_z-of_z}
 use mir.Syntax.{w128}
-use Rattle.md_pools.specs.Pooling.{pools_of}
+use Rattle.md_iron_pools.specs.Pooling.{pools_of}
 use Rattle.md_iron.proofs.MultiplierLaws.{multiplier-up}
 use Rattle.md_iron.proofs.ShareLaws.{zero-least}
 use Rattle.md_iron.proofs.truth_rows.truth_multiplier.Goals as goal

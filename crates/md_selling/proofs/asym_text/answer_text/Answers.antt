@@ -4,7 +4,7 @@ use mir.Syntax.{w128}
 use Rattle.md_setting.specs.Meaning.{agent_count}
 use Rattle.md_parts.specs.declared.version.Version.TheVariants.{One}
 use Rattle.md_parts.specs.Rows.{bound_rows, cut_rows, end_row, first_row, number_row, profile_rows, value_row}
-use Rattle.md_sale.specs.Conditions.{conditions_of}
+use Rattle.md_asym_sale.specs.Conditions.{conditions_of}
 use Rattle.md_selling.specs.SaleTexts.{agent_rows}
 use Rattle.md_selling.proofs.Joined.{all, then}
 use Rattle.md_selling.proofs.asym_text.answer_text.Goals as goal

@@ -3,7 +3,7 @@ use Rattle.md_math.specs.Lists.{number_at}
 use Rattle.md_num.specs.WholeText.{text_of}
 use Rattle.md_setting.specs.Meaning.{sizes_of}
 use Rattle.md_parts.proofs.MadeRows.{listed-more}
-use Rattle.md_sale.specs.Pairs.{pair_number}
+use Rattle.md_asym_sale.specs.Pairs.{pair_number}
 use Rattle.md_selling.proofs.asym_text.with_types.Goals as goal
 
 pub loop-kind-preserved : goal.loop-kind-preserved

@@ -3,7 +3,7 @@ use Rattle.md_records.specs.Written.{text_of_records}
 use Rattle.md_check.specs.declared.verdict.Verdict.{Verdict}
 use Rattle.md_solving.specs.Checking.{IsVerdictOn}
 use Rattle.md_solving.specs.Drilling.{check_row, drill_row}
-use Rattle.md_driver.specs.Saying.{said}
+use Rattle.md_cli_driver.specs.Saying.{said}
 use Rattle.md_solving.proofs.Drilled.{judged, readable, sure}
 use Rattle.md_solving.proofs.drill.drilled.Goals as goal
 

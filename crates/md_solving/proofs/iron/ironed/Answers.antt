@@ -1,6 +1,6 @@
 use Rattle.std.proofs.Common.{refl, inl, inr}
 use Rattle.md_solving.proofs.Closed.{prints-closed}
-use Rattle.md_driver.proofs.Files.{by_kind}
+use Rattle.md_cli_driver.proofs.Files.{by_kind}
 use Rattle.md_solving.proofs.iron.ironed.Goals as goal
 
 pub returns-in_ok-write_answer-in-Optimal-clause-iron : goal.returns-in_ok-write_answer-in-Optimal-clause-iron

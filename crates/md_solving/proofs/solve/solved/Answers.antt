@@ -1,6 +1,6 @@
 use Rattle.std.proofs.Common.{inl, inr}
 use Rattle.md_solving.proofs.AuctionHeadlines.{IsFoundFor, auction_headline}
-use Rattle.md_driver.proofs.Files.{by_kind}
+use Rattle.md_cli_driver.proofs.Files.{by_kind}
 use Rattle.md_solving.proofs.Headlines.{IsShownBy, headline}
 use Rattle.md_solving.proofs.solve.solved.Goals as goal
 

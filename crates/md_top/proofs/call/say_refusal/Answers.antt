@@ -1,6 +1,6 @@
 use Rattle.std.proofs.Common.{rules, refl, inr}
-use Rattle.md_driver.specs.declared.refusal.Refusal.TheVariants as refusal
-use Rattle.md_driver.specs.Refused.{HasMadeLine}
+use Rattle.md_cli_driver.specs.declared.refusal.Refusal.TheVariants as refusal
+use Rattle.md_cli_driver.specs.Refused.{HasMadeLine}
 use Rattle.md_top.proofs.call.say_refusal.Goals as goal
 
 pub returns-in-Err : goal.returns-in-Err

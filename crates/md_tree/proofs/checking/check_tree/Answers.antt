@@ -2,7 +2,7 @@ use Rattle.std.proofs.Common.{◌<◌, ◌≤◌, Option, length, option_map, ar
 use Rattle.std.proofs.lemmas.List.{drop_all}
 use Rattle.std.proofs.lemmas.Option.{MatchOption-at_none, MatchOption-at_some}
 use Rattle.md_mech.specs.declared.mechanism.Mechanism.{Mechanism}
-use Rattle.md_branching.specs.Tour.{current_of}
+use Rattle.md_determ_branching.specs.Tour.{current_of}
 use Rattle.md_tree.specs.Visits.{IsSoundNode, IsNodeFault}
 use Rattle.md_tree.proofs.VisitLaws.{way-open, way-node, way-fault, way-on, way-end}
 use Rattle.md_tree.proofs.checking.check_tree.Goals as goal

@@ -2,8 +2,8 @@ use mathlib.Core.Bool.{true≢false}
 use Rattle.std.proofs.Common.{◌∙◌, sym, ap, Option, option_map}
 use Rattle.std.proofs.lemmas.Result.{err_from_is_err_and}
 use Rattle.md_space.specs.Profiles.{profile_count}
-use Rattle.md_branching.specs.Tour.{current_of}
-use Rattle.md_branching.proofs.Measure.{opens-first}
+use Rattle.md_determ_branching.specs.Tour.{current_of}
+use Rattle.md_determ_branching.proofs.Measure.{opens-first}
 use Rattle.md_mech.specs.declared.mechanism.Mechanism.{Mechanism}
 use Rattle.md_tree_text.proofs.TreesRead.{read-fails}
 use Rattle.md_tree_check.proofs.TreesJudged.{start-judged, next-fewer, more-judged}

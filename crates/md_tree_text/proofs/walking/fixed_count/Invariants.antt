@@ -1,5 +1,5 @@
 use Rattle.std.proofs.Common.{◌≡◌, ◌≤◌, take}
-use Rattle.md_node.specs.NodeProgram.{fixed_count}
+use Rattle.md_determ_node.specs.NodeProgram.{fixed_count}
 use Rattle.md_tree_text.proofs.walking.fixed_count.Given as goal
 
 abbrev pub invariant-loop-rank : goal.invariant-loop-rank

@@ -3,7 +3,7 @@ use Rattle.md_dict.specs.contracts.dict.Dict.{the_view}
 use Rattle.md_dict.specs.Condensed.{Condensed, IsShapedDictionary}
 use Rattle.md_dict.specs.Fill.{AreUnderWay}
 use Rattle.md_dict.specs.Rows.{kept_of, AreRows}
-use Rattle.md_division.proofs.Reading.{product_small, read_wide}
+use Rattle.md_dict_division.proofs.Reading.{product_small, read_wide}
 use Rattle.md_dict.proofs.Values.{exchanged_is}
 use Rattle.md_dict.proofs.Exchanged.{IsShaped-exchanged}
 use Rattle.md_dict.proofs.NewTable.{den_divides, den_quotient, divisor_small, kept_for, leaving_small, row_step, rows_for, rows_from, same_kept, same_rows, wide_row, wide_table, written_for, written_from, HasRows-new, IsDraft-for, IsDraft-from}

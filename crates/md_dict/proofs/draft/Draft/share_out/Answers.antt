@@ -5,7 +5,7 @@ use Rattle.std.proofs.lemmas.List.{with_items_is}
 use Rattle.md_math.specs.Sizes.{IsWithin}
 use Rattle.md_math.specs.Lists.{number_at}
 use Rattle.md_math.proofs.SizeLaws.{IsWithin-wider}
-use Rattle.md_division.proofs.Reading.{read_cast}
+use Rattle.md_dict_division.proofs.Reading.{read_cast}
 use Rattle.md_dict.proofs.draft.Draft.share_out.Goals as goal
 
 pub share_out-requires-clause-divides : goal.share_out-requires-clause-divides

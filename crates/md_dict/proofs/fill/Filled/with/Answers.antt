@@ -3,7 +3,7 @@ use Rattle.std.proofs.lemmas.Int.{to_z-of_z}
 use mir.Syntax.{w128}
 use Rattle.md_math.specs.Divisors.{Divides}
 use Rattle.md_math.proofs.Bits.{read_result}
-use Rattle.md_division.proofs.Reading.{read_wide}
+use Rattle.md_dict_division.proofs.Reading.{read_wide}
 use Rattle.md_dict.proofs.LeastMultiples.{small_divisor, small_multiple, IsMultipleOfTwo-divides}
 use Rattle.md_dict.proofs.fill.Filled.with.Goals as goal
 

@@ -4,7 +4,7 @@ use mir.Syntax.{w64, w128}
 use Rattle.md_math.specs.Sizes.{IsWithin}
 use Rattle.md_math.proofs.SizeLaws.{AllWithin-number_at}
 use Rattle.md_dict.specs.Rows.{own_number, share_of}
-use Rattle.md_division.proofs.Reading.{read_short, read_product, product_small}
+use Rattle.md_dict_division.proofs.Reading.{read_short, read_product, product_small}
 use Rattle.md_dict.proofs.rows.Rows.number.Goals as goal
 
 pub returns-clause-size : goal.returns-clause-size

@@ -1,7 +1,7 @@
 use Rattle.std.proofs.Common.{ℕ, ◌+◌, ◌*◌, ◌<◌, pos, ap, ◌∙◌}
 use Rattle.std.proofs.lemmas.List.{get_or-replicate}
 use Rattle.md_math.specs.Lists.{number_at}
-use Rattle.md_least_rows.specs.LeastRows.{IsRowSize}
+use Rattle.md_dict_rows.specs.LeastRows.{IsRowSize}
 use Rattle.md_dict.proofs.RowLaws.{AreRows-whole, kept_of_whole}
 use Rattle.md_dict.proofs.rows.Rows.whole.Goals as goal
 

@@ -1,7 +1,7 @@
 use Rattle.std.proofs.Common.{◌≡◌, ◌*ℤ◌, ◌∙◌}
 use lib.IntN.{*ℤ_comm}
 use Rattle.md_math.proofs.Bits.{read_result}
-use Rattle.md_division.proofs.Reading.{read_small, read_wide}
+use Rattle.md_dict_division.proofs.Reading.{read_small, read_wide}
 use Rattle.md_dict.proofs.step.Step.over.Goals as goal
 
 pub exact_quotient-requires-clause-exact : goal.exact_quotient-requires-clause-exact

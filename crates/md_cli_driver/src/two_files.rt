@@ -1,0 +1,87 @@
+//! Carrying out a command of two files, the second of which is read by the setting that the first one says.
+ghost use Rattle.std.specs.Prelude.{◌≡◌, ◌⊎◌, ℕ, Bool, true, List, Result, IfOk, IfErr};
+ghost use Rattle.md_setting.specs.declared.file.SettingFile.{SettingFile};
+ghost use Rattle.md_cli_driver.specs.declared.refusal.Refusal.{Refusal};
+ghost use Rattle.md_cli_driver.specs.declared.refusal.Refusal.TheVariants as refusal;
+ghost use Rattle.md_cli_driver.specs.Reading.{Follows};
+ghost use Rattle.md_cli_driver.specs.Refused.{status_of};
+ghost use Rattle.md_cli_driver.specs.Saying.{Saying};
+ghost use Rattle.md_cli_driver.specs.Works.{IsCarriedOut, IsWorked, two_files};
+
+use crate::answered::Answered;
+use crate::read::read_file;
+use crate::refusal::Refusal;
+use crate::setting_file::read_setting_file;
+use md_ports::Shelf;
+use md_setting::SettingFile;
+use std::alloc::Global;
+
+/// The greatest length of a second file, in bytes.
+const ANSWER_LIMIT: usize = 67_108_864;
+
+/// A command of two files.
+pub trait TwoFiles {
+    /// What the second file is read as.
+    type Second: Drop;
+
+    /// The settings that it serves.
+    ghost is_served: { SettingFile → Bool };
+
+    /// What the bytes of a second file say, by the setting.
+    ghost reading: { SettingFile → List ℕ → Result Self.Second Refusal };
+
+    /// What is known of a second file that was read.
+    ghost fits: { SettingFile → Self.Second → Type 0 };
+
+    /// What it says of both.
+    ghost says: { Self → SettingFile → Self.Second → Saying → Type 0 };
+
+    /// The statuses of what it says.
+    ghost own: { ℕ → Type 0 };
+
+    /// Whether it serves a setting.
+    fn serves(&self, file: &SettingFile) -> bool
+        ensures { result ≡ is_served file.now };
+
+    /// What a second file says.
+    fn second(
+        &self,
+        alloc: Global,
+        file: &SettingFile,
+        bytes: &[u8],
+    ) -> Result<Self::Second, Refusal>
+        requires { is_served file.now ≡ true }
+        ensures follows { Follows (λ second. second) result (reading file.now bytes.now) }
+        ensures fits { IfOk result (fits file.now) }
+        ensures errors { IfErr result (λ e. (e ≡ refusal.Memory) ⊎ (status_of e ≡ 66)) };
+
+    /// What it says of a setting that it serves and of what a second file says.
+    fn answer(
+        &self,
+        alloc: Global,
+        file: &SettingFile,
+        second: &Self::Second,
+    ) -> Result<Answered, Refusal>
+        requires served { is_served file.now ≡ true }
+        requires fits { fits file.now second.now }
+        ensures { IsWorked (says self.now file.now second.now) own result };
+}
+
+/// Reads the setting, then the second file, and carries the command out.
+pub fn of_two<F: Shelf, C: TwoFiles>(
+    alloc: Global,
+    command: &C,
+    setting: &str,
+    second: &str,
+    shelf: &mut F,
+) -> Result<Answered, Refusal>
+    ensures { IsCarriedOut (two_files C.Second C.is_served C.reading (C.says command.now) C.own) setting.now second.now (F.content shelf.old) (F.faults shelf.old) (F.faults shelf.new) result }
+{
+    let file = read_setting_file(alloc, setting, shelf)?;
+    if !command.serves(&file) {
+        return Err(Refusal::OtherKind);
+    }
+    let bytes = read_file(shelf, second, ANSWER_LIMIT, Refusal::AnswerTooLong)?;
+    let second = command.second(alloc, &file, &bytes)?;
+    command.answer(alloc, &file, &second)
+}

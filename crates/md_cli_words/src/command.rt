@@ -1,0 +1,93 @@
+//! The commands by their names, and the form that the arguments of each have.
+ghost use Rattle.std.specs.Prelude.{◌≡◌, map, string_bytes};
+ghost use Rattle.md_cli_words.specs.Commands.{command_in, command_named, form_of};
+
+use crate::form::Form;
+
+/// A command, apart from its arguments.
+#[derive(Clone, Copy, Debug, PartialEq, Eq)]
+pub enum Command {
+    /// `audit SETTING ANSWER` tries a mechanism against all conditions of a setting.
+    Audit,
+    /// `rows SETTING` prints the linear program of a setting.
+    Rows,
+    /// `check SETTING ANSWER` checks an answer about a setting.
+    Check,
+    /// `solve SETTING [--width W]` solves a setting within a width.
+    Solve,
+    /// `replay SETTING PIVOTS [--width W]` carries out pivots on the linear program of a setting within a width.
+    Replay,
+    /// `realise SETTING ODDS` realises interim odds of an auction.
+    Realise,
+    /// `fair SETTING [--width W]` finds the fairest mechanism of a setting within a width.
+    Fair,
+    /// `asym SETTING [--width W]` solves the sale of one item to bidders who differ within a width.
+    Asym,
+    /// `units SETTING NUMBER [--width W]` sells so many units to the bidders of an auction within a width.
+    Units,
+    /// `determ SETTING [--width W]` finds the best deterministic mechanism of a setting within a width.
+    Determ,
+    /// `determcheck SETTING ANSWER` checks an answer about the deterministic mechanisms of a setting.
+    DetermCheck,
+    /// `run SETTING ANSWER PROFILE DRAW1 DRAW2` draws an outcome of an answer at a profile of reports.
+    Run,
+    /// `report SETTING ANSWER` tells what the mechanism of an answer does, and how far it is from truthful.
+    Report,
+    /// `iron SETTING` gives an optimal mechanism of an auction in closed form.
+    Iron,
+    /// `make NUMBER` prints the setting that a number stands for.
+    Make,
+    /// `drill NUMBER` solves the setting that a number stands for, and checks the answer.
+    Drill,
+}
+
+/// The command that the first word of a call names, if there is one and it does. It takes no memory.
+pub(crate) fn command_in(words: &[String]) -> Option<Command>
+    ensures { result ≡ command_in (map string_bytes words.now) }
+{
+    named(words.first()?.as_str())
+}
+
+// The command of a name.
+fn named(word: &str) -> Option<Command>
+    ensures { result ≡ command_named word.now }
+{
+    match word {
+        "audit" => Some(Command::Audit),
+        "rows" => Some(Command::Rows),
+        "check" => Some(Command::Check),
+        "solve" => Some(Command::Solve),
+        "replay" => Some(Command::Replay),
+        "realise" => Some(Command::Realise),
+        "fair" => Some(Command::Fair),
+        "asym" => Some(Command::Asym),
+        "units" => Some(Command::Units),
+        "determ" => Some(Command::Determ),
+        "determcheck" => Some(Command::DetermCheck),
+        "run" => Some(Command::Run),
+        "report" => Some(Command::Report),
+        "iron" => Some(Command::Iron),
+        "make" => Some(Command::Make),
+        "drill" => Some(Command::Drill),
+        _ => None,
+    }
+}
+
+/// The form of a command's arguments.
+pub(crate) fn form(command: Command) -> Form
+    ensures { result ≡ form_of command }
+{
+    match command {
+        Command::Rows | Command::Iron => Form::One,
+        Command::Solve | Command::Fair | Command::Asym | Command::Determ => Form::OneWidth,
+        Command::Audit
+        | Command::Check
+        | Command::Realise
+        | Command::DetermCheck
+        | Command::Report => Form::Two,
+        Command::Replay => Form::TwoWidth,
+        Command::Units => Form::NumberWidth,
+        Command::Run => Form::Draws,
+        Command::Make | Command::Drill => Form::Number,
+    }
+}

@@ -1,5 +1,0 @@
-use Rattle.md_division.proofs.Reading.{read_wide}
-use Rattle.md_least_rows.proofs.candidates.common_at_witnesses.Goals as goal
-
-pub loop-place-init : goal.loop-place-init
-loop-place-init c = rw (c.new-divider.ensures, read_wide c.args.candidate c.requires.attempt.size) c.requires.attempt
