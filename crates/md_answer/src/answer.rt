@@ -8,7 +8,7 @@ use md_mech::Mechanism;
 use md_num::{Frac, Nums};
 
 /// An answer about a general setting or an auction.
-#[derive(Debug, Drop)]
+#[derive(Drop)]
 pub enum Answer {
     /// A mechanism, of which nothing is claimed.
     Table(Mechanism),

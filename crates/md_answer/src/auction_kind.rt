@@ -3,7 +3,7 @@ ghost use Rattle.std.specs.Prelude.{◌≡◌, map};
 ghost use Rattle.md_answer.specs.AuctionKinds.{word_of, kind_of, auction_words};
 
 /// The kinds of answers about an auction.
-#[derive(Clone, Copy, Debug, PartialEq, Eq)]
+#[derive(Clone, Copy)]
 pub(crate) enum AuctionKind {
     /// Best odds and payments.
     Optimal,

@@ -3,7 +3,7 @@ ghost use Rattle.std.specs.Prelude.{◌≡◌, map};
 ghost use Rattle.md_answer.specs.Kinds.{word_of, kind_of, answer_words};
 
 /// The kinds of answers about a setting.
-#[derive(Clone, Copy, Debug, PartialEq, Eq)]
+#[derive(Clone, Copy)]
 pub(crate) enum Kind {
     /// A mechanism, of which nothing is claimed.
     Table,

@@ -12,7 +12,7 @@ use std::alloc::Global;
 
 /// The pivots that a pivots file lists, in their order. The cuts are the rows that were added to the program: none for
 /// a general setting.
-#[derive(Debug, Drop)]
+#[derive(Drop)]
 pub struct Pivots {
     pub cuts: Sets,
     pub path: Path,

@@ -5,7 +5,7 @@ use md_num::{Frac, Nums};
 
 /// An optimal mechanism of a sale, with what shows that it is one. Pairs are those of a bidder and one of its types, by
 /// bidder, then by type.
-#[derive(Debug, Drop)]
+#[derive(Drop)]
 pub struct AsymAnswer {
     /// What the mechanism is worth to the designer, in least terms.
     pub value: Frac,

@@ -2,7 +2,7 @@
 use md_num::Nums;
 
 /// What comes of the interim odds of a sale.
-#[derive(Debug, Drop)]
+#[derive(Drop)]
 pub enum PairEnd {
     /// How often the item goes to each agent at each profile, by rank and then by agent, in units of one over the
     /// denominator of the odds and the weight of the profile: the masses of each pair add to its demand.

@@ -1,7 +1,7 @@
 //! What is measured of a bidder with a value.
 
 /// What is measured of a bidder with a value, in units of one over the denominator.
-#[derive(Clone, Copy, Debug, PartialEq, Eq)]
+#[derive(Clone, Copy)]
 pub(crate) enum Amount {
     /// What it pays.
     Payment,

@@ -6,7 +6,7 @@ use md_num::Frac;
 
 /// What interim odds and payments do, and how far they are from the conditions of their auction. All fractions are in least
 /// terms.
-#[derive(Debug, Drop)]
+#[derive(Drop)]
 pub struct AuctionReport {
     /// The expected objective.
     pub value: Frac,

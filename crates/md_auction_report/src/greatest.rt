@@ -4,7 +4,7 @@ use md_num::Frac;
 use md_reduced::ReducedCondition;
 
 /// Of some conditions the one of which most is missed, the first of several.
-#[derive(Clone, Copy, Debug, PartialEq, Eq)]
+#[derive(Clone, Copy)]
 pub struct Greatest {
     /// The condition.
     pub condition: ReducedCondition,

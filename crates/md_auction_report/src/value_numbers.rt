@@ -3,7 +3,7 @@
 use md_num::Frac;
 
 /// What a bidder with a value expects to get and to pay, where all tell their true values.
-#[derive(Clone, Copy, Debug, PartialEq, Eq)]
+#[derive(Clone, Copy)]
 pub struct ValueNumbers {
     /// The kind of the value.
     pub kind: u32,

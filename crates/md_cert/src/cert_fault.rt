@@ -2,7 +2,7 @@
 use md_num::Frac;
 
 /// The first condition of a certificate that fails, with its numbers. Rows and columns are numbered from 0.
-#[derive(Clone, Copy, Debug, PartialEq, Eq)]
+#[derive(Clone, Copy)]
 pub enum CertFault {
     /// The point breaks this row: the row's sum, and the denominator times the right side.
     Point { row: u32, left: i128, right: i128 },

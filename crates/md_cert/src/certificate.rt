@@ -3,7 +3,7 @@ use crate::bound::Bound;
 use md_num::Nums;
 
 /// What shows how a program ends: numbers that anyone can check.
-#[derive(Debug, Drop)]
+#[derive(Drop)]
 pub enum Certificate {
     /// The point, over `den`, meets the program, and the bound shows that no point has a greater cost.
     Optimal {

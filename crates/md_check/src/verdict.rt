@@ -3,7 +3,7 @@ use md_mech::Broken;
 use md_num::Frac;
 
 /// The verdict on an answer.
-#[derive(Clone, Copy, Debug, PartialEq, Eq)]
+#[derive(Clone, Copy)]
 pub enum Verdict {
     /// All conditions hold, so that what the answer claims is so.
     Valid,
@@ -15,7 +15,7 @@ pub enum Verdict {
 
 /// The first condition that an answer breaks, with its numbers. Rows and columns are those of the setting's program,
 /// or of the auction's reduced program with the answer's cuts, numbered from 0; fractions are in least terms.
-#[derive(Clone, Copy, Debug, PartialEq, Eq)]
+#[derive(Clone, Copy)]
 pub enum Reject {
     /// The mechanism breaks a condition of the setting.
     Audit { broken: Broken },

@@ -11,7 +11,7 @@ use md_toml::SettingRefusal;
 use std::alloc::{AllocError, Global};
 
 /// The first reason for which a command is not carried out.
-#[derive(Clone, Copy, Debug, PartialEq, Eq)]
+#[derive(Clone, Copy)]
 pub enum Refusal {
     /// The words are no command.
     Usage,

@@ -5,7 +5,7 @@ ghost use Rattle.md_cli_words.specs.Commands.{command_in, command_named, form_of
 use crate::form::Form;
 
 /// A command, apart from its arguments.
-#[derive(Clone, Copy, Debug, PartialEq, Eq)]
+#[derive(Clone, Copy)]
 pub enum Command {
     /// `audit SETTING ANSWER` tries a mechanism against all conditions of a setting.
     Audit,

@@ -16,7 +16,7 @@ use std::alloc::Global;
 const GREATEST_WIDTH: u8 = 62;
 
 /// A command with what it is asked for. A text is empty, and a number 0, where the command has no such argument.
-#[derive(Clone, Copy, Debug, PartialEq, Eq)]
+#[derive(Clone, Copy)]
 pub struct Order<'a> {
     /// What is to be done.
     pub command: Command,

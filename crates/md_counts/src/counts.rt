@@ -20,7 +20,7 @@ use std::marker::Model;
 const MAX_LISTS: u32 = 20_000;
 
 /// The lists of counts of so many bidders with so many kinds of values, in ascending lexicographic order.
-#[derive(Debug, Drop)]
+#[derive(Drop)]
 pub struct Counts {
     bidders: u32,
     kinds: u32,

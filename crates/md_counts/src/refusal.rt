@@ -3,7 +3,7 @@
 use thiserror::Error;
 
 /// Why the lists of counts are refused.
-#[derive(Debug, Clone, Copy, PartialEq, Eq, Error)]
+#[derive(Debug, Clone, Copy, Error)]
 pub enum CountsRefusal {
     /// There are more than 20,000 lists.
     #[error("too many lists of counts")]

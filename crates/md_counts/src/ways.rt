@@ -11,7 +11,7 @@ const NUMBERS: usize = 13;
 const PLACES: usize = NUMBERS * NUMBERS;
 
 /// The number of lists of counts for each number of kinds and of bidders up to 12.
-#[derive(Debug, Drop)]
+#[derive(Drop)]
 pub(crate) struct Ways {
     table: [u32; 169],
 }

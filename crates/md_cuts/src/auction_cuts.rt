@@ -15,7 +15,7 @@ use md_setting::Auction;
 use std::alloc::Global;
 
 /// The interim odds and payments of a point, and a mass table that has exactly the odds.
-#[derive(Debug, Drop)]
+#[derive(Drop)]
 pub struct Realised {
     /// The odds and the payments.
     pub interim: Interim,

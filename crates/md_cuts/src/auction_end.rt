@@ -5,7 +5,7 @@ use md_expost::Masses;
 use md_lp::Sets;
 
 /// An optimal mechanism of an auction, with what shows that it is one.
-#[derive(Debug, Drop)]
+#[derive(Drop)]
 pub struct AuctionEnd {
     /// The sets of values of the last reduced program, in the order in which they were added.
     pub cuts: Sets,

@@ -3,7 +3,7 @@ use crate::Optimum;
 use md_lp::Sets;
 
 /// The end of a cut run at a point at which no set is over.
-#[derive(Debug, Drop)]
+#[derive(Drop)]
 pub struct CutEnd<T> {
     /// The sets of the last program, in the order in which they were added.
     pub cuts: Sets,

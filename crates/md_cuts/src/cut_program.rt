@@ -10,7 +10,7 @@ use md_num::{NoMemory, Nums};
 use std::alloc::Global;
 
 /// The set that is over most at a point, or what shows that none is.
-#[derive(Debug, Drop)]
+#[derive(Drop)]
 pub enum Worst<T> {
     /// No set is over.
     Table(T),

@@ -3,7 +3,7 @@ use md_cert::Bound;
 use md_num::Nums;
 
 /// A point of a program that no point exceeds, and what shows this.
-#[derive(Debug, Drop)]
+#[derive(Drop)]
 pub struct Optimum {
     /// The denominator of the point.
     pub den: i128,

@@ -12,7 +12,7 @@ use md_simplex::{End, SimplexError, run};
 use std::alloc::Global;
 
 /// What comes after some cuts.
-#[derive(Debug, Drop)]
+#[derive(Drop)]
 pub(crate) enum Turn<T> {
     /// One more cut.
     Adds(u32),

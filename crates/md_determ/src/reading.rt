@@ -4,7 +4,7 @@ use md_mech::Mechanism;
 use md_num::Nums;
 
 /// What the program of a node has: a best point, none, or a point and a ray without end.
-#[derive(Debug, Drop)]
+#[derive(Drop)]
 pub enum Reading {
     /// The mechanism of the best point, with multipliers of the rows of the node's program.
     Optimal { mechanism: Mechanism, bound: Bound },

@@ -10,7 +10,7 @@ use md_num::{NoMemory, Width};
 use md_tree::{Node, Tree};
 
 /// A search under way.
-#[derive(Debug, Drop)]
+#[derive(Drop)]
 pub(crate) struct Search {
     /// The width of all paths.
     pub width: Width,

@@ -7,7 +7,7 @@ use std::alloc::Global;
 use std::marker::Model;
 
 /// A node of a search tree: for each rank the outcome that is fixed there, or none.
-#[derive(Debug, Drop)]
+#[derive(Drop)]
 pub struct Fixed {
     entries: Vec<Option<u32>>,
 }

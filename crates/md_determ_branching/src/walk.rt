@@ -10,7 +10,7 @@ use std::alloc::Global;
 use std::marker::Model;
 
 /// A walk through a search tree in preorder: the node that is visited, and the others that are open.
-#[derive(Debug, Drop)]
+#[derive(Drop)]
 pub struct Walk {
     outcomes: u32,
     // the node that is visited

@@ -26,7 +26,7 @@ use std::marker::Model;
 /// The dictionary of a basis of a linear program with m rows and n program and slack columns: whole numbers over one denominator, in least terms.
 /// Its rows are the program rows, then the face row m and the main row m + 1. Its columns are the program and slack columns, then the start columns n to n + m - 1, and the right side n + m.
 /// No number exceeds the limit of the width in size.
-#[derive(Debug, Drop)]
+#[derive(Drop)]
 pub struct Dict {
     rows: u32,
     columns: u32,

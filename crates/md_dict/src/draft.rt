@@ -12,7 +12,7 @@ use std::alloc::Global;
 use std::mem;
 
 // What a pivot notes while it writes new rows in the places of the old ones: the pivot row and a row as they were, each row's number at the place of the pivot as it was, the rows' new denominators, shares and sizes, and a row of zeros.
-#[derive(Debug, Drop)]
+#[derive(Drop)]
 pub struct Draft {
     pub pivot_row: Vec<i64>,
     pub own: Vec<i64>,

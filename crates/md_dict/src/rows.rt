@@ -10,7 +10,7 @@ use md_num::NoMemory;
 use std::alloc::Global;
 
 // The kept numbers of a dictionary, row by row. Each row stands over a denominator of its own, in least terms; its share is what that denominator is multiplied by to give the denominator of the dictionary. The size of a row is that of its greatest number.
-#[derive(Debug, Drop)]
+#[derive(Drop)]
 pub struct Rows {
     pub width: usize,
     pub numbers: Vec<i64>,

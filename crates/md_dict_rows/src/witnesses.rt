@@ -1,6 +1,6 @@
 //! Places at which divisors failed.
 /// The places at which a divisor failed last, at this pivot or before: most often the next one fails there too, where it fails at all.
-#[derive(Debug, Clone, Copy)]
+#[derive(Clone, Copy)]
 pub struct Witnesses {
     pub places: [usize; 4],
 }

@@ -2,7 +2,7 @@
 use crate::Masses;
 
 /// What comes of interim odds.
-#[derive(Debug, Drop)]
+#[derive(Drop)]
 pub enum RealiseEnd {
     /// A mass table whose mechanism has exactly the odds.
     Table(Masses),

@@ -3,7 +3,7 @@
 use thiserror::Error;
 
 /// The first reason, in this order, for which numbers make no mass table of an auction.
-#[derive(Debug, Clone, Copy, PartialEq, Eq, Error)]
+#[derive(Debug, Clone, Copy, Error)]
 pub enum MassRefusal {
     /// The list has another length than the auction gives it.
     #[error("the list has a wrong length")]

@@ -5,7 +5,7 @@ use md_mech::Mechanism;
 use md_num::{Frac, Nums};
 
 /// The fairest mechanism of a setting, or why there is none.
-#[derive(Debug, Drop)]
+#[derive(Drop)]
 pub enum FairAnswer {
     /// A mechanism with what the agent that gets least gets of it on average, and multipliers of the rows of the fair
     /// program that show that none has a greater least.

@@ -14,7 +14,7 @@ use std::marker::Model;
 use std::sync::ledger::Ledger;
 
 /// How much each source node gives to each demand.
-#[derive(Debug, Drop)]
+#[derive(Drop)]
 pub struct Flow {
     // by source node, and then by demand
     amounts: Vec<u128>,

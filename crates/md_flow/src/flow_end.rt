@@ -2,7 +2,7 @@
 use md_num::Nums;
 
 /// What comes of a net. Amounts are listed by source node, and then by demand.
-#[derive(Debug, Drop)]
+#[derive(Drop)]
 pub enum FlowEnd {
     /// The amounts of a flow that gives each demand exactly.
     Full(Nums),

@@ -10,7 +10,7 @@ use md_num::Nums;
 use std::marker::Model;
 
 /// Source nodes with caps, demands, and for each node the set of the demands that it touches.
-#[derive(Debug, Drop)]
+#[derive(Drop)]
 pub struct Net {
     caps: Nums,
     demands: Nums,

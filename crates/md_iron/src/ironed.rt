@@ -2,7 +2,7 @@
 use md_answer::Answer;
 
 /// What comes of the closed form of an auction.
-#[derive(Debug, Drop)]
+#[derive(Drop)]
 pub enum Ironed {
     /// An optimal mechanism with its value, and the multipliers that certify it.
     Optimal(Answer),

@@ -13,7 +13,7 @@ use crate::pools::AuctionPools;
 use md_setting::Auction;
 
 /// How far the curve is above the chord of a pool, times a scale.
-#[derive(Clone, Copy, Debug)]
+#[derive(Clone, Copy)]
 pub struct Gap {
     /// The distance times the scale.
     pub height: i128,
@@ -72,7 +72,7 @@ fn gap_above_chord(auction: &Auction, pools: &AuctionPools, kind: u32) -> Gap
 }
 
 /// The chord of a pool: how much the curve rises over it.
-#[derive(Clone, Copy, Debug)]
+#[derive(Clone, Copy)]
 pub struct Chord {
     /// The virtual values of the pool together.
     pub rise: i128,

@@ -1,7 +1,7 @@
 //! Pools of values.
 
 /// Neighbouring values that win equally often: those from `first` on that are before `stop`.
-#[derive(Clone, Copy, Debug)]
+#[derive(Clone, Copy)]
 pub struct Pool {
     /// The lowest value of the pool.
     pub first: u32,
@@ -10,7 +10,7 @@ pub struct Pool {
 }
 
 /// The pools of an auction's values.
-#[derive(Debug, Drop)]
+#[derive(Drop)]
 pub struct AuctionPools {
     /// How many of the lowest values never win. Each of them is a pool of its own.
     pub reserve: u32,

@@ -1,6 +1,6 @@
 //! Entries of a dictionary, as they are told.
 /// An entry of a dictionary with its place: `num` over the dictionary's denominator `den`.
-#[derive(Clone, Copy, Debug, PartialEq, Eq)]
+#[derive(Clone, Copy, Debug)]
 pub struct Entry {
     pub row: u32,
     pub column: u32,

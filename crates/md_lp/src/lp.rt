@@ -24,7 +24,7 @@ use std::marker::Model;
 
 /// A linear program: a cost over its columns that is to be as great as can be, and rows that bound sums over them.
 /// Columns and rows are numbered from 0. Each row, and the cost, is divided by its greatest common divisor.
-#[derive(Debug, Drop)]
+#[derive(Drop)]
 pub struct Lp {
     columns: u32,
     cost: Nums,

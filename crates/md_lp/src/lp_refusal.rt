@@ -7,7 +7,7 @@ use std::alloc::AllocFailed;
 use thiserror::Error;
 
 /// Why a cost or a row is not taken: the first of these that holds.
-#[derive(Clone, Copy, Debug, PartialEq, Eq, Error)]
+#[derive(Clone, Copy, Debug, Error)]
 pub enum LpRefusal {
     /// A term stands at no column of the program, or the columns of the terms do not strictly ascend.
     #[error("a term stands at no column, or out of order")]

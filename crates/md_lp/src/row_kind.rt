@@ -1,6 +1,6 @@
 //! The kinds of rows.
 /// What a row demands of its sum over the columns.
-#[derive(Clone, Copy, Debug, PartialEq, Eq)]
+#[derive(Clone, Copy)]
 pub enum RowKind {
     /// The sum is at most the right side.
     AtMost,

@@ -3,7 +3,7 @@ use crate::row_kind::RowKind;
 use crate::stored_term::StoredTerm;
 
 // A row as it is kept: its memory is that of its terms.
-#[derive(Debug, Drop)]
+#[derive(Drop)]
 pub struct StoredRow {
     pub kind: RowKind,
     pub terms: Vec<StoredTerm>,

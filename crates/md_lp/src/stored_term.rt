@@ -6,7 +6,7 @@ ghost use Rattle.md_lp.specs.Stored.{kept_column, kept_value, shown_term};
 use crate::term::Term;
 
 // A term as it is kept, in 8 bytes: the lowest 16 bits are its column, and the 48 above them its value.
-#[derive(Clone, Copy, Debug, PartialEq, Eq)]
+#[derive(Clone, Copy)]
 pub struct StoredTerm {
     packed: u64,
 }

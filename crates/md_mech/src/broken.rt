@@ -1,7 +1,7 @@
 //! A condition that a mechanism breaks.
 
 /// A condition that a mechanism breaks: the left side was to be at least the right side.
-#[derive(Clone, Copy, Debug, PartialEq, Eq)]
+#[derive(Clone, Copy, PartialEq, Eq)]
 pub struct Broken {
     /// The number of the condition's row in the linear program of the setting, from 0.
     pub row: u32,

@@ -10,7 +10,7 @@ ghost use Rattle.md_mech.specs.Conditions.{IsLocated, IsAt, IsFalseReport};
 use md_setting::{Rational, Setting, Truth};
 
 /// A condition of a setting, each with a row in the setting's linear program.
-#[derive(Clone, Copy, Debug, PartialEq, Eq)]
+#[derive(Clone, Copy)]
 pub enum Condition {
     /// That a report of an agent is no better for it than its true type, where the profile of the rank has the true types.
     Dominant {

@@ -3,7 +3,7 @@ use md_num::Nums;
 
 /// A direct mechanism of a general setting: for each profile of reported types a lottery over the outcomes,
 /// and what each agent pays. All numbers are in units of one over the denominator.
-#[derive(Debug, Drop)]
+#[derive(Drop)]
 pub struct Mechanism {
     /// The denominator of all chances and payments.
     pub den: i128,

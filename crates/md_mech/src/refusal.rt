@@ -3,7 +3,7 @@
 use thiserror::Error;
 
 /// The first reason, in this order, for which numbers make no mechanism of a setting.
-#[derive(Debug, Clone, Copy, PartialEq, Eq, Error)]
+#[derive(Debug, Clone, Copy, Error)]
 pub enum MechRefusal {
     /// A list has another length than the setting gives it.
     #[error("a list has a wrong length")]

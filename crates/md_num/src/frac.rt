@@ -5,7 +5,7 @@ ghost use Rattle.md_math.specs.Divisors.{IsLeastTerms};
 use crate::division::{exact_quotient, gcd};
 
 /// A fraction, as its numerator over its denominator.
-#[derive(Clone, Copy, Debug, PartialEq, Eq)]
+#[derive(Clone, Copy, PartialEq, Eq)]
 pub struct Frac {
     pub num: i128,
     pub den: i128,

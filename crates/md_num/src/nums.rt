@@ -6,7 +6,7 @@ use std::alloc::Global;
 use std::marker::Model;
 
 /// A list of whole numbers of up to 128 bits.
-#[derive(Debug, Drop)]
+#[derive(Drop)]
 pub struct Nums {
     items: Vec<i128>,
 }

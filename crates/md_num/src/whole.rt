@@ -11,7 +11,7 @@ use itoa::Buffer;
 use thiserror::Error;
 
 /// Why a text is no whole number in range; the first that holds, in this order.
-#[derive(Clone, Copy, Debug, PartialEq, Eq, Error)]
+#[derive(Clone, Copy, Debug, Error)]
 pub enum NumRefusal {
     /// The text has no byte.
     #[error("the text is empty")]

@@ -6,7 +6,7 @@ ghost use Rattle.md_num.specs.Limits.{limit_of};
 use std::marker::Model;
 
 /// How many bits a number may have: from 4 to 62.
-#[derive(Clone, Copy, Debug, PartialEq, Eq)]
+#[derive(Clone, Copy)]
 pub struct Width {
     bits: u8,
 }

@@ -12,7 +12,7 @@ use md_records::Row;
 use std::alloc::Global;
 
 /// What the first record says: the version of the format, and the place of a word among those of such answers.
-#[derive(Clone, Copy, Debug, PartialEq, Eq)]
+#[derive(Clone, Copy)]
 pub struct Head {
     pub version: Version,
     pub word: usize,

@@ -7,7 +7,7 @@ use std::alloc::AllocError;
 use thiserror::Error;
 
 /// The first reason for which an answer file is refused. Records and fields are counted from 1.
-#[derive(Clone, Copy, Debug, PartialEq, Eq, Error)]
+#[derive(Clone, Copy, Debug, Error)]
 pub enum AnswerRefusal {
     /// The record begins with a word that may not stand there, has another number of fields, or follows the end.
     #[error("line {0}: record")]

@@ -1,7 +1,7 @@
 //! The versions of the format.
 
 /// The versions of the format.
-#[derive(Clone, Copy, Debug, PartialEq, Eq)]
+#[derive(Clone, Copy)]
 pub enum Version {
     /// In which all answers stand that have one part.
     One,

@@ -8,7 +8,7 @@ ghost use Rattle.md_ports.specs.Written.{AddsFrontOf};
 use thiserror::Error;
 
 /// Why a piece was not written whole.
-#[derive(Clone, Copy, Debug, PartialEq, Eq, Error)]
+#[derive(Clone, Copy, Debug, Error)]
 pub enum SinkError {
     /// The sink failed, which raised its count. A front of the piece may have been written.
     #[error("the sink failed")]

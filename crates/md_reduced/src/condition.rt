@@ -9,7 +9,7 @@ use md_lp::Sets;
 use md_setting::Auction;
 
 /// A condition, each with a row in the reduced program.
-#[derive(Clone, Copy, Debug, PartialEq, Eq)]
+#[derive(Clone, Copy)]
 pub enum ReducedCondition {
     /// That a bidder with a value does not gain by telling another one.
     Truth {

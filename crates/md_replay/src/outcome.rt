@@ -7,7 +7,7 @@ use md_num::{NoMemory, Nums};
 use thiserror::Error;
 
 /// How many of the pivots that were carried out, from the first one on, are the next ones by the rules of each order.
-#[derive(Clone, Copy, Debug, PartialEq, Eq)]
+#[derive(Clone, Copy)]
 pub struct Followed {
     /// Where the least column is tried first.
     pub forward: u64,
@@ -16,7 +16,7 @@ pub struct Followed {
 }
 
 /// What came of listed pivots that were carried out from the first basis of a program on.
-#[derive(Debug, Drop)]
+#[derive(Drop)]
 pub struct Replay {
     /// The denominator of the dictionary of each basis that is not wide, from the first basis on.
     pub dens: Nums,
@@ -29,7 +29,7 @@ pub struct Replay {
 }
 
 /// Why pivots are refused.
-#[derive(Clone, Copy, Debug, PartialEq, Eq, Error)]
+#[derive(Clone, Copy, Debug, Error)]
 pub enum ReplayError {
     /// The pivot of this number, counted from 1, cannot be carried out.
     #[error("pivot refused")]

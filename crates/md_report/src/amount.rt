@@ -1,7 +1,7 @@
 //! What is measured of agents at a profile.
 
 /// What is measured of an agent at a profile, in units of one over the denominator.
-#[derive(Clone, Copy, Debug, PartialEq, Eq)]
+#[derive(Clone, Copy)]
 pub(crate) enum Amount {
     /// What it gets, where all report their true types.
     Utility,
@@ -17,7 +17,7 @@ pub(crate) enum Amount {
 }
 
 /// What is measured of all agents at a profile, in the same units.
-#[derive(Clone, Copy, Debug, PartialEq, Eq)]
+#[derive(Clone, Copy)]
 pub(crate) enum Sum {
     /// What they pay.
     Payments,

@@ -3,7 +3,7 @@
 use md_num::Frac;
 
 /// The profile at which all agents together pay least, the first of several.
-#[derive(Clone, Copy, Debug, PartialEq, Eq)]
+#[derive(Clone, Copy)]
 pub struct Deficit {
     /// The rank of the profile.
     pub rank: u32,

@@ -1,7 +1,7 @@
 //! What is demanded of each agent.
 
 /// What is demanded of each agent.
-#[derive(Clone, Copy, Debug, PartialEq, Eq)]
+#[derive(Clone, Copy)]
 pub(crate) enum Demand {
     /// That no report is better for it than its true type.
     Truthful,

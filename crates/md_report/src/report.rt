@@ -6,7 +6,7 @@ use crate::worst::Worst;
 use md_num::Frac;
 
 /// What a mechanism does, and how far it is from the conditions of its setting. All fractions are in least terms.
-#[derive(Debug, Drop)]
+#[derive(Drop)]
 pub struct Report {
     /// The expected objective.
     pub value: Frac,

@@ -3,7 +3,7 @@
 use md_num::Frac;
 
 /// What a type of an agent is expected to get and to pay, where all report their true types.
-#[derive(Clone, Copy, Debug, PartialEq, Eq)]
+#[derive(Clone, Copy)]
 pub struct TypeNumbers {
     /// The agent.
     pub agent: u8,

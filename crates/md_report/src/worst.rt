@@ -4,7 +4,7 @@ use md_mech::Condition;
 use md_num::Frac;
 
 /// Of some conditions the one of which most is missed, the first of several.
-#[derive(Clone, Copy, Debug, PartialEq, Eq)]
+#[derive(Clone, Copy)]
 pub struct Worst {
     /// The condition.
     pub condition: Condition,

@@ -12,7 +12,7 @@ use std::alloc::Global;
 use std::marker::Model;
 
 /// How much each source node gives to each demand.
-#[derive(Debug, Drop)]
+#[derive(Drop)]
 pub struct Flow {
     // by source node, and then by demand
     amounts: Vec<u128>,

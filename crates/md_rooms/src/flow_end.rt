@@ -2,7 +2,7 @@
 use md_num::Nums;
 
 /// What comes of a net.
-#[derive(Debug, Drop)]
+#[derive(Drop)]
 pub enum FlowEnd {
     /// The amounts of a flow that gives each demand exactly, listed by source node, and then by demand.
     Full(Nums),

@@ -6,7 +6,7 @@ use md_num::Nums;
 use std::marker::Model;
 
 /// Source nodes with caps, demands, and a room for each pair of a node and a demand.
-#[derive(Debug, Drop)]
+#[derive(Drop)]
 pub struct Net {
     caps: Nums,
     wants: Nums,

@@ -2,7 +2,7 @@
 use md_num::Nums;
 
 /// An outcome that was drawn, and what each agent or bidder then pays.
-#[derive(Debug, Drop)]
+#[derive(Drop)]
 pub struct Drawn {
     /// The outcome, counted from 0. Of an auction 0 is that the item is kept, and `i` that the `i`-th bidder gets it.
     pub outcome: u32,

@@ -3,7 +3,7 @@
 use thiserror::Error;
 
 /// The first reason, in this order, for which nothing is drawn.
-#[derive(Debug, Clone, Copy, PartialEq, Eq, Error)]
+#[derive(Debug, Clone, Copy, Error)]
 pub enum DrawRefusal {
     /// The answer has no mechanism and no masses.
     #[error("the answer has nothing to draw of")]

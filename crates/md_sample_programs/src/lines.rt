@@ -7,7 +7,7 @@ use md_num::{NoMemory, Nums};
 use std::alloc::Global;
 
 /// A row by its coefficients, of which a program takes those at its columns.
-#[derive(Clone, Copy, Debug)]
+#[derive(Clone, Copy)]
 pub struct Line {
     /// Whether the left side is to be at most or the same as the right side.
     pub kind: RowKind,

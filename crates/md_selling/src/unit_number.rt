@@ -9,7 +9,7 @@ use std::marker::Model;
 const GREATEST_UNITS: u32 = 12;
 
 /// How many units are sold: from 1 to 12.
-#[derive(Clone, Copy, Debug, PartialEq, Eq)]
+#[derive(Clone, Copy)]
 pub struct UnitNumber {
     units: u32,
 }

@@ -13,7 +13,7 @@ use std::marker::Model;
 
 /// A symmetric auction of one item within the limits (Border 1991): each bidder has one of the values, by the same
 /// weights, apart from the others.
-#[derive(Debug, Drop)]
+#[derive(Drop)]
 pub struct Auction {
     bidders: u32,
     values: Vec<i64>,

@@ -3,7 +3,7 @@
 use crate::{Auction, Setting};
 
 /// The setting of a file, by its kind.
-#[derive(Debug, Drop)]
+#[derive(Drop)]
 pub enum SettingFile {
     /// A setting with agents and outcomes of its own.
     General(Setting),

@@ -1,7 +1,7 @@
 //! The kinds of truth and of rationality that a setting can ask for.
 
 /// What keeps an agent from a false report.
-#[derive(Debug, Clone, Copy, PartialEq, Eq)]
+#[derive(Clone, Copy)]
 pub enum Truth {
     /// The true report is best whatever the others report.
     Dominant,
@@ -10,7 +10,7 @@ pub enum Truth {
 }
 
 /// What an agent gets at least, compared with staying outside.
-#[derive(Debug, Clone, Copy, PartialEq, Eq)]
+#[derive(Clone, Copy)]
 pub enum Rational {
     /// No demand.
     None,

@@ -12,7 +12,7 @@ use std::alloc::{AllocError, Global};
 use std::marker::Model;
 
 /// Some names that are told apart, each numbered by its place.
-#[derive(Debug, Drop)]
+#[derive(Drop)]
 pub(crate) struct Names {
     set: IndexSet<String>,
 }
@@ -36,7 +36,7 @@ impl Names {
 }
 
 /// The numbers of the names of a setting: of its agents, of its outcomes, and of each agent's types.
-#[derive(Debug, Drop)]
+#[derive(Drop)]
 pub(crate) struct Numbering {
     pub agents: Names,
     pub outcomes: Names,

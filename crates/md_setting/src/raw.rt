@@ -3,7 +3,7 @@
 use crate::{Rational, Truth};
 
 /// An agent as written: its lists run over its types, in one order.
-#[derive(Debug, Drop)]
+#[derive(Drop)]
 pub struct RawAgent {
     /// The agent's name.
     pub name: String,
@@ -20,7 +20,7 @@ pub struct RawAgent {
 }
 
 /// A setting as written.
-#[derive(Debug, Drop)]
+#[derive(Drop)]
 pub struct RawSetting {
     /// The agents, of which profiles give each one type.
     pub agents: Vec<RawAgent>,

@@ -3,7 +3,7 @@
 use thiserror::Error;
 
 /// The first reason, in this order, for which a setting is refused.
-#[derive(Debug, Clone, Copy, PartialEq, Eq, Error)]
+#[derive(Debug, Clone, Copy, Error)]
 pub enum BuildRefusal {
     /// A name is not 1 to 32 letters, digits and underscores of ASCII.
     #[error("bad name")]

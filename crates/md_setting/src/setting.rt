@@ -24,7 +24,7 @@ use std::alloc::Global;
 use std::marker::Model;
 
 /// A general setting within the limits, of which contracts see what it says.
-#[derive(Debug, Drop)]
+#[derive(Drop)]
 pub struct Setting {
     raw: RawSetting,
     space: Space,

@@ -3,7 +3,7 @@ use md_cert::Certificate;
 use md_lp::Path;
 
 /// The end of a path none of whose bases is too wide.
-#[derive(Debug, Drop)]
+#[derive(Drop)]
 pub struct End {
     /// The pivots of the path, from the first basis on.
     pub path: Path,

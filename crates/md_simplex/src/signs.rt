@@ -6,7 +6,7 @@ ghost use Rattle.md_simplex.specs.Signs.{HasSign};
 use md_dict::Dict;
 
 /// The sign of a number.
-#[derive(Clone, Copy, Debug, PartialEq, Eq)]
+#[derive(Clone, Copy)]
 pub enum Sign {
     Negative,
     Zero,

@@ -2,7 +2,7 @@
 use md_lp::Pivot;
 
 /// What the rules say of a dictionary: the next pivot, or how the path ends.
-#[derive(Clone, Copy, Debug, PartialEq, Eq)]
+#[derive(Clone, Copy)]
 pub enum Step {
     /// The column enters and the row leaves.
     Pivot(Pivot),

@@ -15,7 +15,7 @@ use md_num::Width;
 use std::alloc::Global;
 
 /// A path walked to its end: its pivots, the dictionary of its last basis, and how it ends.
-#[derive(Debug, Drop)]
+#[derive(Drop)]
 pub struct Walked {
     pub path: Path,
     pub dict: Dict,

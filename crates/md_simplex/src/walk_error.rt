@@ -6,7 +6,7 @@ use md_lp::Wide;
 use md_num::NoMemory;
 
 /// Why the path of one order was not walked to its end.
-#[derive(Debug, Drop)]
+#[derive(Drop)]
 pub enum WalkError {
     /// A basis of the path is too wide.
     TooWide(Wide),

@@ -3,7 +3,7 @@
 use thiserror::Error;
 
 /// The first reason, in this order, for which a list of sizes is refused.
-#[derive(Debug, Clone, Copy, PartialEq, Eq, Error)]
+#[derive(Debug, Clone, Copy, Error)]
 pub enum SpaceRefusal {
     /// There is no agent, or an agent has no type.
     #[error("an agent or a type is missing")]

@@ -19,7 +19,7 @@ pub const MAX_TYPES: u8 = 16;
 pub const MAX_PROFILES: u32 = 1024;
 
 /// The profiles of some agents, of which contracts see the list of the numbers of types, by agent.
-#[derive(Debug, Drop)]
+#[derive(Drop)]
 pub struct Space {
     types: Vec<u8>,
     // how far apart two profiles are that differ by one type of an agent

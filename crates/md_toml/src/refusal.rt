@@ -8,7 +8,7 @@ use std::alloc::{AllocError, AllocFailed};
 use thiserror::Error;
 
 /// The first reason, in the order of docs/FORMATS.md, for which a setting file is refused.
-#[derive(Clone, Copy, Debug, PartialEq, Eq, Error)]
+#[derive(Clone, Copy, Debug, Error)]
 pub enum SettingRefusal {
     /// The bytes are no TOML document.
     #[error("not toml")]

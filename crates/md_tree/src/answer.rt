@@ -5,7 +5,7 @@ use md_mech::Mechanism;
 use md_num::{Frac, Nums};
 
 /// The best deterministic mechanism of a setting, or why there is none.
-#[derive(Debug, Drop)]
+#[derive(Drop)]
 pub enum DetAnswer {
     /// A mechanism whose lotteries are each on one outcome, with its value, and a search tree whose leaves show that no other one
     /// is better.

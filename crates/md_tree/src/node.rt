@@ -5,7 +5,7 @@ use md_num::Nums;
 
 /// A node of a search for the best deterministic mechanism. At each node outcomes are fixed at some profiles: those that the
 /// branches above it have fixed.
-#[derive(Debug, Drop)]
+#[derive(Drop)]
 pub enum Node {
     /// The node branches at the profile of this rank, where nothing is fixed: it has a child for each outcome, in their order,
     /// that fixes the outcome there.

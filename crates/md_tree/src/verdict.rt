@@ -3,7 +3,7 @@ use md_mech::Broken;
 use md_num::Frac;
 
 /// The verdict on an answer.
-#[derive(Clone, Copy, Debug, PartialEq, Eq)]
+#[derive(Clone, Copy, PartialEq, Eq)]
 pub enum DetVerdict {
     /// All conditions hold, so that what the answer claims is so.
     Valid,
@@ -15,7 +15,7 @@ pub enum DetVerdict {
 
 /// The first condition that an answer breaks. Profiles are told by their rank, and nodes of the tree by their place in preorder,
 /// both from 0 on; fractions are in least terms.
-#[derive(Clone, Copy, Debug, PartialEq, Eq)]
+#[derive(Clone, Copy, PartialEq, Eq)]
 pub enum DetReject {
     /// The lottery of the mechanism at this profile is not on one outcome.
     Lottery { rank: u32 },

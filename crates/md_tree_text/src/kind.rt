@@ -3,7 +3,7 @@ ghost use Rattle.std.specs.Prelude.{◌≡◌, map};
 ghost use Rattle.md_tree_text.specs.Kinds.{word_of, kind_of, answer_words};
 
 /// The kinds of answers about deterministic mechanisms.
-#[derive(Clone, Copy, Debug, PartialEq, Eq)]
+#[derive(Clone, Copy)]
 pub enum Kind {
     /// A best mechanism.
     Optimal,

@@ -2,7 +2,7 @@
 use md_num::Nums;
 
 /// A unit table that has the odds, or a set of values that asks for more units than there are.
-#[derive(Debug, Drop)]
+#[derive(Drop)]
 pub enum UnitEnd {
     /// How often units go to bidders with a value, by the rank of the list of counts, then by the kind of value; times the weight of
     /// the profiles with the counts, in units of one over the denominator of the odds.

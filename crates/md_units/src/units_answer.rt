@@ -5,7 +5,7 @@ use md_lp::Sets;
 use md_num::{Frac, Nums};
 
 /// An optimal mechanism of a sale of several units, with what shows that it is one.
-#[derive(Debug, Drop)]
+#[derive(Drop)]
 pub struct UnitsAnswer {
     /// What the mechanism is worth to the designer, in least terms.
     pub value: Frac,
