@@ -16,7 +16,8 @@ pub fn add_product(sum: i128, a: i128, b: i128) -> i128
     ensures value { result ≡ sum +ℤ a *ℤ b }
     ensures size { unsigned_abs result ≤ unsigned_abs sum + unsigned_abs a * unsigned_abs b }
 {
-    sum + a * b
+    let part = product(a, b);
+    sum + part
 }
 
 /// The difference of two products, `a * b - c * d`.
