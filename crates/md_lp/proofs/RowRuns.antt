@@ -1,8 +1,8 @@
 -- The terms of a row so far, and what they give to a run of columns.
-use Rattle.std.proofs.Common.{◌≡◌, ◌≢◌, ℕ, ◌+◌, ◌-◌, ◌*◌, ◌^◌, ◌<◌, ◌≤◌, inl, inr, ℤ, pos, ◌+ℤ◌, ◌*ℤ◌, unsigned_abs, List, [], ◌∷◌, length, get_or, set, take, drop, All, sym, ap, ◌∙◌, subst, arith, mul-le-mul, min}
+use Rattle.std.proofs.Common.{◌≡◌, ◌≢◌, ℕ, ◌+◌, ◌-◌, ◌*◌, ◌^◌, ◌<◌, ◌≤◌, inl, inr, ℤ, pos, ◌+ℤ◌, ◌*ℤ◌, to_z, of_z, lit<, unsigned_abs, List, [], ◌∷◌, length, get_or, set, take, drop, All, sym, ap, ◌∙◌, subst, arith, mul-le-mul, min}
 use Rattle.std.proofs.lemmas.Bool.{cases_eq}
 use Rattle.std.proofs.lemmas.List.{take-append-drop, get_or-take, get_or-drop, get_or-set_same, get_or-set_other, take_all, take_more, length-take, length-drop, length-set}
-use Rattle.std.proofs.lemmas.List.Elements.{All-take}
+use Rattle.std.proofs.lemmas.List.Elements.{All-take, All-drop}
 use Rattle.md_math.specs.Lists.{number_at}
 use Rattle.md_math.specs.Sizes.{IsWithin, AllWithin}
 use Rattle.md_math.proofs.Ring.{linear, +ℤ-*ℤ, zero-*ℤ, *ℤ-zero}
@@ -12,6 +12,8 @@ use Rattle.md_lp.specs.Program.{value_of}
 use Rattle.md_lp.specs.Runs.{AddsRow}
 use Rattle.md_lp.specs.Search.{StartsFrom}
 use Rattle.md_lp.specs.Shape.{column_in, IsAscending}
+use mir.Syntax.{w128}
+use Rattle.md_math.proofs.Bits.{read_within}
 use Rattle.md_lp.proofs.SparseRows.{no_term, value_of-absent, value_of-append, value_of-within, value_of-present}
 
 -- ---- a part of the terms
@@ -154,3 +156,20 @@ pub AddsRow-zero : (terms : List Term) (first : ℕ) (weight : ℤ) (sums : List
 AddsRow-zero terms first weight sums e = record {
   sums = λ k b. (let z : value_of terms (first + k) *ℤ weight ≡ pos 0 = rw e (*ℤ-zero (value_of terms (first + k))) in omega (arith, linear));
 }
+
+pub AddsRow-no_weight : (terms : List Term) (first : ℕ) (weight : ℤ) (sums : List ℤ) → IsWithin (2 ^ 62 - 1) weight → of_z w128 weight ≡ 0 → AddsRow terms first weight sums sums
+AddsRow-no_weight terms first weight sums h e = AddsRow-zero terms first weight sums (sym (read_within (2 ^ 62 - 1) weight h (lit< tt)) ∙ ap (to_z w128) e)
+
+-- ---- what the terms from a column on keep
+
+pub StartsFrom-ascending : (terms rest : List Term) (first : ℕ) → StartsFrom terms first rest → IsAscending terms → IsAscending rest
+StartsFrom-ascending terms rest first s h = rw s.is (IsAscending-drop terms s.place h)
+
+pub StartsFrom-above : (terms rest : List Term) (first : ℕ) → StartsFrom terms first rest → (k : ℕ) → k < length rest → first ≤ column_in rest k
+StartsFrom-above terms rest first s k b =
+    let short : length rest ≡ length terms - s.place = ap length s.is ∙ length-drop s.place terms in
+    let after : first ≤ column_in terms (s.place + k) = s.after (s.place + k) (omega arith) (omega arith) in
+    omega (arith, ap (λ ts. column_in ts k) s.is, column_in-drop terms s.place k)
+
+pub StartsFrom-values : (terms rest : List Term) (first : ℕ) → StartsFrom terms first rest → All (λ t. IsWithin (2 ^ 44) t.value) terms → All (λ t. IsWithin (2 ^ 44) t.value) rest
+StartsFrom-values terms rest first s h = rw s.is (All-drop (λ t. IsWithin (2 ^ 44) t.value) s.place terms h)
