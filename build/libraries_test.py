@@ -246,15 +246,26 @@ class TimeTest(Case):
         self.assertAlmostEqual(pace.of_line(), 2 * libraries.SECONDS_A_LINE)
         pace.add(10**9, 10**9)
         self.assertAlmostEqual(pace.of_line(), 1, places=4)
+        self.assertAlmostEqual(pace.of_line(10**9), 2, places=4)
+
+    def test_a_crate_that_is_late_makes_the_rest_longer(self):
+        made = self.repository({"low": (1000, ""), "top": (6000, "low")})
+        builder = libraries.Builder(libraries.crates_of(made.top, "top", "a kit"), "rt", 1, None)
+        run = object.__new__(libraries.Run)
+        run.crate, run.jobs, run.seconds = builder.crates[0], 1, lambda: 1000 * libraries.SECONDS_A_LINE
+        builder.running = [run]
+        self.assertRegex(builder.progress(), "about 10 minutes left$")
+        run.seconds = lambda: 5000 * libraries.SECONDS_A_LINE
+        self.assertRegex(builder.progress(), "about 20 minutes left$")
 
     def test_what_is_left_goes_by_lines_and_by_the_longest_chain(self):
         made = self.repository({"low": (100, ""), "one": (300, "low"), "two": (300, "low"), "top": (50, "one two")})
         crates = libraries.crates_of(made.top, "top", "a kit")
         left, each = {it: it.lines for it in crates}, libraries.SECONDS_A_LINE
-        self.assertAlmostEqual(libraries.seconds_left(crates, left, 1, libraries.Pace()), 750 * each)
-        self.assertAlmostEqual(libraries.seconds_left(crates, left, 4, libraries.Pace()), 450 * each)
+        self.assertAlmostEqual(libraries.seconds_left(crates, left, 1, each), 750 * each)
+        self.assertAlmostEqual(libraries.seconds_left(crates, left, 4, each), 450 * each)
         left[crates[0]] = left[crates[1]] = 0
-        self.assertAlmostEqual(libraries.seconds_left(crates, left, 4, libraries.Pace()), 350 * each)
+        self.assertAlmostEqual(libraries.seconds_left(crates, left, 4, each), 350 * each)
 
     def test_minutes_in_words(self):
         said = [libraries.in_words(it) for it in (10, 40, 61, 100, 3600)]
@@ -266,8 +277,8 @@ class TimeTest(Case):
         builder = libraries.Builder(crates, "rt", 1, None)
         builder.done = {low}
         self.assertRegex(builder.progress(), r"^10 % of all lines are proved, .* left$")
-        run = mock.Mock(crate=mid, jobs=1, seconds=lambda: 100 * libraries.SECONDS_A_LINE)
-        run.proved = lambda pace: libraries.Run.proved(run, pace)
+        run = object.__new__(libraries.Run)
+        run.crate, run.jobs, run.seconds = mid, 1, lambda: 100 * libraries.SECONDS_A_LINE
         builder.running = [run]
         self.assertRegex(builder.progress(), "^20 %")
         builder.pace.add(10**6, 10**6)
