@@ -58,11 +58,15 @@ type Case = (
     &'static str,
 );
 
+// One bidder with the value 1 or 20.
+const ONE_TO_TWENTY: &str =
+    "format = \"mechanism-setting\"\nversion = 1\nkind = \"auction\"\nbidders = 1\nvalues = [1, 20]\nweights = [1, 1]\n";
+
 const CHECK: &[&str] = &["check", "setting", "second"];
 
 const SOLVE: &[&str] = &["solve", "setting"];
 
-static CASES: [Case; 16] = [
+static CASES: [Case; 23] = [
     (SOLVE, ONE_BUYER, "", 0, ONE_BUYER_ANSWER, ""),
     (
         SOLVE,
@@ -77,7 +81,7 @@ static CASES: [Case; 16] = [
         THREE_BIDDERS,
         "",
         0,
-        "answer,1,auction,optimal\nvalue,64,27\ninterim,27\nodds,0,7,19\npays,0,14,50\nmass,0,0,3,0,0,27\nmass,0,1,2,0,0,81\nmass,0,2,1,0,0,81\nmass,0,3,0,0,27,0\nmass,1,0,2,0,0,81\nmass,1,1,1,0,0,162\nmass,1,2,0,0,81,0\nmass,2,0,1,0,0,81\nmass,2,1,0,0,81,0\nmass,3,0,0,0,0,0\ncut,",
+        "answer,1,auction,optimal\nvalue,64,27\ninterim,27\nodds,0,7,19\npays,0,14,50\nmass,0,0,3,0,0,27\nmass,0,1,2,0,0,81\nmass,0,2,1,0,0,81\nmass,0,3,0,0,27,0\nmass,1,0,2,0,0,81\nmass,1,1,1,0,0,162\nmass,1,2,0,0,81,0\nmass,2,0,1,0,0,81\nmass,2,1,0,0,81,0\nmass,3,0,0,0,0,0\ncut,1\ncut,2\ncut,4\ncut,6\nbound,",
         "",
     ),
     // Two values are pooled.
@@ -86,7 +90,26 @@ static CASES: [Case; 16] = [
         "format = \"mechanism-setting\"\nversion = 1\nkind = \"auction\"\nbidders = 2\nvalues = [2, 3, 6]\nweights = [2, 1, 1]\n",
         "",
         0,
-        "answer,1,auction,optimal\nvalue,3,1\ninterim,8\nodds,3,3,7\npays,6,6,30\nmass,0,0,2,0,0,8\nmass,0,1,1,0,0,16\nmass,0,2,0,0,8,0\nmass,1,0,1,0,0,32\nmass,1,1,0,16,16,0\nmass,2,0,0,32,0,0\ncut,",
+        "answer,1,auction,optimal\nvalue,3,1\ninterim,8\nodds,3,3,7\npays,6,6,30\nmass,0,0,2,0,0,8\nmass,0,1,1,0,0,16\nmass,0,2,0,0,8,0\nmass,1,0,1,0,0,32\nmass,1,1,0,16,16,0\nmass,2,0,0,32,0,0\ncut,1\ncut,2\ncut,4\ncut,7\nbound,",
+        "",
+    ),
+    // The row that says that the value 20 does not tell 1 has the factor 20 at the odds of 1. At 4 bits 15 is the limit.
+    (
+        &["solve", "setting", "--width", "4"],
+        ONE_TO_TWENTY,
+        "",
+        12,
+        "answer,2,auction,toowide\ncut,1\ncut,2\nwide,1,0,20,1\nagain\nwide,1,0,20,1\nend\n",
+        "",
+    ),
+    // With the cuts of one value each the values 2 and 3 together ask most above what there is. Row 12 is their cut, with the factor
+    // 32 * 8 at the odds of 3. At 8 bits 255 is the limit.
+    (
+        &["solve", "setting", "--width", "8"],
+        "format = \"mechanism-setting\"\nversion = 1\nkind = \"auction\"\nbidders = 2\nvalues = [1, 2, 3]\nweights = [1, 7, 8]\n",
+        "",
+        12,
+        "answer,2,auction,toowide\ncut,1\ncut,2\ncut,4\ncut,6\nwide,12,2,256,1\nagain\nwide,12,2,256,1\nend\n",
         "",
     ),
     (CHECK, ONE_BUYER, ONE_BUYER_ANSWER, 0, "valid\n", ""),
@@ -140,10 +163,36 @@ static CASES: [Case; 16] = [
         "",
         "mechdes: answer refused: line 13: ended\n",
     ),
+    // The cut of the values 2 and 3 is left out.
+    (
+        CHECK,
+        THREE_BIDDERS,
+        "answer,1,auction,optimal\nvalue,64,27\ninterim,27\nodds,0,7,19\npays,0,14,50\nmass,0,0,3,0,0,27\nmass,0,1,2,0,0,81\nmass,0,2,1,0,0,81\nmass,0,3,0,0,27,0\nmass,1,0,2,0,0,81\nmass,1,1,1,0,0,162\nmass,1,2,0,0,81,0\nmass,2,0,1,0,0,81\nmass,2,1,0,0,81,0\nmass,3,0,0,0,0,0\ncut,4\nbound,27\nrow,2,0,54\nrow,5,0,27\nrow,6,0,81\nrow,9,0,3\nend\n",
+        20,
+        "rejected,4,1,0,-27\n",
+        "",
+    ),
     (
         CHECK,
         ONE_BUYER,
         "answer,2,auction,toowide\ncut,1\ncut,2\nwide,1,1,20,1\nagain\nwide,1,1,20,1\nend\n",
+        22,
+        "undecided\n",
+        "",
+    ),
+    (
+        CHECK,
+        ONE_BUYER,
+        "answer,1,auction,toowide\nwide,1,1,20,1\nend\n",
+        22,
+        "undecided\n",
+        "",
+    ),
+    // Cuts may come in any order.
+    (
+        CHECK,
+        THREE_BIDDERS,
+        "answer,2,auction,toowide\ncut,5\ncut,1\ncut,7\nwide,1,1,20,1\nagain\nwide,1,1,20,1\nend\n",
         22,
         "undecided\n",
         "",
@@ -164,6 +213,15 @@ static CASES: [Case; 16] = [
         "basis,0,1,5\nrule,0\nagain,0\nend\n",
         "",
     ),
+    // The rows of truth have 1 and -3 at the odds of 3, that of rationality -3 and the cut of both values 1: the face row has 4.
+    (
+        &["replay", "setting", "second"],
+        ONE_BUYER,
+        "cut,3\ncut,1\nend\n",
+        0,
+        "basis,0,1,4\nrule,0\nagain,0\nend\n",
+        "",
+    ),
     (
         &["replay", "setting", "second"],
         ONE_BUYER,
@@ -171,6 +229,14 @@ static CASES: [Case; 16] = [
         66,
         "",
         "mechdes: answer refused: line 1: field 2\n",
+    ),
+    (
+        &["determcheck", "setting", "second"],
+        TWO_BIDDERS,
+        "",
+        65,
+        "",
+        "mechdes: setting refused: other kind\n",
     ),
     (
         &["audit", "setting", "second"],

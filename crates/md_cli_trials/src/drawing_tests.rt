@@ -1,8 +1,9 @@
 //! Outcomes drawn of answers, over files in memory.
 use crate::solving_tests::carried_out;
 use crate::test_settings::{
-    CORRELATED, HONEST, OUT_OF_REACH, POSTED_PRICE, TAKING, THREE_BIDDERS, VOTE,
+    CORRELATED, HONEST, OUT_OF_REACH, POSTED_PRICE, TAKING, THREE_BIDDERS, TWO_BY_THREE, VOTE,
 };
+use crate::tests::EACH_ITS_OWN;
 use std::alloc::Global;
 use std::test::Fail;
 
@@ -163,11 +164,19 @@ static SOLD: [Case; 15] = [
     ),
 ];
 
-static OTHERS: [Case; 16] = [
+static OTHERS: [Case; 24] = [
     (
         OUT_OF_REACH,
         "answer,1,general,infeasible\nrow,0,1\nend\n",
         ["t", "0", "0"],
+        66,
+        "",
+        "mechdes: answer refused: no table\n",
+    ),
+    (
+        OUT_OF_REACH,
+        "answer,1,general,infeasible\nrow,0,1\nend\n",
+        ["u", "9", "5"],
         66,
         "",
         "mechdes: answer refused: no table\n",
@@ -187,6 +196,14 @@ static OTHERS: [Case; 16] = [
     (VOTE, DECIDES, ["r,", "0", "0"], 67, "", REFUSED_PROFILE),
     (VOTE, DECIDES, ["r,l,", "0", "0"], 67, "", REFUSED_PROFILE),
     (VOTE, DECIDES, ["r, l", "0", "0"], 67, "", REFUSED_PROFILE),
+    (
+        TWO_BY_THREE,
+        EACH_ITS_OWN,
+        ["r,x", "0", "0"],
+        0,
+        "outcome,o3\n",
+        "",
+    ),
     (
         CORRELATED,
         BETS,
@@ -215,6 +232,39 @@ static OTHERS: [Case; 16] = [
     (
         THREE_BIDDERS,
         BEST,
+        ["2,2,1", "0", "0"],
+        0,
+        "outcome,1\npays,27,14,14,0\n",
+        "",
+    ),
+    (
+        THREE_BIDDERS,
+        BEST,
+        ["1,2,2", "0", "1"],
+        0,
+        "outcome,3\npays,27,0,14,14\n",
+        "",
+    ),
+    // With the values 1, 2 and 3 there are six profiles, so that 162 units are to give, and all go to the value 3.
+    (
+        THREE_BIDDERS,
+        BEST,
+        ["1,3,2", "161", "0"],
+        0,
+        "outcome,2\npays,27,0,50,14\n",
+        "",
+    ),
+    (
+        THREE_BIDDERS,
+        BEST,
+        ["2,2,1", "81", "0"],
+        67,
+        "",
+        REFUSED_DRAW,
+    ),
+    (
+        THREE_BIDDERS,
+        BEST,
         ["2,2,1", "80", "2"],
         67,
         "",
@@ -227,6 +277,22 @@ static OTHERS: [Case; 16] = [
         0,
         "outcome,keep\npays,27,0,0,0\n",
         "",
+    ),
+    (
+        THREE_BIDDERS,
+        BEST,
+        ["1,1,1", "5", "1"],
+        67,
+        "",
+        REFUSED_DRAW,
+    ),
+    (
+        THREE_BIDDERS,
+        BEST,
+        ["1,1", "0", "0"],
+        67,
+        "",
+        REFUSED_PROFILE,
     ),
     (
         THREE_BIDDERS,

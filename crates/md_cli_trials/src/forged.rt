@@ -9,7 +9,7 @@ use std::test::Fail;
 // An answer, the status, and what `check` prints. The columns are the odds of the values 1 and 3, then their payments twice,
 // taken and given. The designer's cost is -2 at each of the odds, 1 at what is taken and -1 at what is given, so that the cost of
 // the right point is -2 + 3. The rows are the two of truth, those of rationality for 1 and 3, and one for each cut.
-static FORGED: [(&str, u8, &str); 11] = [
+static FORGED: [(&str, u8, &str); 19] = [
     // The cut of the value 1 is not needed: its multiplier is 0.
     (
         "answer,1,auction,optimal\nvalue,5,2\ninterim,1\nodds,0,1\npays,0,3\nmass,0,1,0,1\nmass,1,0,0,0\ncut,2\nbound,1\nrow,2,0,1\nrow,3,0,1\nrow,4,0,1\nend\n",
@@ -74,6 +74,50 @@ static FORGED: [(&str, u8, &str); 11] = [
         "answer,1,auction,optimal\nvalue,5,2\ninterim,1\nodds,0,1\npays,0,3\nmass,0,1,0,1\nmass,1,0,0,0\ncut,1\ncut,2\nbound,1\nrow,2,0,1\nrow,3,0,1\nrow,5,0,2\nend\n",
         20,
         "rejected,6,2,1,1,1\n",
+    ),
+    // The value need not be in least terms, and its sign counts.
+    (
+        "answer,1,auction,optimal\nvalue,10,4\ninterim,1\nodds,0,1\npays,0,3\nmass,0,1,0,1\nmass,1,0,0,0\ncut,1\ncut,2\nbound,1\nrow,2,0,1\nrow,3,0,1\nrow,5,0,1\nend\n",
+        0,
+        "valid\n",
+    ),
+    (
+        "answer,1,auction,optimal\nvalue,-5,2\ninterim,1\nodds,0,1\npays,0,3\nmass,0,1,0,1\nmass,1,0,0,0\ncut,1\ncut,2\nbound,1\nrow,2,0,1\nrow,3,0,1\nrow,5,0,1\nend\n",
+        20,
+        "rejected,2,5,2\n",
+    ),
+    // A row is left out: that a buyer with the value 1 takes part, or the cut of 3.
+    (
+        "answer,1,auction,optimal\nvalue,5,2\ninterim,1\nodds,0,1\npays,0,3\nmass,0,1,0,1\nmass,1,0,0,0\ncut,1\ncut,2\nbound,1\nrow,3,0,1\nrow,5,0,1\nend\n",
+        20,
+        "rejected,4,2,0,-1\n",
+    ),
+    (
+        "answer,1,auction,optimal\nvalue,5,2\ninterim,1\nodds,0,1\npays,0,3\nmass,0,1,0,1\nmass,1,0,0,0\ncut,1\ncut,2\nbound,1\nrow,2,0,1\nrow,3,0,1\nend\n",
+        20,
+        "rejected,4,1,0,-1\n",
+    ),
+    // A face multiplier before the main ones, whose bound it leaves as it is.
+    (
+        "answer,1,auction,optimal\nvalue,5,2\ninterim,1\nodds,0,1\npays,0,3\nmass,0,1,0,1\nmass,1,0,0,0\ncut,1\ncut,2\nbound,1\nrow,2,0,1\nrow,3,0,1\nrow,5,1,1\nend\n",
+        20,
+        "rejected,5,1\n",
+    ),
+    // Of two conditions that fail the first is told: masses before rows, rows before the value, and the value before multipliers.
+    (
+        "answer,1,auction,optimal\nvalue,5,2\ninterim,1\nodds,0,1\npays,0,4\nmass,0,1,0,0\nmass,1,0,0,0\ncut,1\ncut,2\nbound,1\nrow,2,0,1\nrow,3,0,1\nrow,5,0,1\nend\n",
+        20,
+        "rejected,9,1,0,1\n",
+    ),
+    (
+        "answer,1,auction,optimal\nvalue,5,2\ninterim,1\nodds,0,1\npays,0,4\nmass,0,1,0,1\nmass,1,0,0,0\ncut,1\ncut,2\nbound,1\nrow,2,0,1\nrow,3,0,1\nrow,5,0,1\nend\n",
+        20,
+        "rejected,10,1,1,0\n",
+    ),
+    (
+        "answer,1,auction,optimal\nvalue,3,1\ninterim,1\nodds,0,1\npays,0,3\nmass,0,1,0,1\nmass,1,0,0,0\ncut,1\ncut,2\nbound,1\nrow,2,0,-1\nend\n",
+        20,
+        "rejected,2,5,2\n",
     ),
 ];
 

@@ -26,6 +26,8 @@ mod number_tests;
 #[cfg(test)]
 mod realising_tests;
 #[cfg(test)]
+mod refusing_tests;
+#[cfg(test)]
 mod reporting_tests;
 #[cfg(test)]
 mod ruling_tests;
@@ -39,3 +41,5 @@ mod test_settings;
 mod tests;
 #[cfg(test)]
 mod units_tests;
+#[cfg(test)]
+mod words_tests;

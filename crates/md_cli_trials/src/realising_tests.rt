@@ -9,7 +9,7 @@ const NONE: &str = "interim,1\nodds,0,0\nend\n";
 
 // A setting file, an odds file, the status, what is printed and what is said on the other stream. With the values 1 and 2
 // of the same weight, two bidders who always win with either ask for the item 4 times more than it is there.
-static CASES: [(&str, &str, u8, &str, &str); 9] = [
+static CASES: [(&str, &str, u8, &str, &str); 10] = [
     (
         TWO_BIDDERS,
         "interim,1\nodds,1,1\nend\n",
@@ -46,6 +46,15 @@ static CASES: [(&str, &str, u8, &str, &str); 9] = [
         "interim,27\nodds,0,7,19\nend\n",
         0,
         "realise,27\nmass,0,0,3,0,0,27\nmass,0,1,2,0,0,81\nmass,0,2,1,0,0,81\nmass,0,3,0,0,27,0\nmass,1,0,2,0,0,81\nmass,1,1,1,0,0,162\nmass,1,2,0,0,81,0\nmass,2,0,1,0,0,81\nmass,2,1,0,0,81,0\nmass,3,0,0,0,0,0\nend\n",
+        "",
+    ),
+    // The greatest denominator. With the value 1 they ask for 4 times as much as it says, and there is 3 times that much. A field
+    // may stand in quotes, and lines may end as on other systems.
+    (
+        TWO_BIDDERS,
+        "\"interim\",4611686018427387903\r\nodds,4611686018427387903,0\r\nend\r\n",
+        21,
+        "violated,1,4611686018427387903,4611686018427387903\n",
         "",
     ),
     (

@@ -32,6 +32,31 @@ const SHADED_ON_AVERAGE: &str =
 const FIRST_PRICE_OF_TENS: &str =
     "answer,1,general,table\ntable,2\nlottery,low,low,0,1,1\nlottery,low,high,0,0,2\nlottery,high,low,0,2,0\nlottery,high,high,0,1,1\npay,low,low,10,10\npay,low,high,0,40\npay,high,low,40,0\npay,high,high,20,20\nend\n";
 
+// A good or bad item, which the buyer would pay for, and to whom it is worth 1 or -1.
+const LEMON: &str =
+    "format = \"mechanism-setting\"\nversion = 2\nkind = \"general\"\ntruth = \"dominant\"\nrational = \"ex-post\"\npayments = true\noutcomes = [\"keep\", \"sell\"]\n[objective]\nrevenue = 1\n[[agent]]\nname = \"seller\"\ntypes = [\"good\", \"bad\"]\nweights = [1, 1]\nutility = [[0, 0], [0, 0]]\n[[agent]]\nname = \"buyer\"\ntypes = [\"any\"]\nweights = [1]\nutility_at = [[0, 1], [0, -1]]\n";
+
+// It is always sold, for nothing.
+const GIVEN_AWAY: &str =
+    "answer,1,general,table\ntable,1\nlottery,good,any,0,1\nlottery,bad,any,0,1\npay,good,any,0,0\npay,bad,any,0,0\nend\n";
+
+// A seller to whom an item costs 1 or 5, of weights 1 and 3, and a buyer to whom it is worth 2 or 6, of weights 2 and 1.
+const WEIGHED_TRADE: &str =
+    "format = \"mechanism-setting\"\nversion = 1\nkind = \"general\"\ntruth = \"bayes\"\nrational = \"interim\"\npayments = true\nno_deficit = true\noutcomes = [\"keep\", \"trade\"]\n[objective]\nwelfare = 1\n[[agent]]\nname = \"seller\"\ntypes = [\"cost1\", \"cost5\"]\nweights = [1, 3]\nutility = [[0, -1], [0, -5]]\n[[agent]]\nname = \"buyer\"\ntypes = [\"worth2\", \"worth6\"]\nweights = [2, 1]\nutility = [[0, 2], [0, 6]]\n";
+
+// They trade where the seller has cost 1 and the buyer worth 6. The buyer pays 4, and the seller gets 5.
+const ONE_TRADE: &str =
+    "answer,1,general,table\ntable,1\nlottery,cost1,worth2,1,0\nlottery,cost1,worth6,0,1\nlottery,cost5,worth2,1,0\nlottery,cost5,worth6,1,0\npay,cost1,worth2,0,0\npay,cost1,worth6,-5,4\npay,cost5,worth2,0,0\npay,cost5,worth6,0,0\nend\n";
+
+// Two bidders with the values 1 and 2, who are alike more often than not: the weights of the profiles are 2, 1, 1 and 2. No report may
+// be better whatever the other bids, and nobody may lose.
+const ALIKE: &str =
+    "format = \"mechanism-setting\"\nversion = 1\nkind = \"general\"\ntruth = \"dominant\"\nrational = \"ex-post\"\npayments = true\noutcomes = [\"keep\", \"first\", \"second\"]\nprior = [2, 1, 1, 2]\n[objective]\nrevenue = 1\n[[agent]]\nname = \"one\"\ntypes = [\"v1\", \"v2\"]\nutility = [[0, 1, 0], [0, 2, 0]]\n[[agent]]\nname = \"two\"\ntypes = [\"v1\", \"v2\"]\nutility = [[0, 0, 1], [0, 0, 2]]\n";
+
+// The same bidders, where the truth is asked for on average, and they cannot leave.
+const ALIKE_ON_AVERAGE: &str =
+    "format = \"mechanism-setting\"\nversion = 1\nkind = \"general\"\ntruth = \"bayes\"\nrational = \"none\"\npayments = true\noutcomes = [\"keep\", \"first\", \"second\"]\nprior = [2, 1, 1, 2]\n[objective]\nrevenue = 1\n[[agent]]\nname = \"one\"\ntypes = [\"v1\", \"v2\"]\nutility = [[0, 1, 0], [0, 2, 0]]\n[[agent]]\nname = \"two\"\ntypes = [\"v1\", \"v2\"]\nutility = [[0, 0, 1], [0, 0, 2]]\n";
+
 // Two bidders with the values 2, 3 and 6.
 const IRONED: &str =
     "format = \"mechanism-setting\"\nversion = 1\nkind = \"auction\"\nbidders = 2\nvalues = [2, 3, 6]\nweights = [2, 1, 1]\nrevenue = 1\n";
@@ -43,7 +68,7 @@ const POOLED: &str =
 // A setting, an answer, the status, what is printed and what is said on the other stream.
 type Case = (&'static str, &'static str, u8, &'static str, &'static str);
 
-static GENERAL: [Case; 9] = [
+static GENERAL: [Case; 13] = [
     // The high type has nothing by the price 3, as by the report that it is the low one, and as without the item.
     (
         POSTED_PRICE,
@@ -99,6 +124,40 @@ static GENERAL: [Case; 9] = [
         "value,5,3\nrevenue,0,1\nwelfare,5,3\ntype,seller,cost1,2,1,-17,6\ntype,seller,cost5,0,1,-5,2\ntype,buyer,worth2,0,1,2,3\ntype,buyer,worth6,4,3,14,3\ngain,seller,cost1,cost5,0,1\ngain,buyer,worth6,worth2,0,1\nloss,seller,cost5,0,1\nloss,buyer,worth2,0,1\ndeficit,cost1+worth2,0,1\ntight,truth/seller/cost1/cost5\ntight,truth/buyer/worth6/worth2\ntight,rational/seller/cost5\ntight,rational/buyer/worth2\ntight,deficit/cost1+worth2\ntight,deficit/cost1+worth6\ntight,deficit/cost5+worth2\ntight,deficit/cost5+worth6\nend\n",
         "",
     ),
+    // The buyer has 1 of a good item and loses 1 by a bad one, by what the seller knows.
+    (
+        LEMON,
+        GIVEN_AWAY,
+        0,
+        "value,0,1\nrevenue,0,1\nwelfare,0,1\ntype,seller,good,0,1,0,1\ntype,seller,bad,0,1,0,1\ntype,buyer,any,0,1,0,1\ngain,seller,good,bad,good+any,0,1\nloss,seller,good,good+any,0,1\nloss,buyer,any,bad+any,1,1\ntight,truth/seller/good/bad/good+any\ntight,truth/seller/bad/good/bad+any\ntight,rational/seller/good+any\ntight,rational/seller/bad+any\nend\n",
+        "",
+    ),
+    // The trade has weight 1 in 12. On average over the buyer's types the seller has (5 - 1)/3 where its cost is 1, and by this report
+    // nothing where its cost is 5. The buyer's chance of a trade is 1 in 4: it has (6 - 4)/4, and the low type loses as much by the
+    // other report.
+    (
+        WEIGHED_TRADE,
+        ONE_TRADE,
+        0,
+        "value,5,12\nrevenue,-1,12\nwelfare,5,12\ntype,seller,cost1,4,3,-5,3\ntype,seller,cost5,0,1,0,1\ntype,buyer,worth2,0,1,0,1\ntype,buyer,worth6,1,2,1,1\ngain,seller,cost5,cost1,0,1\ngain,buyer,worth2,worth6,-1,2\nloss,seller,cost5,0,1\nloss,buyer,worth2,0,1\ndeficit,cost1+worth6,-1,1\ntight,truth/seller/cost5/cost1\ntight,rational/seller/cost5\ntight,rational/buyer/worth2\ntight,deficit/cost1+worth2\ntight,deficit/cost5+worth2\ntight,deficit/cost5+worth6\nend\n",
+        "",
+    ),
+    // In halves, a bidder of value 2 has nothing by its true bid, and by the lower one half of what is left where the other bids low.
+    (
+        ALIKE,
+        FIRST_PRICE,
+        0,
+        "value,5,3\nrevenue,5,3\nwelfare,5,3\ntype,one,v1,0,1,1,3\ntype,one,v2,0,1,4,3\ntype,two,v1,0,1,1,3\ntype,two,v2,0,1,4,3\ngain,one,v2,v1,v2+v1,1,2\ngain,two,v2,v1,v1+v2,1,2\nloss,one,v1,v1+v1,0,1\nloss,two,v1,v1+v1,0,1\ntight,truth/one/v2/v1/v2+v2\ntight,truth/two/v2/v1/v2+v2\ntight,rational/one/v1+v1\ntight,rational/one/v1+v2\ntight,rational/one/v2+v1\ntight,rational/one/v2+v2\ntight,rational/two/v1+v1\ntight,rational/two/v1+v2\ntight,rational/two/v2+v1\ntight,rational/two/v2+v2\nend\n",
+        "",
+    ),
+    // On average a bidder of value 2 meets one of value 1 once in three times, so that the lower bid gains a sixth.
+    (
+        ALIKE_ON_AVERAGE,
+        FIRST_PRICE,
+        0,
+        "value,5,3\nrevenue,5,3\nwelfare,5,3\ntype,one,v1,0,1,1,3\ntype,one,v2,0,1,4,3\ntype,two,v1,0,1,1,3\ntype,two,v2,0,1,4,3\ngain,one,v2,v1,1,6\ngain,two,v2,v1,1,6\nend\n",
+        "",
+    ),
     // One type has no other report, and nobody asks that it takes part.
     (
         TAKING,
@@ -123,7 +182,7 @@ static GENERAL: [Case; 9] = [
     ),
 ];
 
-static AUCTIONS: [Case; 4] = [
+static AUCTIONS: [Case; 7] = [
     // The item brings 3 in one of two profiles and is worth 2 in the other. With 1 a bidder would have 1 - 3 by the report 3.
     (
         ONE_BUYER,
@@ -140,6 +199,34 @@ static AUCTIONS: [Case; 4] = [
         POOLED,
         0,
         "value,3,1\nrevenue,3,1\nwelfare,63,16\ntype,2,0,1,3,4\ntype,3,3,8,3,4\ntype,6,3,2,15,4\ngain,2,3,0,1\nloss,2,0,1\ntight,truth/2/3\ntight,truth/3/2\ntight,truth/6/2\ntight,truth/6/3\ntight,rational/2\ntight,cut/4\ntight,cut/7\nend\n",
+        "",
+    ),
+    // With 1 a bidder has (1*2 - 3)/6, and by telling 2 it has (1*5 - 11)/6; with 2 it has (2*5 - 11)/6, and by telling 1 it has
+    // (2*2 - 3)/6, which is 2/6 more. Two bidders pay 2*(2*3 + 1*11)/(3*6), and the item is worth 2*(2*1*2 + 1*2*5)/(3*6) to them. The
+    // objective is 1 + 2*(2*((2 - 1)*2 + 3) + 1*((4 - 1)*5 + 11))/(3*6). The profiles weigh 9, those with a value of 2 weigh 9 - 4,
+    // and bidders with it win 2*1*3*5/6 of them.
+    (
+        "format = \"mechanism-setting\"\nversion = 1\nkind = \"auction\"\nbidders = 2\nvalues = [1, 2]\nweights = [2, 1]\nrevenue = 1\nwelfare = 2\nkeep = 1\n",
+        "answer,1,auction,optimal\nvalue,0,1\ninterim,6\nodds,2,5\npays,3,11\nmass,0,2,0,0\nmass,1,1,0,0\nmass,2,0,0,0\ncut,1\ncut,2\nbound,1\nend\n",
+        0,
+        "value,5,1\nrevenue,17,9\nwelfare,14,9\ntype,1,-1,6,1,2\ntype,2,-1,6,11,6\ngain,2,1,1,3\nloss,1,1,6\ntight,cut/2\nend\n",
+        "",
+    ),
+    // One value alone: each of two bidders wins half of the time and pays 5/2, which is 1/2 more than the item is worth to it then.
+    (
+        "format = \"mechanism-setting\"\nversion = 1\nkind = \"auction\"\nbidders = 2\nvalues = [4]\nweights = [1]\n",
+        "answer,1,auction,optimal\nvalue,0,1\ninterim,2\nodds,1\npays,5\nmass,2,0\ncut,1\nbound,1\nend\n",
+        0,
+        "value,5,1\nrevenue,5,1\nwelfare,4,1\ntype,4,-1,2,5,2\nloss,4,1,2\ntight,cut/1\nend\n",
+        "",
+    ),
+    // With 2 the item is had for nothing, with 3 for the price 3. With 1 a bidder gains 1 by telling 2, and with 3 it gains 3, which
+    // comes later and is more. The value 1 misses nothing, as does 3, and 2 has 2 more than nothing.
+    (
+        "format = \"mechanism-setting\"\nversion = 1\nkind = \"auction\"\nbidders = 1\nvalues = [1, 2, 3]\nweights = [1, 1, 1]\n",
+        "answer,1,auction,optimal\nvalue,0,1\ninterim,1\nodds,0,1,1\npays,0,0,3\nmass,0,0,1,0,0,0\nmass,0,1,0,0,0,0\nmass,1,0,0,0,0,0\ncut,1\ncut,2\ncut,4\nbound,1\nend\n",
+        0,
+        "value,1,1\nrevenue,1,1\nwelfare,5,3\ntype,1,0,1,0,1\ntype,2,2,1,0,1\ntype,3,0,1,3,1\ngain,3,2,3,1\nloss,1,0,1\ntight,truth/3/1\ntight,rational/1\ntight,rational/3\ntight,cut/2\ntight,cut/4\nend\n",
         "",
     ),
     (

@@ -1,12 +1,12 @@
 //! The best mechanisms without lotteries, found and checked over files in memory. What each has is worked out by hand.
 use crate::solving_tests::carried_out;
-use crate::test_settings::{OUT_OF_REACH, POSTED_PRICE, POSTED_PRICE_FRONT, TAKING, TWO_BIDDERS};
+use crate::test_settings::{OUT_OF_REACH, POSTED_PRICE, POSTED_PRICE_FRONT, TAKING};
 use std::alloc::Global;
 use std::test::Fail;
 
-// The designer would like the outcome that gives the agent nothing, and the other one gives it twice what it has outside: by a
-// lottery it may have half of each.
-const TWICE: &str =
+/// The designer would like the outcome that gives the agent nothing, and the other one gives it twice what it has outside: by a
+/// lottery it may have half of each.
+pub(crate) const TWICE: &str =
     "format = \"mechanism-setting\"\nversion = 1\nkind = \"general\"\ntruth = \"dominant\"\nrational = \"ex-post\"\npayments = false\noutcomes = [\"x\", \"y\"]\n[objective]\nvalue = [0, 4]\n[[agent]]\nname = \"a\"\ntypes = [\"t\"]\nweights = [1]\noutside = [1]\nutility = [[2, 0]]\n";
 
 // Two goods, and a buyer who values them 1 and 0, 0 and 2, or 3 and 3.
@@ -67,7 +67,15 @@ fn finds_the_best_rule(rt: HostRuntime) -> Result<(), Fail> {
 }
 
 // A setting by its front and its end, the width, the status, and how what is printed begins.
-static FOUND: [(&str, &str, &str, u8, &str); 4] = [
+static FOUND: [(&str, &str, &str, u8, &str); 5] = [
+    // The best point has no lottery, so that the root is a leaf.
+    (
+        POSTED_PRICE_FRONT,
+        "3]]\n",
+        "62",
+        0,
+        "answer,1,determ,optimal\nvalue,3,2\ntable,1\nlottery,low,1,0\nlottery,high,0,1\npay,low,0\npay,high,3\nleaf,optimal\ntable,1\nlottery,low,1,0\nlottery,high,0,1\npay,low,0\npay,high,3\nbound,",
+    ),
     (
         TWICE,
         "",
@@ -154,42 +162,96 @@ const TO_TREE: &str = "answer,1,determ,optimal\nvalue,0,1\ntable,1\nlottery,t,1,
 const TREE: &str =
     "branch,0\nleaf,optimal\ntable,1\nlottery,t,1,0\nbound,1\nrow,1,0,1\nrow,2,0,-1\nleaf,infeasible\nrow,0,1\nrow,1,2\nrow,2,-2\n";
 
-// What stands before the tree, the tree, the status, and what is said.
-static CHECKED: [(&str, &str, u8, &str); 8] = [
-    (TO_TREE, TREE, 0, "valid\n"),
+// A lottery at the second profile.
+const LOTTERY: &str =
+    "answer,1,determ,optimal\nvalue,3,4\ntable,2\nlottery,low,2,0\nlottery,high,1,1\npay,low,0\npay,high,3\n";
+
+// A setting, what stands before the tree, the tree, the status, and what is said.
+static CHECKED: [(&str, &str, &str, u8, &str); 13] = [
+    (TWICE, TO_TREE, TREE, 0, "valid\n"),
     (
+        TWICE,
         TO_TREE,
         "branch,0\nleaf,optimal\ntable,1\nlottery,t,1,0\nbound,1\nrow,1,0,1\nrow,2,0,-1\nleaf,infeasible\n",
         20,
         "rejected,14,2\n",
     ),
+    // Both leaves are wrong.
     (
+        TWICE,
+        TO_TREE,
+        "branch,0\nleaf,optimal\ntable,1\nlottery,t,1,0\nbound,1\nrow,1,0,1\nleaf,infeasible\nrow,0,1\n",
+        20,
+        "rejected,14,1\n",
+    ),
+    (
+        TWICE,
         "answer,1,determ,optimal\nvalue,0,1\ntable,1\nlottery,t,0,1\n",
         TREE,
         20,
         "rejected,12,rational/a/t,0,1\n",
     ),
     (
+        TWICE,
         "answer,1,determ,optimal\nvalue,2,1\ntable,2\nlottery,t,1,1\n",
         TREE,
         20,
         "rejected,11,0\n",
     ),
     (
+        POSTED_PRICE,
+        LOTTERY,
+        "leaf,infeasible\n",
+        20,
+        "rejected,11,1\n",
+    ),
+    (
+        TWICE,
         "answer,1,determ,optimal\nvalue,1,1\ntable,1\nlottery,t,1,0\n",
         TREE,
         20,
         "rejected,13,0,1\n",
     ),
+    // The leaf is wrong too.
+    (
+        TWICE,
+        "answer,1,determ,optimal\nvalue,1,1\ntable,1\nlottery,t,1,0\n",
+        "leaf,infeasible\n",
+        20,
+        "rejected,13,0,1\n",
+    ),
     // The best lottery brings 2.
     (
+        TWICE,
         TO_TREE,
         "leaf,optimal\ntable,2\nlottery,t,1,1\nbound,2\nrow,0,0,1\nrow,1,0,2\n",
         20,
         "rejected,15,0\n",
     ),
-    ("answer,1,determ,infeasible\n", TREE, 20, "rejected,15,1\n"),
     (
+        TWICE,
+        "answer,1,determ,infeasible\n",
+        TREE,
+        20,
+        "rejected,15,1\n",
+    ),
+    (
+        TWICE,
+        "answer,1,determ,infeasible\n",
+        "leaf,infeasible\nrow,1,1\n",
+        20,
+        "rejected,14,0\n",
+    ),
+    // Nobody pays, so that nothing grows.
+    (
+        TWICE,
+        "answer,1,determ,unbounded\ntable,1\nlottery,t,1,0\n",
+        "",
+        20,
+        "rejected,16\n",
+    ),
+    (
+        TWICE,
         "answer,1,determ,toowide\nfix,0,1\nwide,1,1,20,1\nagain\nwide,1,1,20,1\n",
         "",
         22,
@@ -200,73 +262,12 @@ static CHECKED: [(&str, &str, u8, &str); 8] = [
 #[test]
 fn checks_answers_by_hand(rt: HostRuntime) -> Result<(), Fail> {
     let alloc = rt.alloc();
-    for (front, tree, status, said) in &CHECKED {
+    for (setting, front, tree, status, said) in &CHECKED {
         let answer = format!(in alloc; "{front}{tree}end\n")?;
         let words = ["determcheck", "setting", "second"];
-        let told = carried_out(alloc, &words, TWICE, answer.as_bytes())?;
+        let told = carried_out(alloc, &words, setting, answer.as_bytes())?;
         assert_eq!(rt; told.status, *status, "at {answer}");
         assert!(rt; told.out.bytes() == said.as_bytes(), "at {answer}");
-    }
-    Ok(())
-}
-
-// A setting, an answer, the status, and the line on standard error.
-static REFUSED: [(&str, &str, u8, &str); 8] = [
-    (TWICE, "", 66, "mechdes: answer refused: line 0: ended\n"),
-    (
-        TWICE,
-        "answer,2,determ,infeasible\nleaf,infeasible\nend\n",
-        66,
-        "mechdes: answer refused: line 1: field 2\n",
-    ),
-    (
-        TWICE,
-        "answer,1,general,infeasible\nleaf,infeasible\nend\n",
-        66,
-        "mechdes: answer refused: line 1: field 3\n",
-    ),
-    (
-        TWICE,
-        "answer,1,determ,infeasible\nbranch,1\nend\n",
-        66,
-        "mechdes: answer refused: line 2: field 2\n",
-    ),
-    // Nothing is left to branch at.
-    (
-        TWICE,
-        "answer,1,determ,infeasible\nbranch,0\nbranch,0\nend\n",
-        66,
-        "mechdes: answer refused: line 3: field 2\n",
-    ),
-    (
-        TWICE,
-        "answer,1,determ,infeasible\nbranch,0\nleaf,infeasible\nend\n",
-        66,
-        "mechdes: answer refused: line 4: record\n",
-    ),
-    (
-        TWICE,
-        "answer,1,determ,toowide\nfix,0,2\n",
-        66,
-        "mechdes: answer refused: line 2: field 3\n",
-    ),
-    (
-        TWO_BIDDERS,
-        "",
-        65,
-        "mechdes: setting refused: other kind\n",
-    ),
-];
-
-#[test]
-fn refuses_other_answers(rt: HostRuntime) -> Result<(), Fail> {
-    let alloc = rt.alloc();
-    for (setting, answer, status, line) in &REFUSED {
-        let words = ["determcheck", "setting", "second"];
-        let told = carried_out(alloc, &words, setting, answer.as_bytes())?;
-        assert_eq!(rt; told.status, *status, "at {line}");
-        assert!(rt; told.out.bytes().is_empty(), "at {line}");
-        assert!(rt; told.err.bytes() == line.as_bytes(), "at {line}");
     }
     Ok(())
 }

@@ -56,7 +56,7 @@ type Walk = (
     &'static str,
 );
 
-static WALKS: [Walk; 11] = [
+static WALKS: [Walk; 14] = [
     (
         "20",
         &["solve", "setting", "--width", "4"],
@@ -91,6 +91,22 @@ static WALKS: [Walk; 11] = [
     ),
     (
         "5",
+        &["replay", "setting", "--width", "4", "second"],
+        "pivot,4,0\npivot,1,1\nend\n",
+        12,
+        "basis,0,1,8\nbasis,1,1,8\nwide,3,3,-25,5\nrule,2\nagain,0\nend\n",
+        "",
+    ),
+    (
+        "4",
+        &["solve", "--width=4", "setting"],
+        "",
+        0,
+        "answer,1,general,optimal\nvalue,2,1\ntable,1\nlottery,low,1,0\nlottery,high,0,1\npay,low,0\npay,high,4\nbound,3\nrow,1,0,1\nrow,2,0,4\nrow,3,0,2\nrow,5,0,12\nend\n",
+        "",
+    ),
+    (
+        "5",
         &["replay", "setting", "second", "--width", "4"],
         "pivot,0,0\nend\n",
         67,
@@ -101,6 +117,15 @@ static WALKS: [Walk; 11] = [
         "3",
         &["replay", "setting", "second"],
         "pivot,4,12\nend\n",
+        67,
+        "",
+        "mechdes: pivot 1 refused\n",
+    ),
+    // The greatest numbers that are read.
+    (
+        "3",
+        &["replay", "setting", "second"],
+        "\"pivot\",4294967295,0\r\npivot,0,4294967295\r\nend",
         67,
         "",
         "mechdes: pivot 1 refused\n",

@@ -1,18 +1,22 @@
 //! The commands over files in memory.
 use crate::test_settings::{
     CORRELATED, INTERDEPENDENT, INTERDEPENDENT_BESIDE_UTILITY, INTERDEPENDENT_FIRST_VERSION,
-    INTERDEPENDENT_INTERIM, ONE_TYPE, OUT_OF_REACH, PAYING, POSTED_PRICE, TAKING, TWO_OUTCOMES,
-    VOTE,
+    INTERDEPENDENT_INTERIM, ONE_TYPE, OUT_OF_REACH, PAYING, POSTED_PRICE, TAKING, TWO_BY_THREE,
+    TWO_OUTCOMES, VOTE,
 };
 use md_ports::{CleanShelf, CleanSink, MemShelf, MemSink};
 use md_top::mechdes;
 use std::alloc::{AllocError, Global};
 use std::test::Fail;
 
+/// At each of six profiles another one of six outcomes.
+pub(crate) const EACH_ITS_OWN: &str =
+    "answer,1,general,table\ntable,1\nlottery,l,x,1,0,0,0,0,0\nlottery,l,y,0,1,0,0,0,0\nlottery,l,z,0,0,1,0,0,0\nlottery,r,x,0,0,0,1,0,0\nlottery,r,y,0,0,0,0,1,0\nlottery,r,z,0,0,0,0,0,1\nend\n";
+
 const ONE_TYPE_TABLE: &str = "answer,1,general,table\ntable,1\nlottery,t,1\nend\n";
 
 // A setting file, an answer file, the status, what is printed and what is said on the other stream.
-static CASES: [(&str, &str, u8, &str, &str); 27] = [
+static CASES: [(&str, &str, u8, &str, &str); 41] = [
     (ONE_TYPE, ONE_TYPE_TABLE, 0, "admissible\n", ""),
     (
         VOTE,
@@ -69,6 +73,21 @@ static CASES: [(&str, &str, u8, &str, &str); 27] = [
         65,
         "",
         "mechdes: setting refused: unknown key\n",
+    ),
+    (
+        "format = \"mechanism-setting\"\nversion = 2\nkind = \"general\"\ntruth = \"dominant\"\nrational = \"ex-post\"\npayments = false\noutcomes = [\"no\", \"yes\"]\n[objective]\nwelfare = 1\n[[agent]]\nname = \"first\"\ntypes = [\"good\", \"bad\"]\nweights = [1, 1]\nutility = [[0, 0], [0, 0]]\n[[agent]]\nname = \"second\"\ntypes = [\"s\"]\nweights = [1]\nutility_at = [[0, 1], [0, -1]]\nutility = [[0, 0]]\n",
+        "",
+        65,
+        "",
+        "mechdes: setting refused: unknown key\n",
+    ),
+    // One list for two profiles.
+    (
+        "format = \"mechanism-setting\"\nversion = 2\nkind = \"general\"\ntruth = \"dominant\"\nrational = \"ex-post\"\npayments = false\noutcomes = [\"no\", \"yes\"]\n[objective]\nwelfare = 1\n[[agent]]\nname = \"first\"\ntypes = [\"good\", \"bad\"]\nweights = [1, 1]\nutility = [[0, 0], [0, 0]]\n[[agent]]\nname = \"second\"\ntypes = [\"s\"]\nweights = [1]\nutility_at = [[0, 1]]\n",
+        "",
+        65,
+        "",
+        "mechdes: setting refused: shape\n",
     ),
     ("", "", 65, "", "mechdes: setting refused: missing format\n"),
     ("format", "", 65, "", "mechdes: setting refused: not toml\n"),
@@ -177,6 +196,93 @@ static CASES: [(&str, &str, u8, &str, &str); 27] = [
         "",
         "mechdes: answer refused: line 2: field 2\n",
     ),
+    // Fields in quotes, where a comma is part of a field, and lines that end as on other systems.
+    (
+        ONE_TYPE,
+        "\"answer\",1,general,table\r\ntable,\"1\"\r\nlottery,t,1\r\nend",
+        0,
+        "admissible\n",
+        "",
+    ),
+    (
+        ONE_TYPE,
+        "answer,1,general,table\ntable,1\n\"lottery,t\",1\nend\n",
+        66,
+        "",
+        "mechdes: answer refused: line 3: record\n",
+    ),
+    (
+        ONE_TYPE,
+        "answer,1,general,table\ntable,1\nlottery,\"t,1\",1\nend\n",
+        66,
+        "",
+        "mechdes: answer refused: line 3: field 2\n",
+    ),
+    // The second voter has three types. The first one gets 1 at the last profile alone, which it comes to by the other report.
+    (
+        TWO_BY_THREE,
+        EACH_ITS_OWN,
+        20,
+        "broken,truth/first/l/r/l+z,0,1\n",
+        "",
+    ),
+    // Auctions that are refused for several reasons.
+    (
+        "format = \"mechanism-setting\"\nversion = 1\nkind = \"auction\"\nbidders = 13\nvalues = [1, 2]\nweights = [1]\n",
+        "",
+        65,
+        "",
+        "mechdes: setting refused: sizes\n",
+    ),
+    (
+        "format = \"mechanism-setting\"\nversion = 1\nkind = \"auction\"\nbidders = 2\nvalues = [2, 1]\nweights = [1]\n",
+        "",
+        65,
+        "",
+        "mechdes: setting refused: shape\n",
+    ),
+    (
+        "format = \"mechanism-setting\"\nversion = 1\nkind = \"auction\"\nbidders = 2\nvalues = [2, 1]\nweights = [0, 1]\nrevenue = 1001\n",
+        "",
+        65,
+        "",
+        "mechdes: setting refused: out of range\n",
+    ),
+    (
+        "format = \"mechanism-setting\"\nversion = 1\nkind = \"auction\"\nbidders = 2\nvalues = [2, 1]\nweights = [0, 1]\nwelfare = 1000\n",
+        "",
+        65,
+        "",
+        "mechdes: setting refused: zero weight\n",
+    ),
+    (
+        "format = \"mechanism-setting\"\nversion = 1\nkind = \"auction\"\nbidders = 2\nvalues = [2, 1]\nweights = [1000000, 1]\n",
+        "",
+        65,
+        "",
+        "mechdes: setting refused: weight total\n",
+    ),
+    (
+        "format = \"mechanism-setting\"\nversion = 1\nkind = \"auction\"\nvalues = [1]\nweights = [1]\n",
+        "",
+        65,
+        "",
+        "mechdes: setting refused: missing bidders\n",
+    ),
+    (
+        "format = \"mechanism-setting\"\nversion = 1\nkind = \"auction\"\nbidders = 0\nvalues = []\nweights = []\nkeep = 1.5\ntruth = 1\n",
+        "",
+        65,
+        "",
+        "mechdes: setting refused: wrong kind keep\n",
+    ),
+    (
+        "format = \"mechanism-setting\"\nversion = 1\nkind = \"auction\"\nbidders = 0\nvalues = []\nweights = []\ntruth = 1\n",
+        "",
+        65,
+        "",
+        "mechdes: setting refused: unknown key\n",
+    ),
     (
         "format = \"mechanism-setting\"\nversion = 1\nkind = \"auction\"\nbidders = 2\nvalues = [1, 2]\nweights = [1, 1]\n",
         ONE_TYPE_TABLE,
@@ -255,7 +361,7 @@ fn tells_faults_and_wrong_words(rt: HostRuntime) -> Result<(), Fail> {
 }
 
 // A setting and its linear program.
-static PROGRAMS: [(&str, &str); 2] = [
+static PROGRAMS: [(&str, &str); 5] = [
     (
         OUT_OF_REACH,
         "program,1,2\ncost\nrow,0,rational/a/t,atmost,-1\nrow,1,profile/t,exact,1,0,1\nend\n",
@@ -264,10 +370,28 @@ static PROGRAMS: [(&str, &str); 2] = [
         TWO_OUTCOMES,
         "program,2,2\ncost,1,1\nrow,0,rational/a/t,atmost,-1,0,-1\nrow,1,profile/t,exact,1,0,1,1,1\nend\n",
     ),
+    // The columns: keep and sell at low, keep and sell at high, the plus parts at low and high, the minus parts. The gain of low
+    // for high is x3 - x1 + pay(low) - pay(high), that of high for low 3*x1 - 3*x3 + pay(high) - pay(low).
+    (
+        "format = \"mechanism-setting\"\nversion = 1\nkind = \"general\"\ntruth = \"dominant\"\nrational = \"ex-post\"\npayments = true\noutcomes = [\"keep\", \"sell\"]\n[objective]\nrevenue = 1\n[[agent]]\nname = \"buyer\"\ntypes = [\"low\", \"high\"]\nweights = [1, 2]\nutility = [[0, 1], [0, 3]]\n",
+        "program,8,6\ncost,4,1,5,2,6,-1,7,-2\nrow,0,truth/buyer/low/high/low,atmost,0,1,-1,3,1,4,1,5,-1,6,-1,7,1\nrow,1,truth/buyer/high/low/high,atmost,0,1,3,3,-3,4,-1,5,1,6,1,7,-1\nrow,2,rational/buyer/low,atmost,0,1,-1,4,1,6,-1\nrow,3,rational/buyer/high,atmost,0,3,-3,5,1,7,-1\nrow,4,profile/low,exact,1,0,1,1,1\nrow,5,profile/high,exact,1,2,1,3,1\nend\n",
+    ),
+    // The columns: the chances at l and h, the plus parts of one at l and h and of two at l and h, the minus parts. The profile l
+    // weighs 1, and h weighs 2. Row 1, 2*(3*x0 - 3*x1 + pay(h) - pay(l)), is divided by 2, and so is row 3, 2*(pay(h) - 3*x1).
+    (
+        "format = \"mechanism-setting\"\nversion = 1\nkind = \"general\"\ntruth = \"bayes\"\nrational = \"interim\"\npayments = true\nno_deficit = true\noutcomes = [\"o\"]\nprior = [1, 2]\n[objective]\nwelfare = 1\nrevenue = 1\n[[agent]]\nname = \"one\"\ntypes = [\"l\", \"h\"]\noutside = [0, 1]\nutility = [[1], [3]]\n[[agent]]\nname = \"two\"\ntypes = [\"z\"]\noutside = [1]\nutility = [[2]]\n",
+        "program,10,9\ncost,0,3,1,10,2,1,3,2,4,1,5,2,6,-1,7,-2,8,-1,9,-2\nrow,0,truth/one/l/h,atmost,0,0,-1,1,1,2,1,3,-1,6,-1,7,1\nrow,1,truth/one/h/l,atmost,0,0,3,1,-3,2,-1,3,1,6,1,7,-1\nrow,2,rational/one/l,atmost,0,0,-1,2,1,6,-1\nrow,3,rational/one/h,atmost,-1,1,-3,3,1,7,-1\nrow,4,rational/two/z,atmost,-3,0,-2,1,-4,4,1,5,2,8,-1,9,-2\nrow,5,deficit/l+z,atmost,0,2,-1,4,-1,6,1,8,1\nrow,6,deficit/h+z,atmost,0,3,-1,5,-1,7,1,9,1\nrow,7,profile/l+z,exact,1,0,1\nrow,8,profile/h+z,exact,1,1,1\nend\n",
+    ),
+    // The columns: no and yes at good, no and yes at bad. The first agent gains and loses nothing, and the second one has 1 of yes at
+    // good and -1 of it at bad.
+    (
+        INTERDEPENDENT,
+        "program,4,8\ncost,1,1,3,-1\nrow,0,truth/first/good/bad/good+s,atmost,0\nrow,1,truth/first/bad/good/bad+s,atmost,0\nrow,2,rational/first/good+s,atmost,0\nrow,3,rational/first/bad+s,atmost,0\nrow,4,rational/second/good+s,atmost,0,1,-1\nrow,5,rational/second/bad+s,atmost,0,3,1\nrow,6,profile/good+s,exact,1,0,1,1,1\nrow,7,profile/bad+s,exact,1,2,1,3,1\nend\n",
+    ),
 ];
 
 // A setting, an answer, the status and what `check` prints.
-static CHECKS: [(&str, &str, u8, &str); 17] = [
+static CHECKS: [(&str, &str, u8, &str); 21] = [
     (ONE_TYPE, ONE_TYPE_TABLE, 22, "undecided\n"),
     (
         POSTED_PRICE,
@@ -310,6 +434,33 @@ static CHECKS: [(&str, &str, u8, &str); 17] = [
         "answer,1,general,optimal\nvalue,0,1\ntable,1\nlottery,low,1,0\nlottery,high,1,0\npay,low,0\npay,high,0\nbound,2\nrow,1,0,1\nrow,2,0,3\nrow,3,0,1\nrow,5,0,6\nend\n",
         20,
         "rejected,6,3,1,0,1\n",
+    ),
+    // The value need not be in least terms.
+    (
+        POSTED_PRICE,
+        "answer,1,general,optimal\nvalue,6,4\ntable,1\nlottery,low,1,0\nlottery,high,0,1\npay,low,0\npay,high,3\nbound,2\nrow,1,0,1\nrow,2,0,3\nrow,3,0,1\nrow,5,0,6\nend\n",
+        0,
+        "valid\n",
+    ),
+    // Of two conditions that fail the first is told: a value before a row, a column before the right sides of the face row, and these
+    // before those of the main row.
+    (
+        POSTED_PRICE,
+        "answer,1,general,optimal\nvalue,2,1\ntable,1\nlottery,low,1,0\nlottery,high,0,1\npay,low,0\npay,high,3\nbound,2\nrow,1,0,-1\nend\n",
+        20,
+        "rejected,2,3,2\n",
+    ),
+    (
+        POSTED_PRICE,
+        "answer,1,general,optimal\nvalue,3,2\ntable,1\nlottery,low,1,0\nlottery,high,0,1\npay,low,0\npay,high,3\nbound,2\nrow,1,0,1\nrow,2,0,3\nrow,4,1,0\nrow,5,0,6\nend\n",
+        20,
+        "rejected,4,5,0,-1\n",
+    ),
+    (
+        POSTED_PRICE,
+        "answer,1,general,optimal\nvalue,3,2\ntable,1\nlottery,low,1,0\nlottery,high,0,1\npay,low,0\npay,high,3\nbound,2\nrow,1,0,1\nrow,2,0,3\nrow,3,0,1\nrow,4,1,0\nrow,5,0,7\nend\n",
+        20,
+        "rejected,5,1\n",
     ),
     (
         OUT_OF_REACH,
@@ -374,7 +525,7 @@ fn lists_programs(rt: HostRuntime) -> Result<(), Fail> {
     for (setting, printed) in &PROGRAMS {
         let mut shelf = MemShelf::new(alloc);
         shelf.put("setting", setting.as_bytes())?;
-        let mut out = MemSink::new(alloc, 200)?;
+        let mut out = MemSink::new(alloc, 1000)?;
         let mut err = MemSink::new(alloc, 100)?;
         assert_eq!(rt; mechdes(alloc, &words, &mut shelf, &mut out, &mut err), 0);
         assert!(rt; out.bytes() == printed.as_bytes(), "at {setting}");
