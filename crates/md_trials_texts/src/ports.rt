@@ -1,44 +1,77 @@
 //! Files and streams in memory, which stand for those of a program.
-use md_ports::{CleanShelf, CleanSink, MemShelf, MemSink, Shelf, ShelfError, Sink, SinkError};
+use md_ports::{CleanShelf, CleanSink, MemShelf, MemSink, Shelf, ShelfError, Sink};
+use std::alloc::{AllocError, Global};
 use std::test::Fail;
 
-#[test]
-fn a_shelf_fails_where_it_is_told_to(rt: HostRuntime) -> Result<(), Fail> {
-    let alloc = rt.alloc();
+// Two files, of which the first was replaced, and a second read that fails.
+fn shelf(alloc: Global) -> Result<MemShelf, AllocError> {
     let mut shelf = MemShelf::new(alloc);
     shelf.put("a", b"old")?;
     shelf.put("b", b"12345")?;
     shelf.put("a", b"new")?;
     shelf.fail_at(2)?;
-    assert_eq!(rt; shelf.read("a", 3)?.as_slice(), b"new".as_slice());
-    assert_eq!(rt; shelf.read("a", 3).err(), Some(ShelfError::Failed));
-    assert_eq!(rt; shelf.read("c", 3).err(), Some(ShelfError::Failed));
-    assert_eq!(rt; shelf.read("b", 3)?.as_slice(), b"1234".as_slice());
+    Ok(shelf)
+}
+
+// Whether a read of at most three bytes, and one more where there is one, gives these.
+fn reads(shelf: &mut impl Shelf, name: &str, wanted: &[u8]) -> bool {
+    match shelf.read(name, 3) {
+        Ok(bytes) => bytes.as_slice() == wanted,
+        Err(_) => false,
+    }
+}
+
+fn fails(shelf: &mut MemShelf, name: &str) -> bool {
+    match shelf.read(name, 3) {
+        Err(ShelfError::Failed) => true,
+        _ => false,
+    }
+}
+
+#[test]
+fn a_shelf_fails_where_it_is_told_to(rt: HostRuntime) -> Result<(), Fail> {
+    let mut shelf = shelf(rt.alloc())?;
+    assert!(rt; reads(&mut shelf, "a", b"new"));
+    assert!(rt; fails(&mut shelf, "a"));
+    assert!(rt; fails(&mut shelf, "c"));
+    assert!(rt; reads(&mut shelf, "b", b"1234"));
     Ok(())
+}
+
+// A sink for five bytes whose second write fails behind the first byte.
+fn sink(alloc: Global) -> Result<MemSink, AllocError> {
+    let mut sink = MemSink::new(alloc, 5)?;
+    sink.fail_at(2, 2)?;
+    sink.fail_at(2, 1)?;
+    Ok(sink)
 }
 
 #[test]
 fn a_sink_fails_where_it_is_told_to(rt: HostRuntime) -> Result<(), Fail> {
-    let mut sink = MemSink::new(rt.alloc(), 5)?;
-    sink.fail_at(2, 2)?;
-    sink.fail_at(2, 1)?;
-    assert_eq!(rt; sink.write(b"ab"), Ok(()));
-    assert_eq!(rt; sink.write(b"cd"), Err(SinkError::Failed));
-    assert_eq!(rt; sink.bytes(), b"abc".as_slice());
-    assert_eq!(rt; sink.write(b"xyz"), Err(SinkError::Failed));
-    assert_eq!(rt; sink.bytes(), b"abcxy".as_slice());
+    let mut sink = sink(rt.alloc())?;
+    assert!(rt; sink.write(b"ab").is_ok());
+    assert!(rt; sink.write(b"cd").is_err());
+    assert!(rt; sink.bytes() == b"abc".as_slice());
+    assert!(rt; sink.write(b"xyz").is_err());
+    assert!(rt; sink.bytes() == b"abcxy".as_slice());
     Ok(())
 }
 
 #[test]
-fn clean_objects_do_not_fail(rt: HostRuntime) -> Result<(), Fail> {
+fn a_clean_shelf_does_not_fail(rt: HostRuntime) -> Result<(), Fail> {
     let mut shelf = CleanShelf::new(rt.alloc());
     shelf.put("a", b"text")?;
-    assert_eq!(rt; shelf.read("a", 9)?.as_slice(), b"text".as_slice());
-    assert_eq!(rt; shelf.read("b", 9)?.len(), 0);
+    assert!(rt; reads(&mut shelf, "a", b"text"));
+    assert!(rt; reads(&mut shelf, "b", b""));
+    Ok(())
+}
+
+// Bytes that go past its room are not told, and are no fault.
+#[test]
+fn a_clean_sink_does_not_fail(rt: HostRuntime) -> Result<(), Fail> {
     let mut sink = CleanSink::new(rt.alloc(), 4)?;
-    sink.write(b"text")?;
-    assert_eq!(rt; sink.bytes(), b"text".as_slice());
-    assert_eq!(rt; sink.write(b"more"), Ok(()));
+    assert!(rt; sink.write(b"text").is_ok());
+    assert!(rt; sink.bytes() == b"text".as_slice());
+    assert!(rt; sink.write(b"more").is_ok());
     Ok(())
 }
