@@ -66,31 +66,34 @@ const CHECK: &[&str] = &["check", "setting", "second"];
 
 const SOLVE: &[&str] = &["solve", "setting"];
 
-static CASES: [Case; 23] = [
+// The multipliers of answers are what a separate program makes of the rules for paths.
+static CASES: [Case; 26] = [
     (SOLVE, ONE_BUYER, "", 0, ONE_BUYER_ANSWER, ""),
     (
         SOLVE,
         TWO_BIDDERS,
         "",
         0,
-        "answer,1,auction,optimal\nvalue,3,2\ninterim,",
+        "answer,1,auction,optimal\nvalue,3,2\ninterim,4\nodds,1,3\npays,1,5\nmass,0,2,0,4\nmass,1,1,0,8\nmass,2,0,4,0\ncut,1\ncut,2\ncut,3\nbound,2\nrow,1,0,2\nrow,2,0,4\nrow,5,0,1\nend\n",
         "",
     ),
+    // With the cuts of one value each the values 2 and 3 would win 19 times of 27 each, and be over by 12, which is more than by how
+    // much all three would: so their cut is added.
     (
         SOLVE,
         THREE_BIDDERS,
         "",
         0,
-        "answer,1,auction,optimal\nvalue,64,27\ninterim,27\nodds,0,7,19\npays,0,14,50\nmass,0,0,3,0,0,27\nmass,0,1,2,0,0,81\nmass,0,2,1,0,0,81\nmass,0,3,0,0,27,0\nmass,1,0,2,0,0,81\nmass,1,1,1,0,0,162\nmass,1,2,0,0,81,0\nmass,2,0,1,0,0,81\nmass,2,1,0,0,81,0\nmass,3,0,0,0,0,0\ncut,1\ncut,2\ncut,4\ncut,6\nbound,",
+        "answer,1,auction,optimal\nvalue,64,27\ninterim,27\nodds,0,7,19\npays,0,14,50\nmass,0,0,3,0,0,27\nmass,0,1,2,0,0,81\nmass,0,2,1,0,0,81\nmass,0,3,0,0,27,0\nmass,1,0,2,0,0,81\nmass,1,1,1,0,0,162\nmass,1,2,0,0,81,0\nmass,2,0,1,0,0,81\nmass,2,1,0,0,81,0\nmass,3,0,0,0,0,0\ncut,1\ncut,2\ncut,4\ncut,6\nbound,27\nrow,2,0,27\nrow,5,0,27\nrow,6,0,54\nrow,7,0,27\nrow,11,0,2\nrow,12,0,1\nend\n",
         "",
     ),
-    // Two values are pooled.
+    // Two values are pooled, and the cut of all three is added.
     (
         SOLVE,
         "format = \"mechanism-setting\"\nversion = 1\nkind = \"auction\"\nbidders = 2\nvalues = [2, 3, 6]\nweights = [2, 1, 1]\n",
         "",
         0,
-        "answer,1,auction,optimal\nvalue,3,1\ninterim,8\nodds,3,3,7\npays,6,6,30\nmass,0,0,2,0,0,8\nmass,0,1,1,0,0,16\nmass,0,2,0,0,8,0\nmass,1,0,1,0,0,32\nmass,1,1,0,16,16,0\nmass,2,0,0,32,0,0\ncut,1\ncut,2\ncut,4\ncut,7\nbound,",
+        "answer,1,auction,optimal\nvalue,3,1\ninterim,8\nodds,3,3,7\npays,6,6,30\nmass,0,0,2,0,0,8\nmass,0,1,1,0,0,16\nmass,0,2,0,0,8,0\nmass,1,0,1,0,0,32\nmass,1,1,0,16,16,0\nmass,2,0,0,32,0,0\ncut,1\ncut,2\ncut,4\ncut,7\nbound,9\nrow,2,0,16\nrow,4,0,2\nrow,5,0,7\nrow,6,0,36\nrow,11,0,6\nrow,12,0,6\nend\n",
         "",
     ),
     // The row that says that the value 20 does not tell 1 has the factor 20 at the odds of 1. At 4 bits 15 is the limit.
@@ -245,6 +248,37 @@ static CASES: [Case; 23] = [
         65,
         "",
         "mechdes: setting refused: other kind\n",
+    ),
+    // Row 1 says that the value 20 does not tell 1, with the factor 20 at the odds of 1. At 4 bits 15 is the limit.
+    (
+        &["solve", "setting", "--width", "4"],
+        "format = \"mechanism-setting\"\nversion = 1\nkind = \"auction\"\nbidders = 1\nvalues = [1, 20]\nweights = [1, 1]\n",
+        "",
+        12,
+        "answer,2,auction,toowide\ncut,1\ncut,2\nwide,1,0,20,1\nagain\nwide,1,0,20,1\nend\n",
+        "",
+    ),
+    // The virtual values are -14, 6/7 and 3. With the cuts of one value each the values 2 and 3 win 3 times of 4 each. They ask 32 * (7 +
+    // 8) * 3 / 4 = 360 times of 256, and one of them comes 255 times: over by 105, more than all three values are, by 104. Row 12 is
+    // their cut, with the factors 32 * 7 = 224 and 32 * 8 = 256. At 8 bits 255 is the limit.
+    (
+        &["solve", "setting", "--width", "8"],
+        "format = \"mechanism-setting\"\nversion = 1\nkind = \"auction\"\nbidders = 2\nvalues = [1, 2, 3]\nweights = [1, 7, 8]\n",
+        "",
+        12,
+        "answer,2,auction,toowide\ncut,1\ncut,2\ncut,4\ncut,6\nwide,12,2,256,1\nagain\nwide,12,2,256,1\nend\n",
+        "",
+    ),
+    // The values are worth twice as much less 5 to the designer, -1, 1 and 7, which count 2, 1 and 1 times in the cost. The other
+    // bidder's values weigh 4 together: the profiles in which a bidder has a value weigh 2, 1 and 1 times 2 * 4 for both bidders, and
+    // those in which one of them has it 12, 7 and 7. So the first cut is divided by 4.
+    (
+        &["rows", "setting"],
+        "format = \"mechanism-setting\"\nversion = 1\nkind = \"auction\"\nbidders = 2\nvalues = [2, 3, 6]\nweights = [2, 1, 1]\nrevenue = 1\nwelfare = 2\nkeep = 5\n",
+        "",
+        0,
+        "program,9,12\ncost,0,-2,1,1,2,7,3,2,4,1,5,1,6,-2,7,-1,8,-1\nrow,0,truth/2/3,atmost,0,0,-2,1,2,3,1,4,-1,6,-1,7,1\nrow,1,truth/2/6,atmost,0,0,-2,2,2,3,1,5,-1,6,-1,8,1\nrow,2,truth/3/2,atmost,0,0,3,1,-3,3,-1,4,1,6,1,7,-1\nrow,3,truth/3/6,atmost,0,1,-3,2,3,4,1,5,-1,7,-1,8,1\nrow,4,truth/6/2,atmost,0,0,6,2,-6,3,-1,5,1,6,1,8,-1\nrow,5,truth/6/3,atmost,0,1,6,2,-6,4,-1,5,1,7,1,8,-1\nrow,6,rational/2,atmost,0,0,-2,3,1,6,-1\nrow,7,rational/3,atmost,0,1,-3,4,1,7,-1\nrow,8,rational/6,atmost,0,2,-6,5,1,8,-1\nrow,9,cut/1,atmost,3,0,4\nrow,10,cut/2,atmost,7,1,8\nrow,11,cut/4,atmost,7,2,8\nend\n",
+        "",
     ),
 ];
 

@@ -129,7 +129,7 @@ pub(crate) static CALLS: [Call; 34] = [
         &["asym", "sale"],
         1,
         0,
-        "answer,1,asym,optimal\nvalue,5,2\ninterim,1\nodds,buyer,0,1\npays,buyer,0,3\nmass,low,0\nmass,high,1\ncut,1\ncut,2\nbound,",
+        "answer,1,asym,optimal\nvalue,5,2\ninterim,1\nodds,buyer,0,1\npays,buyer,0,3\nmass,low,0\nmass,high,1\ncut,1\ncut,2\nbound,1\nrow,2,0,1\nrow,3,0,1\nrow,5,0,1\nend\n",
     ),
     (
         &["units", "bidders", "2"],

@@ -28,9 +28,13 @@ mod realising_tests;
 #[cfg(test)]
 mod refusing_tests;
 #[cfg(test)]
+mod replaying_tests;
+#[cfg(test)]
 mod reporting_tests;
 #[cfg(test)]
 mod ruling_tests;
+#[cfg(test)]
+mod sale_limits;
 #[cfg(test)]
 mod selling_tests;
 #[cfg(test)]

@@ -1,4 +1,6 @@
 //! Interim odds realised, over files in memory, and which file is looked at first.
+use crate::calls::ONE_BUYER;
+use crate::ironing_tests::POOLED;
 use crate::test_settings::{HONEST, POSTED_PRICE, THREE_BIDDERS, TWO_BIDDERS};
 use crate::tests::words;
 use md_ports::{MemShelf, MemSink};
@@ -9,7 +11,7 @@ const NONE: &str = "interim,1\nodds,0,0\nend\n";
 
 // A setting file, an odds file, the status, what is printed and what is said on the other stream. With the values 1 and 2
 // of the same weight, two bidders who always win with either ask for the item 4 times more than it is there.
-static CASES: [(&str, &str, u8, &str, &str); 10] = [
+static CASES: [(&str, &str, u8, &str, &str); 30] = [
     (
         TWO_BIDDERS,
         "interim,1\nodds,1,1\nend\n",
@@ -84,6 +86,156 @@ static CASES: [(&str, &str, u8, &str, &str); 10] = [
         65,
         "",
         "mechdes: setting refused: unknown word truth\n",
+    ),
+    // Bidders with the lower value ask for the item in all four profiles, and it is there for them in three.
+    (
+        TWO_BIDDERS,
+        "interim,1\nodds,1,0\nend\n",
+        21,
+        "violated,1,1,1\n",
+        "",
+    ),
+    (
+        TWO_BIDDERS,
+        "interim,1\nodds,0,1\nend\n",
+        21,
+        "violated,2,1,1\n",
+        "",
+    ),
+    // The higher value asks for 16 quarters and has 12, and both values ask for 20 and have 16: of two sets the larger one.
+    (
+        TWO_BIDDERS,
+        "interim,4\nodds,1,4\nend\n",
+        21,
+        "violated,3,4,4\n",
+        "",
+    ),
+    // The higher value has all where it comes, and the lower one all of the rest.
+    (
+        TWO_BIDDERS,
+        "interim,4\nodds,1,3\nend\n",
+        0,
+        "realise,4\nmass,0,2,0,4\nmass,1,1,0,8\nmass,2,0,4,0\nend\n",
+        "",
+    ),
+    (
+        ONE_BUYER,
+        "interim,1\nodds,0,1\nend\n",
+        0,
+        "realise,1\nmass,0,1,0,1\nmass,1,0,0,0\nend\n",
+        "",
+    ),
+    // Of 27 profiles each value has nine for each bidder, 27 together. One value comes in 3*2*2 + 3*2 + 1 of them, one of two in
+    // all but one, and one of three in all.
+    (
+        THREE_BIDDERS,
+        "interim,1\nodds,1,0,0\nend\n",
+        21,
+        "violated,1,8,1\n",
+        "",
+    ),
+    (
+        THREE_BIDDERS,
+        "interim,1\nodds,0,1,0\nend\n",
+        21,
+        "violated,2,8,1\n",
+        "",
+    ),
+    (
+        THREE_BIDDERS,
+        "interim,1\nodds,1,1,0\nend\n",
+        21,
+        "violated,3,28,1\n",
+        "",
+    ),
+    (
+        THREE_BIDDERS,
+        "interim,1\nodds,0,0,1\nend\n",
+        21,
+        "violated,4,8,1\n",
+        "",
+    ),
+    (
+        THREE_BIDDERS,
+        "interim,1\nodds,1,0,1\nend\n",
+        21,
+        "violated,5,28,1\n",
+        "",
+    ),
+    (
+        THREE_BIDDERS,
+        "interim,1\nodds,0,1,1\nend\n",
+        21,
+        "violated,6,28,1\n",
+        "",
+    ),
+    (
+        THREE_BIDDERS,
+        "interim,1\nodds,1,1,1\nend\n",
+        21,
+        "violated,7,54,1\n",
+        "",
+    ),
+    // The values weigh 2, 1 and 1: both bidders ask for 2*4 times that. The profiles with a 2 weigh 4 + 8, those with a 3 weigh
+    // 2 + 2 + 1 + 1 + 1, as do those with a 6, and all weigh 16. Those with a 3 or a 6 weigh 16 - 4, and those with a 2 and one of
+    // the others 16 - 1.
+    (
+        POOLED,
+        "interim,1\nodds,1,0,0\nend\n",
+        21,
+        "violated,1,4,1\n",
+        "",
+    ),
+    (
+        POOLED,
+        "interim,1\nodds,0,1,0\nend\n",
+        21,
+        "violated,2,1,1\n",
+        "",
+    ),
+    (
+        POOLED,
+        "interim,1\nodds,1,1,0\nend\n",
+        21,
+        "violated,3,9,1\n",
+        "",
+    ),
+    (
+        POOLED,
+        "interim,1\nodds,0,0,1\nend\n",
+        21,
+        "violated,4,1,1\n",
+        "",
+    ),
+    (
+        POOLED,
+        "interim,1\nodds,1,0,1\nend\n",
+        21,
+        "violated,5,9,1\n",
+        "",
+    ),
+    (
+        POOLED,
+        "interim,1\nodds,0,1,1\nend\n",
+        21,
+        "violated,6,4,1\n",
+        "",
+    ),
+    (
+        POOLED,
+        "interim,1\nodds,1,1,1\nend\n",
+        21,
+        "violated,7,16,1\n",
+        "",
+    ),
+    // They ask for 48, 24 and 56 eighths, which is all there is. The last value has all where it comes, 56. Each of the others has
+    // all where both bidders have it, and 16 of the 32 where one has each.
+    (
+        POOLED,
+        "interim,8\nodds,3,3,7\nend\n",
+        0,
+        "realise,8\nmass,0,0,2,0,0,8\nmass,0,1,1,0,0,16\nmass,0,2,0,0,8,0\nmass,1,0,1,0,0,32\nmass,1,1,0,16,16,0\nmass,2,0,0,32,0,0\nend\n",
+        "",
     ),
 ];
 

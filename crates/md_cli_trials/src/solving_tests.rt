@@ -225,25 +225,6 @@ fn tells_wide_bases_and_carries_pivots_out(rt: HostRuntime) -> Result<(), Fail> 
     Ok(())
 }
 
-// The path of the setting of the seller and the buyer.
-const SEVEN_PIVOTS: &[u8] =
-    b"pivot,4,0\npivot,1,1\npivot,5,2\npivot,2,4\npivot,0,8\npivot,3,5\npivot,5,3\nend\n";
-
-#[test]
-fn follows_the_path_to_its_end(rt: HostRuntime) -> Result<(), Fail> {
-    let alloc = rt.alloc();
-    let walked = carried_out(
-        alloc,
-        &["replay", "setting", "second"],
-        POSTED_PRICE,
-        SEVEN_PIVOTS,
-    )?;
-    assert_eq!(rt; walked.status, 0);
-    assert!(rt; walked.out.bytes().starts_with(b"basis,0,1,4\n"));
-    assert!(rt; walked.out.bytes().ends_with(b"rule,7\nagain,0\nend\n"));
-    Ok(())
-}
-
 #[test]
 fn solves_for_each_high_value(rt: HostRuntime) -> Result<(), Fail> {
     let alloc = rt.alloc();

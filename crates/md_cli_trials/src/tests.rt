@@ -361,7 +361,7 @@ fn tells_faults_and_wrong_words(rt: HostRuntime) -> Result<(), Fail> {
 }
 
 // A setting and its linear program.
-static PROGRAMS: [(&str, &str); 5] = [
+static PROGRAMS: [(&str, &str); 6] = [
     (
         OUT_OF_REACH,
         "program,1,2\ncost\nrow,0,rational/a/t,atmost,-1\nrow,1,profile/t,exact,1,0,1\nend\n",
@@ -387,6 +387,11 @@ static PROGRAMS: [(&str, &str); 5] = [
     (
         INTERDEPENDENT,
         "program,4,8\ncost,1,1,3,-1\nrow,0,truth/first/good/bad/good+s,atmost,0\nrow,1,truth/first/bad/good/bad+s,atmost,0\nrow,2,rational/first/good+s,atmost,0\nrow,3,rational/first/bad+s,atmost,0\nrow,4,rational/second/good+s,atmost,0,1,-1\nrow,5,rational/second/bad+s,atmost,0,3,1\nrow,6,profile/good+s,exact,1,0,1,1,1\nrow,7,profile/bad+s,exact,1,2,1,3,1\nend\n",
+    ),
+    // The cost 4 and -6 is divided by 2, and the row of -10 at the first outcome with the right side -15 by 5.
+    (
+        "format = \"mechanism-setting\"\nversion = 1\nkind = \"general\"\ntruth = \"dominant\"\nrational = \"ex-post\"\npayments = false\noutcomes = [\"x\", \"y\"]\n[objective]\nvalue = [4, -6]\n[[agent]]\nname = \"a\"\ntypes = [\"t\"]\nweights = [1]\noutside = [15]\nutility = [[10, 0]]\n",
+        "program,2,2\ncost,0,2,1,-3\nrow,0,rational/a/t,atmost,-3,0,-2\nrow,1,profile/t,exact,1,0,1,1,1\nend\n",
     ),
 ];
 

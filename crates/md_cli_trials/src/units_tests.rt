@@ -2,6 +2,7 @@
 //! the bidders with the greatest virtual values that are not negative, as Myerson has shown for one item in "Optimal auction
 //! design" (1981).
 use crate::auction_tests::is_told;
+use crate::calls::ONE_BUYER;
 use crate::solving_tests::carried_out;
 use crate::test_settings::{INDEPENDENT, THREE_BIDDERS, TWO_BIDDERS};
 use std::test::Fail;
@@ -14,9 +15,10 @@ const ONE_TO_TWENTY: &str =
 // brings 3, and a second unit 1, but where both others bring -1, which is so in 1 of 4. At the other 8 the units bring 1 each, as
 // many as there are bidders who bring it: (42 + 12 * 15/4 + 3 * 1 + 4 * 2) / 27. A bidder with the value 3 goes without where the
 // three bidders have it and the lot falls on it, at 1 of 27, and one with 2 at 7 of 27. Each pays as much as it can, so that it
-// does not tell the value below.
+// does not tell the value below. With the cuts of one value each the values 2 and 3 would win 26 times of 27, and ask for 52 units
+// where 46 can be had, so that their cut is added. The multipliers are what a separate program makes of the rules for paths.
 const THREE_BIDDERS_TWO_UNITS: &str =
-    "answer,1,units,optimal\nvalue,98,27\ninterim,27\nodds,0,20,26\npays,0,40,58\nmass,0,0,3,0,0,54\nmass,0,1,2,0,0,162\nmass,0,2,1,0,81,81\nmass,0,3,0,0,54,0\nmass,1,0,2,0,0,162\nmass,1,1,1,0,162,162\nmass,1,2,0,0,162,0\nmass,2,0,1,0,0,81\nmass,2,1,0,0,81,0\nmass,3,0,0,0,0,0\ncut,";
+    "answer,1,units,optimal\nvalue,98,27\ninterim,27\nodds,0,20,26\npays,0,40,58\nmass,0,0,3,0,0,54\nmass,0,1,2,0,0,162\nmass,0,2,1,0,81,81\nmass,0,3,0,0,54,0\nmass,1,0,2,0,0,162\nmass,1,1,1,0,162,162\nmass,1,2,0,0,162,0\nmass,2,0,1,0,0,81\nmass,2,1,0,0,81,0\nmass,3,0,0,0,0,0\ncut,1\ncut,2\ncut,4\ncut,6\nbound,27\nrow,2,0,27\nrow,5,0,27\nrow,6,0,54\nrow,7,0,27\nrow,11,0,2\nrow,12,0,1\nend\n";
 
 // The words, the setting, the status, what is printed or how it begins, and what is said.
 type Case = (
@@ -27,7 +29,7 @@ type Case = (
     &'static str,
 );
 
-static CASES: [Case; 11] = [
+static CASES: [Case; 12] = [
     // A bidder with the value 1 brings 1 - (2 - 1), and one with 2 brings 2, which is there in 3 of 4 profiles.
     (
         &["units", "setting", "1"],
@@ -109,6 +111,15 @@ static CASES: [Case; 11] = [
         65,
         "",
         "mechdes: setting refused: other kind\n",
+    ),
+    // A bidder with the value 1 brings 1 - (3 - 1), and one with 3 brings 3. Each unit is worth 2 where it is kept: one is sold for 3
+    // in one of two profiles, and the other one is kept.
+    (
+        &["units", "setting", "2"],
+        ONE_BUYER,
+        0,
+        "answer,1,units,optimal\nvalue,9,2\ninterim,1\nodds,0,1\npays,0,3\nmass,0,1,0,1\nmass,1,0,0,0\ncut,1\ncut,2\nbound,1\nrow,2,0,1\nrow,3,0,1\nrow,5,0,1\nend\n",
+        "",
     ),
 ];
 
