@@ -67,7 +67,7 @@ const CHECK: &[&str] = &["check", "setting", "second"];
 const SOLVE: &[&str] = &["solve", "setting"];
 
 // The multipliers of answers are what a separate program makes of the rules for paths.
-static CASES: [Case; 26] = [
+static CASES: [Case; 24] = [
     (SOLVE, ONE_BUYER, "", 0, ONE_BUYER_ANSWER, ""),
     (
         SOLVE,
@@ -248,26 +248,6 @@ static CASES: [Case; 26] = [
         65,
         "",
         "mechdes: setting refused: other kind\n",
-    ),
-    // Row 1 says that the value 20 does not tell 1, with the factor 20 at the odds of 1. At 4 bits 15 is the limit.
-    (
-        &["solve", "setting", "--width", "4"],
-        "format = \"mechanism-setting\"\nversion = 1\nkind = \"auction\"\nbidders = 1\nvalues = [1, 20]\nweights = [1, 1]\n",
-        "",
-        12,
-        "answer,2,auction,toowide\ncut,1\ncut,2\nwide,1,0,20,1\nagain\nwide,1,0,20,1\nend\n",
-        "",
-    ),
-    // The virtual values are -14, 6/7 and 3. With the cuts of one value each the values 2 and 3 win 3 times of 4 each. They ask 32 * (7 +
-    // 8) * 3 / 4 = 360 times of 256, and one of them comes 255 times: over by 105, more than all three values are, by 104. Row 12 is
-    // their cut, with the factors 32 * 7 = 224 and 32 * 8 = 256. At 8 bits 255 is the limit.
-    (
-        &["solve", "setting", "--width", "8"],
-        "format = \"mechanism-setting\"\nversion = 1\nkind = \"auction\"\nbidders = 2\nvalues = [1, 2, 3]\nweights = [1, 7, 8]\n",
-        "",
-        12,
-        "answer,2,auction,toowide\ncut,1\ncut,2\ncut,4\ncut,6\nwide,12,2,256,1\nagain\nwide,12,2,256,1\nend\n",
-        "",
     ),
     // The values are worth twice as much less 5 to the designer, -1, 1 and 7, which count 2, 1 and 1 times in the cost. The other
     // bidder's values weigh 4 together: the profiles in which a bidder has a value weigh 2, 1 and 1 times 2 * 4 for both bidders, and
