@@ -26,7 +26,7 @@ fn ends(alloc: Global, bidders: u32, kinds: u32) -> Result<(u32, u32, u32), Coun
 // 17 over 6 is 12376, and 17 over 8 is 24310.
 #[test]
 fn as_many_lists_as_may_be(rt: HostRuntime) {
-    assert_eq!(rt; ends(rt.alloc(), 11, 7), Ok((12_376, 11, 11)));
-    assert_eq!(rt; ends(rt.alloc(), 6, 12), Ok((12_376, 6, 6)));
-    assert_eq!(rt; ends(rt.alloc(), 9, 9), Err(CountsRefusal::TooManyCounts));
+    assert!(rt; matches!(ends(rt.alloc(), 11, 7), Ok((12_376, 11, 11))));
+    assert!(rt; matches!(ends(rt.alloc(), 6, 12), Ok((12_376, 6, 6))));
+    assert!(rt; matches!(ends(rt.alloc(), 9, 9), Err(CountsRefusal::TooManyCounts)));
 }

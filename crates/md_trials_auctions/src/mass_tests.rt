@@ -112,16 +112,26 @@ static TRIALS: [Trial; 17] = [
     },
 ];
 
+fn is_refusal(refusal: &Option<MassRefusal>, wanted: &Option<MassRefusal>) -> bool {
+    match (refusal, wanted) {
+        (None, None) => true,
+        (Some(MassRefusal::Shape), Some(MassRefusal::Shape)) => true,
+        (Some(MassRefusal::Den), Some(MassRefusal::Den)) => true,
+        (Some(MassRefusal::Negative(place)), Some(MassRefusal::Negative(other))) => place == other,
+        (Some(MassRefusal::Absent(place)), Some(MassRefusal::Absent(other))) => place == other,
+        (Some(MassRefusal::Over(rank)), Some(MassRefusal::Over(other))) => rank == other,
+        _ => false,
+    }
+}
+
 #[test]
 fn tables_and_refusals(rt: HostRuntime) -> Result<(), Fail> {
     let auction = auction(rt.alloc(), 2, &[1, 2], &[1, 1])?;
     let counts = Counts::of(rt.alloc(), &auction)?;
-    for trial in &TRIALS {
+    for (place, trial) in TRIALS.iter().enumerate() {
         let rows = Nums::from_slice(rt.alloc(), trial.rows)?;
-        assert_eq!(rt;
-            Masses::new(&auction, &counts, trial.den, rows).err(),
-            trial.refusal
-        );
+        let refusal = Masses::new(&auction, &counts, trial.den, rows).err();
+        assert!(rt; is_refusal(&refusal, &trial.refusal), "at {place}");
     }
     Ok(())
 }
