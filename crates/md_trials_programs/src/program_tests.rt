@@ -166,8 +166,8 @@ fn zeros(alloc: Global, count: u32) -> Result<Nums, NoMemory>
 // A program with as many columns as may be, and two rows of the greatest numbers at the first one and the last one.
 fn widest(alloc: Global) -> Result<Lp, LpRefusal> {
     let mut lp = Lp::new(alloc, 65_536, zeros(alloc, 65_536)?)?;
-    for value in [GREATEST, -GREATEST] {
-        lp.push_row(RowKind::AtMost, &[term(0, value), term(65_535, -value)], 1)?;
+    for (first, last) in [(GREATEST, -GREATEST), (-GREATEST, GREATEST)] {
+        lp.push_row(RowKind::AtMost, &[term(0, first), term(65_535, last)], 1)?;
     }
     Ok(lp)
 }
