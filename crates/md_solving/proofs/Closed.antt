@@ -1,5 +1,5 @@
 -- What an answer in closed form shows that is read back.
-use Rattle.std.proofs.Common.{◌≡◌, ℕ, List, Ok, true, inl, inr}
+use Rattle.std.proofs.Common.{◌≡◌, ℕ, List, Ok, true}
 use Rattle.md_setting.specs.ByKind.{IsGeneral}
 use Rattle.md_setting.specs.Auction.{SymmetricAuction}
 use Rattle.md_setting.specs.declared.file.SettingFile.{SettingFile}

@@ -2,7 +2,6 @@
 use Rattle.std.proofs.Common.{◌≡◌, ℕ, List, [], Some, Result, Ok, Err, sym, ap, subst, inl, inr}
 use Rattle.std.specs.Prelude.{◌⊎◌}
 use Rattle.md_setting.specs.Auction.{SymmetricAuction}
-use Rattle.md_setting.specs.ByKind.{WhereAuction, WhereGeneral}
 use Rattle.md_setting.specs.Setting.{GeneralSetting}
 use Rattle.md_setting.specs.declared.file.SettingFile.{SettingFile}
 use Rattle.md_setting.specs.declared.file.SettingFile.TheVariants.{General, Auction}
@@ -130,8 +129,3 @@ sure (General s) width saying answer v h read judged =
     general-sure s width saying.status saying.text h.headline answer v (read-answer (answer_of s saying.text) answer read) judged
 sure (Auction a) width saying answer v h read judged =
     auction-sure a width saying.status saying.text h.headline answer v (read-answer (auction_answer_of a saying.text) answer read) judged
-
-pub judged : (file : SettingFile) (answer : Answer) (v : Verdict) → WhereGeneral (λ s. IsVerdict s answer v) file → WhereAuction (λ a. IsAuctionVerdict a answer v) file
-    → IsVerdictOn file answer v
-judged (General s) answer v general auction = general
-judged (Auction a) answer v general auction = auction

@@ -68,6 +68,18 @@ sure_verdict (Unbounded mechanism ray) = Valid
 sure_verdict (AuctionOptimal value interim masses cuts bound) = Valid
 sure_verdict (TooWide cuts first second) = Undecided
 
+-- both records about an answer, with a verdict on it
+pub record IsCheckedAs (number : ℕ) (file : SettingFile) (answer : Answer) (told : List ℕ) : Type 0 where
+  pub verdict : Verdict
+  pub judged : IsVerdictOn file answer verdict
+  pub text : told ≡ text_of_records (drill_row number file answer ∷ check_row verdict ∷ [])
+
+-- the same about the answer that a text says
+pub record IsToldOf (number : ℕ) (file : SettingFile) (printed told : List ℕ) : Type 0 where
+  pub answer : Answer
+  pub read_back : answer_in file printed ≡ Ok answer
+  pub checked : IsCheckedAs number file answer told
+
 -- The setting of the number, and what `solve` says of it within the greatest width: a text with this status. What the text
 -- says, read back, is told with its value. The checker finds it valid where it claims something, and undecided where both
 -- paths are too wide; it rejects nothing.

@@ -1,5 +1,6 @@
 //! The command `drill`: the setting that a number stands for is solved, and the answer is read back and checked.
 ghost use Rattle.std.specs.Prelude.{◌≡◌, ◌⊎◌, ◌≤◌, ◌∷◌, [], IfOk, IfErr, Ok};
+ghost use Rattle.md_gen.specs.Generated.{IsGenerated};
 ghost use Rattle.md_setting.specs.ByKind.{WhereAuction, WhereGeneral};
 ghost use Rattle.md_answer.specs.AnswerTo.{IsAnswerTo};
 ghost use Rattle.md_answer.specs.AuctionAnswerTo.{IsAuctionAnswer};
@@ -8,7 +9,7 @@ ghost use Rattle.md_answer.specs.Rows.{kind_in};
 ghost use Rattle.md_records.specs.Written.{text_of_records};
 ghost use Rattle.md_cli_driver.specs.declared.refusal.Refusal.TheVariants as refusal;
 ghost use Rattle.md_cli_driver.specs.Reading.{answer_in};
-ghost use Rattle.md_solving.specs.Drilling.{IsDrill, IsDrilled, IsDrillStatus, IsReadable, check_row, drill_row, kind_of, value_in, with_value, word_of_verdict};
+ghost use Rattle.md_solving.specs.Drilling.{IsCheckedAs, IsDrill, IsDrilled, IsDrillStatus, IsReadable, IsToldOf, check_row, drill_row, kind_of, value_in, with_value, word_of_verdict};
 ghost use Rattle.md_solving.specs.Headline.{IsSolveStatus};
 ghost use Rattle.md_cli_driver.specs.Refused.{refused, status_of};
 ghost use Rattle.md_cli_driver.specs.Saying.{said};
@@ -53,20 +54,52 @@ fn told(alloc: Global, number: i128) -> Result<Answered, Refusal>
     }
 }
 
-// The setting is made and solved, the text of its answer is read back, and the checker judges what was read.
+// The setting is made and solved, the text of its answer is read back, and the checker judges what was read. Each step that can fail
+// stands in a function that owns nothing of an earlier one but by reference, since what is let go where it fails is dear to prove.
 fn drilled(alloc: Global, number: u32) -> Result<Answered, NoMemory>
     requires { number ≤ 999999 }
     ensures drilled { IfOk result (λ answered. IsDrilled number (said answered)) }
     ensures status { IfOk result (λ answered. IsSolveStatus answered.status) }
 {
     let file = make(alloc, number)?;
-    let solved = solved(alloc, &file, greatest_width())?;
-    let answer = answer_again(alloc, &file, &solved.text)?;
-    let verdict = check(alloc, &file, &answer)?;
+    drilled_of(alloc, number, &file)
+}
+
+// What comes of the setting that was made.
+fn drilled_of(alloc: Global, number: u32, file: &SettingFile) -> Result<Answered, NoMemory>
+    requires { IsGenerated number file.now }
+    ensures drilled { IfOk result (λ answered. IsDrilled number (said answered)) }
+    ensures status { IfOk result (λ answered. IsSolveStatus answered.status) }
+{
+    let solved = solved(alloc, file, greatest_width())?;
     Ok(Answered {
         status: solved.status,
-        text: records(alloc, number, &file, &answer, &verdict)?,
+        text: told_of(alloc, number, file, &solved.text)?,
     })
+}
+
+// What is told of the text of an answer, which is read back and checked.
+fn told_of(alloc: Global, number: u32, file: &SettingFile, text: &[u8]) -> Result<Vec<u8>, NoMemory>
+    requires { IsReadable file.now text.now }
+    ensures { IfOk result (λ told. IsToldOf number file.now text.now told.items) }
+{
+    let answer = answer_again(alloc, file, text)?;
+    checked(alloc, number, file, &answer)
+}
+
+// Both records about an answer.
+fn checked(
+    alloc: Global,
+    number: u32,
+    file: &SettingFile,
+    answer: &Answer,
+) -> Result<Vec<u8>, NoMemory>
+    requires general { WhereGeneral (λ s. IsAnswerTo s answer.now) file.now }
+    requires auction { WhereAuction (λ a. IsAuctionAnswer a answer.now) file.now }
+    ensures { IfOk result (λ told. IsCheckedAs number file.now answer.now told.items) }
+{
+    let verdict = check(alloc, file, answer)?;
+    records(alloc, number, file, answer, &verdict)
 }
 
 // The width within which a setting is solved where no other is asked for.
