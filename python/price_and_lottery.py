@@ -54,9 +54,8 @@ def best_mechanism(weight):
     """The best way of all, with the checker's word on it."""
     setting = SETTING.format(others=weight.denominator, weight=weight.numerator)
     answer = mechdes.solve(setting)
-    assert mechdes.check(setting, answer) == "valid"
-    payments = mechdes.read(setting, answer).payments
-    return Way({kind: payments[kind,]["buyer"] for kind in VALUES})
+    assert isinstance(answer, mechdes.GeneralOptimal) and mechdes.check(setting, answer)
+    return Way({kind: answer.payments[kind,]["buyer"] for kind in VALUES})
 
 
 def payments_at(first, second, both):
@@ -94,4 +93,5 @@ def main():
               f"{str(best_mechanism(weight).brings(weight)):>9}")
 
 
-main()
+if __name__ == "__main__":
+    main()

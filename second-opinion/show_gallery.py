@@ -12,6 +12,7 @@ from html import escape
 from pathlib import Path
 
 from setting import read_setting
+from show_frontier import frontier_page, step_of
 from show_kinds import page_of, picture_of, read_answer
 from show_parts import document, paragraph
 from show_text import html_number, remark
@@ -19,6 +20,8 @@ from show_text import html_number, remark
 EXAMPLES = Path(__file__).resolve().parent.parent / "examples"
 PICTURES = {"divorce"}  # the examples whose lotteries are stored as a picture too
 ENDING = "-answer.csv"
+FRONTIER = ("auction-reserve", "compromise-2-1", "compromise-1-1", "compromise-1-3", "compromise-1-4")  # one auction, weighed anew
+FRONTIER_LEAD = "What can be had of revenue and welfare at once, in the auction of two bidders with a reserve price."
 
 
 def title_of(name):
@@ -51,9 +54,19 @@ def names():
     return [path.name.removesuffix(ENDING) for path in sorted(EXAMPLES.glob("*" + ENDING))]
 
 
+def frontier():
+    """The page of the auction that is weighed anew."""
+    steps = []
+    for name in FRONTIER:
+        setting = read_setting((EXAMPLES / f"{name}.toml").read_bytes())
+        steps.append(step_of(name, setting, read_answer((EXAMPLES / (name + ENDING)).read_bytes(), setting)))
+    return frontier_page(title_of("frontier"), FRONTIER_LEAD, steps)
+
+
 def pages():
     """The texts of all files, by their names."""
-    made, entries = {}, []
+    made, entries = {"frontier.html": frontier()}, []
+    entries.append(("frontier", title_of("frontier"), "the corners of a frontier", "", FRONTIER_LEAD))
     for name in names():
         path = EXAMPLES / (name + ENDING)
         data = (EXAMPLES / f"{name}.toml").read_bytes()

@@ -29,6 +29,7 @@ from show_auction_page import AuctionPage
 from show_bars import Bar, Bars, Group
 from show_draw import CHAR, place
 from show_facts import Play, Prior, conditions, contradiction, name_of, terms_of
+from show_frontier import Step, corners_of, step_of
 from show_kinds import read_answer
 from show_page import Page
 from show_parts import ANY_PAGE
@@ -195,7 +196,8 @@ class Auctions(unittest.TestCase):
 
     def test_stored_answers_hold(self):
         names = [name for name, *_ in stored(AuctionSetting)]
-        self.assertEqual(names, ["auction-" + each for each in "cuts efficient ironed keep reserve single".split()])
+        auctions = ["auction-" + each for each in "cuts efficient ironed keep reserve single".split()]
+        self.assertEqual(names, auctions + ["compromise-" + each for each in "1-1 1-3 1-4 2-1".split()])
         for name, auction, answer in stored(AuctionSetting):
             page = AuctionPage(auction, answer, name, ["a", "b"])
             self.assertEqual(page.mistakes(), [])
@@ -311,6 +313,30 @@ class Auctions(unittest.TestCase):
         cases = [([0], "10"), ([0, 2], "10, 30"), ([0, 1, 2], "10, 20, 30"), ([0, 1, 2, 3, 5], "10 to 40, 60")]
         for places, words in cases:
             self.assertEqual(set_words([10, 20, 30, 40, 50, 60], places), words)
+
+
+class Frontiers(unittest.TestCase):
+    def steps(self, names=show_gallery.FRONTIER):
+        return [step_of(name, *example(name)) for name in names]
+
+    def test_corners_and_edges(self):
+        # By hand, in the page frontier.md.
+        points, edges = corners_of(self.steps())
+        self.assertEqual([(25 * one, 25 * other) for one, other in points], [(71, 88), (68, 94), (65, 95)])
+        self.assertEqual([edge.weights for edge in edges], [(2, 1), (1, 3)])
+        self.assertEqual([edge.value for edge in edges], [Fraction(46, 5), 14])
+
+    def test_what_shows_no_frontier(self):
+        steps = self.steps()
+        with self.assertRaisesRegex(ValueError, "two rules have no line"):
+            corners_of([step for step in steps if step.name != "compromise-1-3"])
+        with self.assertRaisesRegex(ValueError, "a rule lies beyond a line"):
+            corners_of([*steps, Step("forged", (1, 1), Fraction(6), (Fraction(1), Fraction(1)))])
+
+    def test_the_page_says_what_an_edge_costs(self):
+        text = show_gallery.pages()["frontier.html"]
+        self.assertIn("From 71/25 to 68/25 of revenue, 3/25 of it buys 6/25 of welfare.", text)
+        self.assertIn("From 68/25 to 13/5 of revenue, 3/25 of it buys 1/25 of welfare.", text)
 
 
 class Pages(unittest.TestCase):

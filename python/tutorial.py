@@ -1,0 +1,113 @@
+#!/usr/bin/env python3
+"""A tour of mechdes in Python: a divorce, a price, an optimal auction, a sweep over reserve
+prices, an auction that is held, and what can be had of revenue and welfare at once.
+
+    python3 python/tutorial.py
+
+It wants the package (`pip install ./python`, or PYTHONPATH=python) with its library, and nothing else. Each part is a function
+that can be read by itself; the tests compare what it prints with what is worked out by hand.
+"""
+
+import collections
+import pathlib
+import random
+from fractions import Fraction
+
+import mechdes
+
+EXAMPLES = pathlib.Path(__file__).resolve().parent.parent / "examples"
+
+
+def divorce():
+    """A couple that parts has a painting. Each of the two likes it little or much, and only the own type is known."""
+    setting = EXAMPLES / "divorce.toml"
+    answer = mechdes.solve(setting)                      # a path, a text or a value; what comes is a value
+    assert isinstance(answer, mechdes.GeneralOptimal)    # and not Infeasible, Unbounded or TooWide
+    assert mechdes.check(setting, answer)                # the checker uses nothing of the part that searches
+    print("The best rule has the value", answer.value)
+    both = answer.lotteries["much", "much"]              # exact fractions, by names
+    print("where both want the painting much:", ", ".join(f"{name} {chance}" for name, chance in both.items() if chance))
+    rule = mechdes.determ(setting)
+    assert isinstance(rule, mechdes.Rule) and mechdes.determcheck(setting, rule)
+    print("the best rule without a lottery has the value", rule.value)
+
+
+def price():
+    """A buyer values an item 1 or 3, both as likely. The setting is made in Python, and shown as the file that it stands for."""
+    buyer = mechdes.Agent("buyer", types=["low", "high"], weights=[1, 1], utility=[[0, 1], [0, 3]])
+    revenue = mechdes.Objective(revenue=1)
+    setting = mechdes.Setting(
+        truth="dominant", rational="ex-post", payments=True, outcomes=["keep", "sell"], agents=[buyer], objective=revenue
+    )
+    answer = mechdes.solve(setting)
+    assert isinstance(answer, mechdes.GeneralOptimal) and mechdes.check(setting, answer)
+    print("The best price is", answer.payments["high",]["buyer"], "and brings", answer.value)
+    print("the file begins with", setting.to_toml().splitlines()[0])
+
+
+def auction():
+    """An item for two bidders who value it 2, 3 or 6. The setting is made in Python."""
+    setting = mechdes.Auction(bidders=2, values=[2, 3, 6], weights=[2, 1, 1])
+    answer = mechdes.solve(setting)
+    assert isinstance(answer, mechdes.AuctionOptimal) and mechdes.check(setting, answer)
+    print("The best auction brings", answer.value)
+    for value, odds in answer.odds.items():
+        print(f"a bidder with {value} wins with the chance {odds} and pays {answer.pays[value]} on average")
+    report = mechdes.report(setting, answer)
+    print("the item is worth", report.welfare, "to who gets it, on average; nobody gains by a lie:", report.regret == 0)
+    print("where 3 and 2 are reported, the chances are", *answer.mechanism.chances([3, 2]))
+
+
+def reserve_prices():
+    """What the item is worth to the seller, from nothing on, and the least value that it is then sold to."""
+    settings = [mechdes.Auction(bidders=2, values=[1, 2, 3, 4, 5], weights=[1, 1, 1, 1, 1], keep=keep) for keep in range(7)]
+    print("kept for  brings  sold from")
+    for setting, answer in mechdes.sweep(settings):      # side by side, in order; a refusal stands in its own place
+        assert not isinstance(answer, Exception) and mechdes.check(setting, answer)
+        sold = [value for value, odds in answer.odds.items() if odds]
+        print(f"{setting.keep:8}  {answer.value!s:6}  {min(sold, default='never')}")
+
+
+def held(times=1000, seed=1):
+    """The auction is held many times, with values drawn by the weights, and with the draws that the rule asks for."""
+    setting = mechdes.Auction(bidders=2, values=[2, 3, 6], weights=[2, 1, 1])
+    answer = mechdes.solve(setting)
+    assert isinstance(answer, mechdes.AuctionOptimal)
+    source = random.Random(seed)                         # for a sale that counts take the default, which nobody can foresee
+    paid, wins, had = Fraction(0), collections.Counter(), collections.Counter()
+    for _ in range(times):
+        reports = source.choices(setting.values, setting.weights, k=setting.bidders)
+        drawn = mechdes.draw(setting, answer, reports, source)
+        paid += sum(drawn.payments.values())
+        had.update(reports)
+        if drawn.winner is not None:
+            wins[reports[drawn.winner - 1]] += 1
+    print(f"In {times} auctions the seller has {float(paid / times):.3f} on average; the value is {answer.value}")
+    for value, odds in answer.odds.items():
+        print(f"a bidder with {value} won {wins[value] / had[value]:.3f} of the time; its odds are {float(odds):.3f}")
+
+
+def compromises():
+    """What can be had of revenue and welfare at once: all corners, exactly."""
+    found = mechdes.frontier(EXAMPLES / "auction-reserve.toml", "revenue", "welfare")
+    for corner in found.corners:
+        print("revenue", corner.first, "with welfare", corner.second)
+    print("at a revenue of 14/5 the most welfare is", found.best(Fraction(14, 5)))
+
+
+def refusals():
+    """What the program refuses is an exception, which says why."""
+    try:
+        mechdes.solve(mechdes.Auction(bidders=2, values=[3, 2], weights=[1, 1]))
+    except mechdes.SettingRefused as refused:
+        print("Values must ascend. The program says:", refused)
+
+
+def main():
+    for part in (divorce, price, auction, reserve_prices, held, compromises, refusals):
+        print(f"-- {part.__name__.replace('_', ' ')}")
+        part()
+
+
+if __name__ == "__main__":
+    main()
