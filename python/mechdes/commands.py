@@ -178,7 +178,10 @@ def check(setting: SettingLike, answer: AnswerLike) -> Verdict:
 
 
 def determcheck(setting: SettingLike, answer: AnswerLike) -> Verdict:
-    """Whether what an answer of `determ` claims is so. It uses nothing of the search."""
+    """Whether what an answer of `determ` claims is so.
+
+    It uses nothing that solves a program. With the search it shares the walk through the tree and what makes the program of a node.
+    """
     return _verdict(_printed({0, 20, 22}, ["determcheck", "setting", "answer"], setting_bytes(setting), answer_bytes(answer)))
 
 
