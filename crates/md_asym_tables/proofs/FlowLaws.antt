@@ -16,10 +16,11 @@ use Rattle.md_space.proofs.Ranks.{profile_at-IsProfile, report-below}
 use Rattle.md_setting.specs.Setting.{GeneralSetting}
 use Rattle.md_setting.specs.Meaning.{agent_count, sizes_of, weight_of}
 use Rattle.md_mech.proofs.CountLaws.{agents-length}
-use Rattle.md_flow.specs.Network.{Network, node_count, demand_count, cap_of, want_of, touches}
+use Rattle.md_flow.specs.Network.{Network, node_count, demand_count, cap_of, want_of}
 use Rattle.md_flow.specs.Flows.{given_by, got_by, Meets, amount_in}
-use Rattle.md_flow.specs.Over.{any_below, touches_some, over, NoneOver, IsWorst}
+use Rattle.md_flow.specs.Over.{any_below, over, NoneOver, IsWorst}
 use Rattle.md_flow.proofs.AnyBelow.{any_below-place, any_below-true}
+use Rattle.md_flow.proofs.Touching.{over-touching, untouched}
 use Rattle.md_asym_tables.specs.Odds.{excess_of, IsWorstSet, MeetsBorder}
 use Rattle.md_asym_tables.specs.PairNets.{IsNetOf, cap_at, has_at}
 use Rattle.md_asym_sale.specs.Pairs.{pair_number, agent_of, kind_of}
@@ -88,48 +89,41 @@ same-bool true b p q = sym (p refl)
 same-bool false true p q = q refl
 same-bool false false p q = refl
 
-some-touched : (s : GeneralSetting) (den : ℤ) (odds : List ℤ) (net : Network) (set r : ℕ) → IsNetOf s den odds net → r < profile_count (sizes_of s)
-    → touches_some net (member set) r ≡ has_some s set (profile_at (sizes_of s) r)
-some-touched s den odds net set r h b = same-bool _ _ there back
+some-touched : (s : GeneralSetting) (set r : ℕ) → r < profile_count (sizes_of s) → any_below (pairs_of s) (λ p. has_at s r p && member set p) ≡ has_some s set (profile_at (sizes_of s) r)
+some-touched s set r b = same-bool _ _ there back
   where
     test : ℕ → Bool
-    test p = touches net r p && member set p
+    test p = has_at s r p && member set p
 
     wanted : ℕ → Bool
     wanted i = member set (pair_in s r i)
 
-    there : any_below (demand_count net) test ≡ true → any_below (agent_count s) wanted ≡ true
+    there : any_below (pairs_of s) test ≡ true → any_below (agent_count s) wanted ≡ true
     there e =
-        let (p, l, t) = any_below-place (demand_count net) test e in
-        let inside : p < pairs_of s = omega (arith, l, demands-of s den odds net h) in
-        let here : has_at s r p ≡ true = sym (h.touches r p b inside) ∙ and-left (touches net r p) (member set p) t in
-        any_below-true (agent_count s) wanted (agent_of (sizes_of s) p) (agent-below s p inside) (ap (member set) (pair-at s r p inside here) ∙ and-right (touches net r p) (member set p) t)
+        let (p, l, t) = any_below-place (pairs_of s) test e in
+        any_below-true (agent_count s) wanted (agent_of (sizes_of s) p) (agent-below s p l) (ap (member set) (pair-at s r p l (and-left (has_at s r p) (member set p) t)) ∙ and-right (has_at s r p) (member set p) t)
 
-    back : any_below (agent_count s) wanted ≡ true → any_below (demand_count net) test ≡ true
+    back : any_below (agent_count s) wanted ≡ true → any_below (pairs_of s) test ≡ true
     back e =
         let (i, l, t) = any_below-place (agent_count s) wanted e in
-        let inside : pair_in s r i < pairs_of s = pair-below s r i b l in
-        any_below-true (demand_count net) test (pair_in s r i) (omega (arith, inside, demands-of s den odds net h))
-        (and-both (touches net r (pair_in s r i)) (member set (pair_in s r i)) (h.touches r (pair_in s r i) b inside ∙ is-at s r i b l) t)
+        any_below-true (pairs_of s) test (pair_in s r i) (pair-below s r i b l) (and-both (has_at s r (pair_in s r i)) (member set (pair_in s r i)) (is-at s r i b l) t)
 
 -- the caps of the nodes that touch a set are the right side of the set
 caps-touched : (s : GeneralSetting) (den : ℤ) (odds : List ℤ) (net : Network) (set : ℕ) → IsNetOf s den odds net
-    → sum_to (node_count net) (λ u. if touches_some net (member set) u then cap_of net u else pos 0) ≡ den *ℤ right_of s set
+    → sum_to (node_count net) (λ r. if any_below (demand_count net) (λ p. has_at s r p && member set p) then cap_of net r else pos 0) ≡ den *ℤ right_of s set
 caps-touched s den odds net set h =
-    ap (λ n. sum_to n (λ u. if touches_some net (member set) u then cap_of net u else pos 0)) (nodes-of s den odds net h)
-    ∙ sum_to-same (profile_count (sizes_of s)) _ (λ r. den *ℤ weight_where s set r) at
+    ap₂ (λ n k. sum_to n (λ r. if any_below k (λ p. has_at s r p && member set p) then cap_of net r else pos 0)) (nodes-of s den odds net h) (demands-of s den odds net h)
+    ∙ sum_to-same (profile_count (sizes_of s)) _ (λ r. den *ℤ weight_where s set r) (λ r b.
+    ap₂ (λ (t : Bool) (z : ℤ). if t then z else pos 0) (some-touched s set r b) (cap-of s den odds net r h b)
+    ∙ sym (chosen-times (has_some s set (profile_at (sizes_of s) r)) den (weight_of s (profile_at (sizes_of s) r))))
     ∙ sum_to-*ℤ (profile_count (sizes_of s)) den (weight_where s set)
     ∙ ap (λ z. den *ℤ z) (sym (right-by_rank s set))
-  where
-    at : (r : ℕ) → r < profile_count (sizes_of s) → (if touches_some net (member set) r then cap_of net r else pos 0) ≡ den *ℤ weight_where s set r
-    at r b =
-        ap₂ (λ (t : Bool) (z : ℤ). if t then z else pos 0) (some-touched s den odds net set r h b) (cap-of s den odds net r h b)
-        ∙ sym (chosen-times (has_some s set (profile_at (sizes_of s) r)) den (weight_of s (profile_at (sizes_of s) r)))
 
 -- what a set is over by in the net is its excess
 pub over-excess : (s : GeneralSetting) (den : ℤ) (odds : List ℤ) (net : Network) (set : ℕ) → IsNetOf s den odds net → over net (member set) ≡ excess_of s den odds set
 over-excess s den odds net set h =
-    ap₂ (λ x y. x -ℤ y)
+    over-touching net (has_at s) (member set) h.nonneg h.rooms
+    ∙ ap₂ (λ x y. x -ℤ y)
     (ap (λ k. sum_to k (λ p. if member set p then want_of net p else pos 0)) (demands-of s den odds net h)
     ∙ sum_to-same (pairs_of s) _ _ (λ p l. ap (λ z. if member set p then z else pos 0) (want-of s den odds net p h l)))
     (caps-touched s den odds net set h)
@@ -167,6 +161,13 @@ mass-at s den odds amounts net r i h b l =
     ∙ get_or-list_to (agent_count s) (λ j. number_at amounts (r * pairs_of s + pair_in s r j)) i (pos 0) l
     ∙ sym (amount-at s den odds amounts net r (pair_in s r i) h)
 
+-- an agent without the type of a pair gets nothing for it
+amount-none : (s : GeneralSetting) (den : ℤ) (odds amounts : List ℤ) (net : Network) (r p : ℕ) → IsNetOf s den odds net → Meets net (amount_in net amounts) → r < profile_count (sizes_of s) → p < pairs_of s → has_at s r p ≡ false → amount_in net amounts r p ≡ pos 0
+amount-none s den odds amounts net r p h meets b l away =
+    let node : r < node_count net = omega (arith, b, nodes-of s den odds net h) in
+    let demand : p < demand_count net = omega (arith, l, demands-of s den odds net h) in
+    untouched net (amount_in net amounts) r p meets.part node demand (h.rooms r p node demand ∙ ap (λ t. if t then cap_of net r else pos 0) away)
+
 -- a node gives each agent's pair its amount, and nothing else
 given-masses : (s : GeneralSetting) (den : ℤ) (odds amounts : List ℤ) (net : Network) (r : ℕ) → IsNetOf s den odds net → Meets net (amount_in net amounts) → r < profile_count (sizes_of s)
     → given_by (demand_count net) (amount_in net amounts) r ≡ sum_to (agent_count s) (mass_at s (masses_in s amounts) r)
@@ -184,8 +185,7 @@ given-masses s den odds amounts net r h meets b =
         sum_to-single (slice_index (sizes_of s) i) (type_in s r i) (λ a. x (pair_number (sizes_of s) i a)) (type-below s r i b l)
         (λ a c d.
         let inside = number-below (sizes_of s) i a (in-sizes s i l) c in
-        meets.part.untouched r (pair_number (sizes_of s) i a) (omega (arith, b, nodes-of s den odds net h)) (omega (arith, inside, demands-of s den odds net h))
-        (h.touches r (pair_number (sizes_of s) i a) b inside ∙ not-at s r i a l c d))
+        amount-none s den odds amounts net r (pair_number (sizes_of s) i a) h meets b inside (not-at s r i a l c d))
         ∙ sym (mass-at s den odds amounts net r i h b l)
 
 pub table-of_flow : (s : GeneralSetting) (den : ℤ) (odds amounts : List ℤ) (net : Network) → IsNetOf s den odds net → Meets net (amount_in net amounts) → IsProfileTable s den (masses_in s amounts)
@@ -209,7 +209,7 @@ implements-of_flow s den odds amounts net h meets = record { exact = exact }
           (mass-at s den odds amounts net r (agent_of (sizes_of s) p) h b (agent-below s p l) ∙ ap (amount_in net amounts r) (pair-at s r p l here))
       | inr away ↦
           rw away
-          (sym (meets.part.untouched r p (omega (arith, b, nodes-of s den odds net h)) (omega (arith, l, demands-of s den odds net h)) (h.touches r p b l ∙ away)))
+          (sym (amount-none s den odds amounts net r p h meets b l away))
     ]
 
     exact : (p : ℕ) → p < pairs_of s → sum_to (profile_count (sizes_of s)) (mass_where s (masses_in s amounts) p) ≡ demand_at s (number_at odds) p

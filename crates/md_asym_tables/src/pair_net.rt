@@ -83,7 +83,6 @@ fn demand(setting: &Setting, odds: &Nums, pair: u32) -> i128
 fn touches(alloc: Global, setting: &Setting) -> Result<Sets, NoMemory>
     requires { pairs_of setting.now ≤ 12 }
     ensures count { IfOk result (λ sets. length sets ≡ profile_count (sizes_of setting.now)) }
-    ensures below { IfOk result (λ sets. (r : ℕ) → r < length sets → slice_index sets r < 2 ^ pairs_of setting.now) }
     ensures members { IfOk result (λ sets. (r p : ℕ) → r < length sets → p < pairs_of setting.now → member (slice_index sets r) p ≡ has_at setting.now r p) }
 {
     let mut sets = Sets::new(alloc);
@@ -97,8 +96,7 @@ fn touches(alloc: Global, setting: &Setting) -> Result<Sets, NoMemory>
 fn pairs_at(setting: &Setting, rank: u32) -> u32
     requires few { pairs_of setting.now ≤ 12 }
     requires rank_in { rank < profile_count (sizes_of setting.now) }
-    ensures below { result < 2 ^ pairs_of setting.now }
-    ensures members { (p : ℕ) → p < pairs_of setting.now → member result p ≡ has_at setting.now rank p }
+    ensures { (p : ℕ) → p < pairs_of setting.now → member result p ≡ has_at setting.now rank p }
 {
     let mut set = 0;
     for pair in 0..pair_count(setting) {

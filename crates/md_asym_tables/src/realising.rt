@@ -1,12 +1,7 @@
 //! Profile tables that have given odds.
-ghost use Rattle.std.specs.Prelude.{◌≡◌, ◌*◌, ◌^◌, ◌<◌, ℤ, List, length, IfOk};
-ghost use Rattle.md_math.specs.Sets.{member};
+ghost use Rattle.std.specs.Prelude.{ℤ, List, IfOk};
 ghost use Rattle.md_mech.specs.declared.mechanism.Mechanism.{Mechanism};
 ghost use Rattle.md_mech.specs.Mechanism.{IsMechanism};
-ghost use Rattle.md_flow.specs.Network.{node_count, demand_count};
-ghost use Rattle.md_flow.specs.Flows.{Meets, amount_in};
-ghost use Rattle.md_flow.specs.Over.{NoneOver, IsWorst};
-ghost use Rattle.md_flow.specs.Ends.{WhereFull, WhereCut};
 ghost use Rattle.md_asym_sale.specs.Sale.{IsSale};
 ghost use Rattle.md_asym_tables.specs.Ends.{WhereTable, WhereViolated};
 ghost use Rattle.md_asym_tables.specs.Mechanisms.{mechanism_of};
@@ -16,12 +11,10 @@ ghost use Rattle.md_asym_tables.specs.Tables.{IsProfileTable, Implements};
 use crate::PairEnd;
 use crate::pair_net::net_of;
 use crate::pair_table::table_of;
-use md_flow::{FlowEnd, Net, Steps, solve};
+use md_flow::{FlowEnd, find_end};
 use md_num::{NoMemory, Nums};
 use md_setting::Setting;
 use std::alloc::Global;
-use std::marker::Brand;
-use std::sync::ledger::{Blank, Ledger};
 
 /// A profile table with exactly the interim odds of a sale, over the denominator of the odds; or the set of pairs that asks
 /// for most more than there is. The odds are 0 to 1, by pair. Nothing but want of memory is an error.
@@ -50,26 +43,11 @@ pub fn realise_pairs(
     ensures necessary { IfOk result (WhereViolated (λ _. (m : Mechanism) → IsMechanism setting.now m → HasOdds setting.now m den odds.now → ⊥)) }
 {
     let net = net_of(alloc, setting, den, odds)?;
-    match flow::<Brand>(alloc, &net, Blank::new(1))? {
+    match find_end(alloc, &net)? {
         FlowEnd::Full(amounts) => {
             let masses = table_of(alloc, setting, &amounts)?;
             Ok(PairEnd::Table(masses))
         }
         FlowEnd::Cut { set, amounts: _ } => Ok(PairEnd::Violated(set)),
     }
-}
-
-// A flow through a net, or its worst set; the count of the steps is not kept.
-fn flow<L: Ledger>(alloc: Global, net: &Net, blank: Blank) -> Result<FlowEnd, NoMemory>
-    requires name { blank.name ≡ L.name }
-    requires parts { blank.parts ≡ L.parts }
-    requires some { 0 < blank.parts }
-    ensures full { IfOk result (WhereFull (λ amounts. Meets net.now (amount_in net.now amounts))) }
-    ensures full_length { IfOk result (WhereFull (λ amounts. length amounts ≡ node_count net.now * demand_count net.now)) }
-    ensures full_none { IfOk result (WhereFull (λ amounts. NoneOver net.now)) }
-    ensures cut { IfOk result (WhereCut (λ set amounts. IsWorst net.now (member set))) }
-    ensures cut_set { IfOk result (WhereCut (λ set amounts. set < 2 ^ demand_count net.now)) }
-{
-    let mut steps = Steps::<L>::open(blank);
-    solve(alloc, net, &mut steps)
 }

@@ -1,5 +1,5 @@
 -- Flows from the lists of counts to the kinds of values are mass tables, and sets that are over their caps break Border's condition.
-use Rattle.std.proofs.Common.{◌≡◌, ℕ, zero, suc, ◌+◌, ◌*◌, ◌^◌, ◌<◌, ℤ, pos, ◌-ℤ◌, ◌*ℤ◌, ◌≤ℤ◌, ◌<ℤ◌, Bool, true, false, ◌&&◌, ◌||◌, if◌then◌else◌, List, length, min, nat_lt, refl, sym, ap, ap₂, ◌∙◌, subst, arith, inl, inr}
+use Rattle.std.proofs.Common.{◌≡◌, ℕ, ◌+◌, ◌*◌, ◌^◌, ◌<◌, ℤ, pos, ◌-ℤ◌, ◌*ℤ◌, ◌≤ℤ◌, ◌<ℤ◌, Bool, true, false, ◌&&◌, if◌then◌else◌, List, length, min, nat_lt, refl, sym, ap, ap₂, ◌∙◌, subst, arith, inl, inr}
 use Rattle.std.specs.Prelude.{slice_index}
 use Rattle.std.proofs.lemmas.Bool.{cases_Bool}
 use Rattle.std.proofs.lemmas.Bool.Decides.{nat_tests}
@@ -26,10 +26,11 @@ use Rattle.md_border.specs.Sides.{right_of}
 use Rattle.md_border.proofs.Necessity.{border}
 use Rattle.md_border.proofs.SetLaws.{pos-sum_in}
 use Rattle.md_border.proofs.SideLaws.{right_of-counts}
-use Rattle.md_flow.specs.Network.{Network, node_count, demand_count, cap_of, want_of, touches}
+use Rattle.md_flow.specs.Network.{Network, node_count, demand_count, cap_of, want_of}
 use Rattle.md_flow.specs.Flows.{given_by, Meets, amount_in}
-use Rattle.md_flow.specs.Over.{any_below, touches_some, over, NoneOver, IsWorst}
+use Rattle.md_flow.specs.Over.{any_below, over, NoneOver, IsWorst}
 use Rattle.md_flow.proofs.AnyBelow.{any_below-place, any_below-false}
+use Rattle.md_flow.proofs.Touching.{over-touching, untouched}
 use Rattle.md_expost.specs.declared.masses.Masses.{Masses}
 use Rattle.md_expost.specs.Masses.{AreMasses, rank_count, counts_in, cap_at, mass_in, mass_at}
 use Rattle.md_expost.specs.Implementing.{Implements}
@@ -64,7 +65,7 @@ masses-of_flow a interim net y fits h same long meets = record {
   whole = long ∙ ap₂ (λ m k. m * k) nodes kinds;
   nonneg = λ rank v b l. subst (λ z. pos 0 ≤ℤ z) (amount-of a interim net y.rows rank v h) (meets.part.nonneg rank v (node rank b) (demand v l));
   absent = λ rank v b l none. sym (amount-of a interim net y.rows rank v h)
-      ∙ meets.part.untouched rank v (node rank b) (demand v l) (h.touches rank v b l ∙ ap (nat_lt 0) none);
+      ∙ untouched net (amount_in net y.rows) rank v meets.part (node rank b) (demand v l) (h.rooms rank v (node rank b) (demand v l) ∙ ap (λ n. if nat_lt 0 n then cap_of net rank else pos 0) none);
   over = λ rank b.
       subst (λ z. z ≤ℤ cap_at a y.den rank)
       (ap (λ k. sum_to k (amount_in net y.rows rank)) kinds ∙ sum_to-same (value_count a) _ (mass_at a y rank) (λ v l. amount-of a interim net y.rows rank v h))
@@ -156,33 +157,26 @@ touched a rank set z b =
 
 -- the caps of the nodes that touch a set are the right side of the set
 caps-touched : (a : SymmetricAuction) (interim : Interim) (net : Network) (set : ℕ) → IsNetOf a interim net
-    → sum_to (node_count net) (λ u. if touches_some net (member set) u then cap_of net u else pos 0) ≡ interim.den *ℤ right_of a set
+    → sum_to (node_count net) (λ r. if any_below (demand_count net) (λ v. nat_lt 0 (slice_index (counts_in a r) v) && member set v) then cap_of net r else pos 0) ≡ interim.den *ℤ right_of a set
 caps-touched a interim net set h =
-    ap (λ n. sum_to n (λ u. if touches_some net (member set) u then cap_of net u else pos 0)) (nodes-of a interim net h)
-    ∙ sum_to-same (rank_count a) _ (λ r. interim.den *ℤ (pos (weight_of_counts a.weights a.bidders (counts_in a r)) *ℤ pos (min 1 (sum_in set (counts_in a r))))) (λ r b. at r b)
-    ∙ sum_to-*ℤ (rank_count a) interim.den (λ r. pos (weight_of_counts a.weights a.bidders (counts_in a r)) *ℤ pos (min 1 (sum_in set (counts_in a r))))
+    ap₂ (λ n k. sum_to n (λ r. if any_below k (λ v. nat_lt 0 (slice_index (counts_in a r) v) && member set v) then cap_of net r else pos 0)) (nodes-of a interim net h) (demands-of a interim net h)
+    ∙ sum_to-same (rank_count a) _ (λ r. interim.den *ℤ side r) (λ r b.
+    ap (λ z. if any_below (value_count a) (λ v. nat_lt 0 (slice_index (counts_in a r) v) && member set v) then z else pos 0) (cap-of a interim net r h b)
+    ∙ touched a r set (cap_at a interim.den r) b
+    ∙ *ℤ_assoc interim.den (pos (weight_of_counts a.weights a.bidders (counts_in a r))) (pos (min 1 (sum_in set (counts_in a r)))))
+    ∙ sum_to-*ℤ (rank_count a) interim.den side
     ∙ ap (λ z. interim.den *ℤ z)
     (sym (total_by-count_lists a.bidders (value_count a) (λ counts. pos (weight_of_counts a.weights a.bidders counts) *ℤ pos (min 1 (sum_in set counts))))
     ∙ sym (right_of-counts a set))
   where
-    same : (n : ℕ) (f g : ℕ → Bool) → ((v : ℕ) → v < n → f v ≡ g v) → any_below n f ≡ any_below n g
-    same zero f g e = refl
-    same (suc n) f g e = ap₂ (λ s t. s || t) (same n f g (λ v l. e v (omega arith))) (e n (omega arith))
-
-    at : (r : ℕ) → r < rank_count a → (if touches_some net (member set) r then cap_of net r else pos 0)
-        ≡ interim.den *ℤ (pos (weight_of_counts a.weights a.bidders (counts_in a r)) *ℤ pos (min 1 (sum_in set (counts_in a r))))
-    at r b =
-        ap₂ (λ (s : Bool) (z : ℤ). if s then z else pos 0)
-        (ap (λ k. any_below k (λ v. touches net r v && member set v)) (demands-of a interim net h)
-        ∙ same (value_count a) _ _ (λ v l. ap (λ t. t && member set v) (h.touches r v b l)))
-        (cap-of a interim net r h b)
-        ∙ touched a r set (cap_at a interim.den r) b
-        ∙ *ℤ_assoc interim.den (pos (weight_of_counts a.weights a.bidders (counts_in a r))) (pos (min 1 (sum_in set (counts_in a r))))
+    side : ℕ → ℤ
+    side r = pos (weight_of_counts a.weights a.bidders (counts_in a r)) *ℤ pos (min 1 (sum_in set (counts_in a r)))
 
 -- what a set is over by in the net is its excess
 pub over-excess : (a : SymmetricAuction) (interim : Interim) (net : Network) (set : ℕ) → IsNetOf a interim net → over net (member set) ≡ excess_of a interim set
 over-excess a interim net set h =
-    ap₂ (λ x y. x -ℤ y)
+    over-touching net (λ r v. nat_lt 0 (slice_index (counts_in a r) v)) (member set) h.nonneg h.rooms
+    ∙ ap₂ (λ x y. x -ℤ y)
     (ap (λ k. sum_to k (λ v. if member set v then want_of net v else pos 0)) (demands-of a interim net h)
     ∙ sum_to-same (value_count a) _ _ (λ v l. ap (λ z. if member set v then z else pos 0) (want-of a interim net v h l)))
     (caps-touched a interim net set h)

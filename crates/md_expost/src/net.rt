@@ -79,7 +79,6 @@ fn touches(alloc: Global, auction: &Auction, counts: &Counts) -> Result<Sets, No
     requires bidders { counts.now.bidders ≡ auction.now.bidders }
     requires kinds { counts.now.kinds ≡ value_count auction.now }
     ensures count { IfOk result (λ sets. length sets ≡ rank_count auction.now) }
-    ensures below { IfOk result (λ sets. (rank : ℕ) → rank < length sets → slice_index sets rank < 2 ^ value_count auction.now) }
     ensures members { IfOk result (λ sets. (rank v : ℕ) → rank < length sets → v < value_count auction.now → member (slice_index sets rank) v ≡ nat_lt 0 (slice_index (counts_in auction.now rank) v)) }
 {
     let mut sets = Sets::new(alloc);
@@ -94,8 +93,7 @@ fn kinds_at(auction: &Auction, counts: &Counts, rank: u32) -> u32
     requires bidders { counts.now.bidders ≡ auction.now.bidders }
     requires kinds { counts.now.kinds ≡ value_count auction.now }
     requires rank_in { rank < rank_count auction.now }
-    ensures below { result < 2 ^ value_count auction.now }
-    ensures members { (v : ℕ) → v < value_count auction.now → member result v ≡ nat_lt 0 (slice_index (counts_in auction.now rank) v) }
+    ensures { (v : ℕ) → v < value_count auction.now → member result v ≡ nat_lt 0 (slice_index (counts_in auction.now rank) v) }
 {
     let mut set = 0;
     for kind in 0..auction.kinds() {

@@ -1,4 +1,5 @@
 pub mod AnyBelow
+pub mod Touching
 pub mod SetLaws
 pub mod Worst
 pub mod Listed
@@ -7,9 +8,9 @@ pub mod Rows
 pub mod Bottlenecks
 pub mod SearchLaws
 pub mod LabelLaws
+pub mod StepLaws
 pub mod Potential
 pub mod Changes
 pub mod Cells
 pub mod PathLaws
 pub mod NetLaws
-pub mod SmallLists

@@ -11,7 +11,7 @@ use Rattle.md_flow.specs.Flows.{given_by, got_by, carried, IsPartFlow, Meets, am
 pub IsPartFlow-same : (net : Network) (x y : ℕ → ℕ → ℤ) → IsPartFlow net x → ((u d : ℕ) → u < node_count net → d < demand_count net → y u d ≡ x u d) → IsPartFlow net y
 IsPartFlow-same net x y h e = record {
   nonneg = λ u d b c. rw (e u d b c) (h.nonneg u d b c);
-  untouched = λ u d b c t. e u d b c ∙ h.untouched u d b c t;
+  rooms = λ u d b c. rw (e u d b c) (h.rooms u d b c);
   caps = λ u b. (let rows : given_by (demand_count net) y u ≡ given_by (demand_count net) x u = sum_to-same (demand_count net) _ _ (λ d c. e u d b c) in rw rows (h.caps u b));
   wants = λ d c. (let columns : got_by (node_count net) y d ≡ got_by (node_count net) x d = sum_to-same (node_count net) _ _ (λ u b. e u d b c) in rw columns (h.wants d c));
 }
@@ -36,7 +36,7 @@ listed-length net n m amounts e f h = h ∙ ap (λ k. k * m) e ∙ ap (λ k. nod
 pub IsPartFlow-zero : (net : Network) (x : ℕ → ℕ → ℤ) → IsNet net → ((u d : ℕ) → x u d ≡ pos 0) → IsPartFlow net x
 IsPartFlow-zero net x valid z = record {
   nonneg = λ u d b c. (let e = z u d in omega (arith, linear, e));
-  untouched = λ u d b c t. z u d;
+  rooms = λ u d b c. rw (z u d) (valid.rooms u d b c);
   caps = λ u b. (let e : given_by (demand_count net) x u ≡ pos 0 = sum_to-zero (demand_count net) _ (λ d c. z u d) in let least = valid.caps u b in omega (arith, linear, e, least));
   wants = λ d b. (let e : got_by (node_count net) x d ≡ pos 0 = sum_to-zero (node_count net) _ (λ u c. z u d) in let least = valid.wants d b in omega (arith, linear, e, least));
 }

@@ -1,11 +1,12 @@
 -- What a path changes: the sums of nodes and demands, and single amounts.
-use Rattle.std.proofs.Common.{◌≡◌, ℕ, suc, ◌+◌, ◌<◌, ◌≤◌, ℤ, pos, ◌+ℤ◌, ◌-ℤ◌, ◌≤ℤ◌, inl, inr, Bool, true, false, ◌&&◌, ◌==◌, if◌then◌else◌, refl, sym, ◌∙◌, arith, eqb-true, eq-eqb, ne_eqb}
+use Rattle.std.proofs.Common.{◌≡◌, ℕ, zero, suc, ◌+◌, ◌<◌, ◌≤◌, ℤ, pos, ◌+ℤ◌, ◌-ℤ◌, ◌≤ℤ◌, inl, inr, Bool, true, false, ◌&&◌, ◌==◌, if◌then◌else◌, refl, sym, ◌∙◌, arith, eqb-true, eq-eqb, ne_eqb}
 use Rattle.std.proofs.lemmas.Bool.{cases_eq}
+use Rattle.std.proofs.lemmas.Int.{ints}
 use Rattle.md_math.proofs.Ring.{linear}
-use Rattle.md_math.proofs.SumLaws.{sum_to-same, sum_to-+ℤ, sum_to-zero, sum_to-swap, sum_to-sub, sum_to-at, sum_to-nonneg, sum_to-at_least, sum_to-front}
+use Rattle.md_math.proofs.SumLaws.{sum_to-same, sum_to-le, sum_to-+ℤ, sum_to-zero, sum_to-swap, sum_to-sub, sum_to-at, sum_to-nonneg, sum_to-at_least, sum_to-front}
 use Rattle.md_math.specs.Sums.{sum_to}
-use Rattle.md_math.proofs.BoundedTests.{and-left, and-right, and-both}
-use Rattle.md_math.proofs.Order.{chosen}
+use Rattle.md_math.proofs.BoundedTests.{and-left, and-right, and-both, search_below}
+use Rattle.md_math.proofs.Order.{chosen, chosen-nonneg}
 use Rattle.md_flow.specs.Flows.{given_by, got_by}
 use Rattle.md_flow.specs.Paths.{amount_at_pairs, IsShifted}
 
@@ -106,3 +107,36 @@ pairs-here n nodes demands amount j b h =
     at : (t : Bool) → pos 0 ≤ℤ (if t then amount else pos 0)
     at true = h
     at false = omega (arith, linear)
+
+-- where a node stands once at most, no more than the amount is added
+pub pairs-most : (n k : ℕ) (nodes demands : ℕ → ℕ) (amount : ℤ) (u d : ℕ) → k < n → pos 0 ≤ℤ amount → ((j : ℕ) → j < n → nodes j ≡ u → j ≡ k) → amount_at_pairs n nodes demands amount u d ≤ℤ amount
+pairs-most n k nodes demands amount u d b h once =
+    let most = sum_to-le n (λ j. if nodes j == u && demands j == d then amount else pos 0) (λ j. if j == k then amount else pos 0) (λ j c. at j c (nodes j == u && demands j == d) refl) in
+    omega (arith, linear, most, sum_to-at n k (λ _. amount) b)
+  where
+    at : (j : ℕ) → j < n → (t : Bool) → (nodes j == u && demands j == d) ≡ t → (if t then amount else pos 0) ≤ℤ (if j == k then amount else pos 0)
+    at j c true e =
+        let same : j ≡ k = once j c (eqb-true (nodes j) u (and-left (nodes j == u) (demands j == d) e)) in
+        let here : (if j == k then amount else pos 0) ≡ amount = chosen (j == k) amount (pos 0) (eq-eqb j k same) in
+        omega (arith, linear, here)
+    at j c false e = chosen-nonneg (j == k) amount h
+
+pub ones : (n : ℕ) → sum_to n (λ _. pos 1) ≡ pos n
+ones zero = refl
+ones (suc n) = omega (arith, ints, ones n)
+
+-- different numbers below a bound are no more than the bound
+pub places-few : (k n : ℕ) (f : ℕ → ℕ) → ((j : ℕ) → j < k → f j < n) → ((i j : ℕ) → i < k → j < k → f i ≡ f j → i ≡ j) → k ≤ n
+places-few k n f inside apart =
+    let all : sum_to n (λ u. amount_at_pairs k f (λ _. 0) (pos 1) u 0) ≡ sum_to k (λ _. pos 1) = pairs-got k n f (λ _. 0) (pos 1) 0 inside in
+    let each = sum_to-le n (λ u. amount_at_pairs k f (λ _. 0) (pos 1) u 0) (λ _. pos 1) (λ u b. once u) in
+    omega (arith, ints, all, each, ones k, ones n)
+  where
+    apart_from : (u j : ℕ) → f j ≡ u → (f j == u) ≡ false → ⊥
+    apart_from u j p e = (let s : (f j == u) ≡ true = eq-eqb (f j) u p in cc)
+
+    once : (u : ℕ) → amount_at_pairs k f (λ _. 0) (pos 1) u 0 ≤ℤ pos 1
+    once u = elim (search_below k (λ j. f j == u)) [
+      | inl w ↦ pairs-most k w.0 f (λ _. 0) (pos 1) u 0 w.1 (omega (arith, ints)) (λ j b e. apart j w.0 b w.1 (e ∙ sym (eqb-true (f w.0) u w.2)))
+      | inr none ↦ (let e = pairs-none k f (λ _. 0) (pos 1) u 0 (λ j b p _. apart_from u j p (none j b)) in omega (arith, ints, e))
+    ]

@@ -1,20 +1,20 @@
 -- What a search knows, and the path that it writes.
-use Rattle.std.proofs.Common.{◌≡◌, ◌≢◌, ℕ, zero, suc, ◌+◌, ◌-◌, ◌*◌, ◌<◌, ℤ, pos, ◌≤ℤ◌, ◌<ℤ◌, inl, inr, true, List, [], ◌∷◌, ◌++◌, length, length-append, set, length-set, get_or-set_same, get_or-set_other, unsigned_abs, Result, Ok, Err, OnOk, refl, sym, ap, ◌∙◌, subst, arith}
+use Rattle.std.proofs.Common.{◌≡◌, ◌≢◌, ℕ, zero, suc, ◌+◌, ◌-◌, ◌*◌, ◌<◌, ℤ, pos, ◌≤ℤ◌, ◌<ℤ◌, inl, inr, Result, Ok, Err, OnOk, List, [], ◌∷◌, ◌++◌, length, length-append, set, length-set, get_or-set_same, get_or-set_other, unsigned_abs, refl, sym, ap, ◌∙◌, subst, arith}
 use Rattle.std.proofs.lemmas.Bool.{cases_lt, cases_eq}
 use Rattle.std.proofs.lemmas.List.{get_or_append_left, get_or-append_right}
 use Rattle.std.proofs.lemmas.Int.{ints}
 use Rattle.md_math.specs.Lists.{number_at}
-use Rattle.md_flow.specs.Network.{Network, node_count, demand_count, touches}
-use Rattle.md_flow.specs.Labels.{room_at, lack_at, top_of, label_at, AreLinked, AllFull}
+use Rattle.md_flow.specs.Network.{Network, node_count, demand_count, room_of}
+use Rattle.md_flow.specs.Labels.{spare_at, lack_at, label_at, top_of, AreLinked, AllFull}
 use Rattle.md_flow.specs.Paths.{node_at, demand_at, last_of, IsTrail, IsLevelled}
-use Rattle.md_flow.specs.Search.{entry_at, IsEntry, AreEntries, AreKnown, EntersFrom}
+use Rattle.md_flow.specs.Search.{IsEntry, AreEntries, AreKnown, EntersFrom, entry_at}
 
 -- ---- one more entry
 
 pub record IsNewEntry (net : Network) (x : ℕ → ℕ → ℤ) (labels entries before' : List ℕ) (d node : ℕ) : Type 0 where
   pub inside : node < node_count net
-  pub touching : touches net node d ≡ true
-  pub first : label_at labels d ≡ 0 → pos 0 <ℤ room_at net x node
+  pub room : x node d <ℤ room_of net node d
+  pub first : label_at labels d ≡ 0 → pos 0 <ℤ spare_at net x node
   pub before_in : 0 < label_at labels d → entry_at before' d < demand_count net
   pub level : 0 < label_at labels d → label_at labels d ≡ label_at labels (entry_at before' d) + 1
   pub carrying : 0 < label_at labels d → pos 0 <ℤ x node (entry_at before' d)
@@ -41,7 +41,7 @@ AreEntries-enter net x labels entries before before' d node h b l same new = rec
     here =
         let is = entry-set_same net entries d node h.one_entry b in
         record {
-          touching = rw is new.touching;
+          room = rw is new.room;
           first = λ z. rw is (new.first z);
           inside = new.before_in;
           level = new.level;
@@ -55,7 +55,7 @@ AreEntries-enter net x labels entries before before' d node h b l same new = rec
         let back : entry_at before' e ≡ entry_at before e = same e apart in
         let old = h.at e c (subst (λ v. v < node_count net) is k) in
         record {
-          touching = rw is old.touching;
+          room = rw is old.room;
           first = λ z. rw is (old.first z);
           inside = λ p. rw back (old.inside p);
           level = λ p. rw back (old.level p);
@@ -63,12 +63,12 @@ AreEntries-enter net x labels entries before before' d node h b l same new = rec
           known = λ p. rw back (entry-kept net entries d node (entry_at before e) h.one_entry b new.inside (old.known p));
         }
 
-pub AreEntries-first : (net : Network) (x : ℕ → ℕ → ℤ) (labels entries before : List ℕ) (d node : ℕ) → AreEntries net x labels entries before → d < demand_count net → label_at labels d ≡ 0 → node < node_count net → touches net node d ≡ true → pos 0 <ℤ room_at net x node → AreEntries net x labels (set entries d node) before
-AreEntries-first net x labels entries before d node h b z inside touching room =
+pub AreEntries-first : (net : Network) (x : ℕ → ℕ → ℤ) (labels entries before : List ℕ) (d node : ℕ) → AreEntries net x labels entries before → d < demand_count net → label_at labels d ≡ 0 → node < node_count net → x node d <ℤ room_of net node d → pos 0 <ℤ spare_at net x node → AreEntries net x labels (set entries d node) before
+AreEntries-first net x labels entries before d node h b z inside room spare =
     AreEntries-enter net x labels entries before before d node h b refl (λ e _. refl) (record {
       inside = inside;
-      touching = touching;
-      first = λ _. room;
+      room = room;
+      first = λ _. spare;
       before_in = λ p. absurd (omega arith);
       level = λ p. absurd (omega arith);
       carrying = λ p. absurd (omega arith);
@@ -81,7 +81,7 @@ AreEntries-from net x labels entries entries' before before' other d h b c level
     rw f.entries_are
     (AreEntries-enter net x labels entries before before' d f.node h b (ap length f.before_is ∙ length-set before d other) (λ e apart. ap (λ v. entry_at v e) f.before_is ∙ get_or-set_other before d e other 0 apart) (record {
       inside = f.inside;
-      touching = f.touching;
+      room = f.room;
       first = λ z. absurd (omega arith);
       before_in = λ _. rw is c;
       level = λ _. rw is level;
@@ -100,7 +100,7 @@ kept_from net x entries entries' before before' other d l b f e c k =
     omega (arith, is, entry-kept net entries d f.node e l b f.inside k)
 
 -- a linked demand with known demands before it is entered by a search of all nodes
-pub none_linked : (net : Network) (x : ℕ → ℕ → ℤ) (labels entries : List ℕ) (d : ℕ) → AreLinked net x labels → AreKnown net labels entries (label_at labels d) → d < demand_count net → 0 < label_at labels d → label_at labels d < top_of net → ((e : ℕ) → e < demand_count net → label_at labels d ≡ label_at labels e + 1 → entry_at entries e < node_count net → (u : ℕ) → u < node_count net → touches net u d ≡ true → x u e ≤ℤ pos 0) → ⊥
+pub none_linked : (net : Network) (x : ℕ → ℕ → ℤ) (labels entries : List ℕ) (d : ℕ) → AreLinked net x labels → AreKnown net labels entries (label_at labels d) → d < demand_count net → 0 < label_at labels d → label_at labels d < top_of net → ((e : ℕ) → e < demand_count net → label_at labels d ≡ label_at labels e + 1 → entry_at entries e < node_count net → (u : ℕ) → u < node_count net → x u d <ℤ room_of net u d → x u e ≤ℤ pos 0) → ⊥
 none_linked net x labels entries d linked known b p l none =
     let w = linked.linked d b l in
     elim w.3 [
@@ -110,7 +110,7 @@ none_linked net x labels entries d linked known b p l none =
           omega (arith, ints, v.2, none v.0 v.1 v.3 k w.0 w.1 w.2)
     ]
 
-pub none_first : (net : Network) (x : ℕ → ℕ → ℤ) (labels : List ℕ) (d : ℕ) → AreLinked net x labels → d < demand_count net → label_at labels d ≡ 0 → ((u : ℕ) → u < node_count net → touches net u d ≡ true → room_at net x u ≤ℤ pos 0) → ⊥
+pub none_first : (net : Network) (x : ℕ → ℕ → ℤ) (labels : List ℕ) (d : ℕ) → AreLinked net x labels → d < demand_count net → label_at labels d ≡ 0 → ((u : ℕ) → u < node_count net → x u d <ℤ room_of net u d → spare_at net x u ≤ℤ pos 0) → ⊥
 none_first net x labels d linked b z none =
     let w = linked.linked d b (omega arith) in
     elim w.3 [
@@ -126,10 +126,10 @@ pub record IsPart (net : Network) (x : ℕ → ℕ → ℤ) (labels : List ℕ) 
   pub numbers : (i : ℕ) → i < length path → pos 0 ≤ℤ number_at path i
   pub nodes_in : (j : ℕ) → j < k → node_at path j < node_count net
   pub demands_in : (j : ℕ) → j < k → demand_at path j < demand_count net
-  pub touching : (j : ℕ) → j < k → touches net (node_at path j) (demand_at path j) ≡ true
+  pub rooms : (j : ℕ) → j < k → x (node_at path j) (demand_at path j) <ℤ room_of net (node_at path j) (demand_at path j)
   pub levels : (j : ℕ) → j < k → label_at labels (demand_at path j) ≡ j
   pub carrying : (j : ℕ) → j + 1 < k → pos 0 <ℤ x (node_at path (j + 1)) (demand_at path j)
-  pub room : 0 < k → pos 0 <ℤ room_at net x (node_at path 0)
+  pub spare : 0 < k → pos 0 <ℤ spare_at net x (node_at path 0)
 
 pub IsPart-nil : (net : Network) (x : ℕ → ℕ → ℤ) (labels : List ℕ) → IsPart net x labels [] 0
 IsPart-nil net x labels = record {
@@ -137,10 +137,10 @@ IsPart-nil net x labels = record {
   numbers = λ i b. absurd (omega arith);
   nodes_in = λ j b. absurd (omega arith);
   demands_in = λ j b. absurd (omega arith);
-  touching = λ j b. absurd (omega arith);
+  rooms = λ j b. absurd (omega arith);
   levels = λ j b. absurd (omega arith);
   carrying = λ j b. absurd (omega arith);
-  room = λ b. absurd (omega arith);
+  spare = λ b. absurd (omega arith);
 }
 
 pair_node : (path : List ℤ) (k u d : ℕ) → length path ≡ 2 * k → node_at (path ++ pos u ∷ pos d ∷ []) k ≡ u
@@ -155,7 +155,7 @@ old_node path k u d j l b = ap unsigned_abs (get_or_append_left path (pos u ∷ 
 old_demand : (path : List ℤ) (k u d j : ℕ) → length path ≡ 2 * k → j < k → demand_at (path ++ pos u ∷ pos d ∷ []) j ≡ demand_at path j
 old_demand path k u d j l b = ap unsigned_abs (get_or_append_left path (pos u ∷ pos d ∷ []) (pos 0) (2 * j + 1) (omega arith))
 
-pub IsPart-more : (net : Network) (x : ℕ → ℕ → ℤ) (labels : List ℕ) (path : List ℤ) (k u d : ℕ) → IsPart net x labels path k → u < node_count net → d < demand_count net → touches net u d ≡ true → label_at labels d ≡ k → (k ≡ 0 → pos 0 <ℤ room_at net x u) → ((j : ℕ) → j + 1 ≡ k → pos 0 <ℤ x u (demand_at path j)) → IsPart net x labels (path ++ pos u ∷ pos d ∷ []) (k + 1)
+pub IsPart-more : (net : Network) (x : ℕ → ℕ → ℤ) (labels : List ℕ) (path : List ℤ) (k u d : ℕ) → IsPart net x labels path k → u < node_count net → d < demand_count net → x u d <ℤ room_of net u d → label_at labels d ≡ k → (k ≡ 0 → pos 0 <ℤ spare_at net x u) → ((j : ℕ) → j + 1 ≡ k → pos 0 <ℤ x u (demand_at path j)) → IsPart net x labels (path ++ pos u ∷ pos d ∷ []) (k + 1)
 IsPart-more net x labels path k u d h b c t level first later = record {
   whole = omega (arith, length-append path (pos u ∷ pos d ∷ []), h.whole);
   numbers = λ i p. elim (cases_lt i (length path)) [
@@ -164,10 +164,10 @@ IsPart-more net x labels path k u d h b c t level first later = record {
   ];
   nodes_in = λ j p. at j p (λ v e. v < node_count net) (λ l. rw (old_node path k u d j h.whole l) (h.nodes_in j l)) (λ e. rw (ap (node_at new) e ∙ pair_node path k u d h.whole) b);
   demands_in = λ j p. at j p (λ v e. v < node_count net) (λ l. rw (old_demand path k u d j h.whole l) (h.demands_in j l)) (λ e. rw (ap (demand_at new) e ∙ pair_demand path k u d h.whole) c);
-  touching = λ j p. at j p (λ v e. v < node_count net) (λ l. rw (old_node path k u d j h.whole l, old_demand path k u d j h.whole l) (h.touching j l)) (λ e. rw (ap (node_at new) e ∙ pair_node path k u d h.whole, ap (demand_at new) e ∙ pair_demand path k u d h.whole) t);
+  rooms = λ j p. at j p (λ v e. v < node_count net) (λ l. rw (old_node path k u d j h.whole l, old_demand path k u d j h.whole l) (h.rooms j l)) (λ e. rw (ap (node_at new) e ∙ pair_node path k u d h.whole, ap (demand_at new) e ∙ pair_demand path k u d h.whole) t);
   levels = λ j p. at j p (λ v e. v < node_count net) (λ l. rw (old_demand path k u d j h.whole l) (h.levels j l)) (λ e. rw (ap (demand_at new) e ∙ pair_demand path k u d h.whole) (level ∙ sym e));
   carrying = λ j p. rw (old_demand path k u d j h.whole (omega arith)) (at (j + 1) p (λ v e. v < node_count net) (λ l. rw (old_node path k u d (j + 1) h.whole l) (h.carrying j l)) (λ e. rw (ap (node_at new) e ∙ pair_node path k u d h.whole) (later j e)));
-  room = λ p. at 0 p (λ v e. v < node_count net) (λ l. rw (old_node path k u d 0 h.whole l) (h.room l)) (λ e. rw (ap (node_at new) e ∙ pair_node path k u d h.whole) (first (sym e)));
+  spare = λ p. at 0 p (λ v e. v < node_count net) (λ l. rw (old_node path k u d 0 h.whole l) (h.spare l)) (λ e. rw (ap (node_at new) e ∙ pair_node path k u d h.whole) (first (sym e)));
 }
   where
     new : List ℤ
@@ -187,10 +187,10 @@ IsTrail-part net x labels path end h e = record {
   numbers = h.numbers;
   nodes_in = λ j l. h.nodes_in j (omega arith);
   demands_in = λ j l. h.demands_in j (omega arith);
-  touching = λ j l. h.touching j (omega arith);
+  rooms = λ j l. h.rooms j (omega arith);
   levels = λ j l. h.levels j (omega arith);
   carrying = λ j l. h.carrying j (omega arith);
-  room = h.room (omega arith);
+  spare = h.spare (omega arith);
   last = e;
 }
 
@@ -200,16 +200,16 @@ IsPart-trail net x labels path end h = record {
   numbers = h.numbers;
   nodes_in = λ j l. h.nodes_in j (omega arith);
   demands_in = λ j l. h.demands_in j (omega arith);
-  touching = λ j l. h.touching j (omega arith);
+  rooms = λ j l. h.rooms j (omega arith);
   levels = λ j l. h.levels j (omega arith);
   carrying = λ j l. h.carrying j (omega arith);
-  room = λ _. h.room;
+  spare = λ _. h.spare;
 }
 
 pub IsTrail-first : (net : Network) (x : ℕ → ℕ → ℤ) (labels entries before : List ℕ) (path new : List ℤ) (d : ℕ) → AreEntries net x labels entries before → d < demand_count net → entry_at entries d < node_count net → label_at labels d ≡ 0 → path ≡ [] → new ≡ path ++ pos (entry_at entries d) ∷ pos d ∷ [] → IsTrail net x labels new d
 IsTrail-first net x labels entries before path new d h b k z empty is =
     let entry = h.at d b k in
-    let part = IsPart-more net x labels [] 0 (entry_at entries d) d (IsPart-nil net x labels) k b entry.touching z (λ _. entry.first z) (λ j e. absurd (omega arith)) in
+    let part = IsPart-more net x labels [] 0 (entry_at entries d) d (IsPart-nil net x labels) k b entry.room z (λ _. entry.first z) (λ j e. absurd (omega arith)) in
     let same : new ≡ [] ++ pos (entry_at entries d) ∷ pos d ∷ [] = is ∙ ap (λ v. v ++ pos (entry_at entries d) ∷ pos d ∷ []) empty in
     rw same (IsTrail-part net x labels ([] ++ pos (entry_at entries d) ∷ pos d ∷ []) d (rw z part) (rw z (pair_demand [] 0 (entry_at entries d) d refl)))
 
@@ -219,7 +219,7 @@ IsTrail-more net x labels entries before path new d h b k p trail is =
     let level : label_at labels d ≡ label_at labels (entry_at before d) + 1 = entry.level p in
     let old : IsPart net x labels path (label_at labels d) = rw level (IsPart-trail net x labels path (entry_at before d) trail) in
     let carry : (j : ℕ) → j + 1 ≡ label_at labels d → pos 0 <ℤ x (entry_at entries d) (demand_at path j) = λ j e. (let same : label_at labels (entry_at before d) ≡ j = omega arith in let last : demand_at path j ≡ entry_at before d = ap (demand_at path) (sym same) ∙ trail.last in rw last (entry.carrying p)) in
-    let part = IsPart-more net x labels path (label_at labels d) (entry_at entries d) d old k b entry.touching refl (λ z. absurd (omega arith)) carry in
+    let part = IsPart-more net x labels path (label_at labels d) (entry_at entries d) d old k b entry.room refl (λ z. absurd (omega arith)) carry in
     rw is (IsTrail-part net x labels (path ++ pos (entry_at entries d) ∷ pos d ∷ []) d part (pair_demand path (label_at labels d) (entry_at entries d) d old.whole))
 
 pub IsLevelled-trail : (net : Network) (x : ℕ → ℕ → ℤ) (labels : List ℕ) (path : List ℤ) (end : ℕ) → IsTrail net x labels path end → pos 0 <ℤ lack_at net x end → IsLevelled net x labels path
@@ -230,16 +230,12 @@ IsLevelled-trail net x labels path end h lack =
       numbers = h.numbers;
       nodes_in = λ j l. h.nodes_in j (omega arith);
       demands_in = λ j l. h.demands_in j (omega arith);
-      touching = λ j l. h.touching j (omega arith);
+      rooms = λ j l. h.rooms j (omega arith);
       levels = λ j l. h.levels j (omega arith);
       carrying = λ j l. h.carrying j (omega arith);
-      room = h.room;
+      spare = h.spare;
       lacking = rw (last, h.last) lack;
     }
-
-pub OnOk-map : {P Q : Type 0} {T E : Type 0} → (r : Result T E) → (P → Q) → OnOk r P → OnOk r Q
-OnOk-map (Ok v) f p = f p
-OnOk-map (Err e) f p = tt
 
 -- ---- a search of all nodes that ends with no path
 
@@ -253,3 +249,7 @@ AreEntries-none net x labels entries before l m none = record { one_entry = l; o
 
 pub AreKnown-none : (net : Network) (labels entries : List ℕ) → AreKnown net labels entries 0
 AreKnown-none net labels entries = record { known = λ d b l. absurd (omega arith) }
+
+pub OnOk-map : {P Q : Type 0} {T E : Type 0} → (r : Result T E) → (P → Q) → OnOk r P → OnOk r Q
+OnOk-map (Ok v) f p = f p
+OnOk-map (Err e) f p = tt

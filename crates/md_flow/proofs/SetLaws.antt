@@ -1,53 +1,51 @@
--- What a part flow says of any set of demands.
-use Rattle.std.proofs.Common.{◌≡◌, ℕ, ◌<◌, ℤ, pos, ◌+ℤ◌, ◌-ℤ◌, ◌≤ℤ◌, Bool, true, false, ◌&&◌, if◌then◌else◌, refl, sym, ap, ◌∙◌, arith}
+-- What a part flow says of any set of demands, where some nodes are charged with their rooms for the set, and the others with their caps.
+use Rattle.std.proofs.Common.{◌≡◌, ℕ, ◌<◌, ℤ, pos, ◌+ℤ◌, ◌-ℤ◌, ◌≤ℤ◌, Bool, true, false, int_lt, if◌then◌else◌, refl, sym, ap, ◌∙◌, arith}
+use Rattle.std.specs.Int.{int_min}
+use Rattle.std.proofs.lemmas.Int.{ints, clamps}
 use Rattle.md_math.proofs.Ring.{linear}
-use Rattle.md_math.proofs.SumLaws.{sum_to-same, sum_to-+ℤ, sum_to-zero, sum_to-swap, sum_to-nonneg, sum_to-all_zero, sum_to-by_test, sum_to-if}
+use Rattle.md_math.proofs.SumLaws.{sum_to-same, sum_to-le, sum_to-+ℤ, sum_to-swap, sum_to-nonneg, sum_to-all_zero, sum_to-by_test, sum_to-if}
 use Rattle.md_math.specs.Sums.{sum_to}
 use Rattle.md_math.proofs.Order.{chosen-nonneg, unchosen-nonneg}
-use Rattle.md_flow.proofs.AnyBelow.{any_below-false}
-use Rattle.md_flow.specs.Network.{Network, node_count, demand_count, cap_of, want_of, touches, want_sum}
+use Rattle.md_flow.specs.Network.{Network, node_count, demand_count, cap_of, want_of, room_of, want_sum}
 use Rattle.md_flow.specs.Flows.{given_by, got_by, carried, IsPartFlow}
-use Rattle.md_flow.specs.Over.{touches_some, over}
-use Rattle.md_flow.specs.Labels.{room_at, lack_at}
+use Rattle.md_flow.specs.Over.{open_at, over}
+use Rattle.md_flow.specs.Labels.{spare_at, lack_at}
 
--- what a node gives to the demands of a set, and to the others
+-- what a node gives to the demands of a set, what it gives to the others, and the room that it has left for the set
 abbrev inside : Network → (ℕ → ℕ → ℤ) → (ℕ → Bool) → ℕ → ℤ
 inside net x set u = sum_to (demand_count net) (λ d. if set d then x u d else pos 0)
 
-abbrev outside : Network → (ℕ → ℕ → ℤ) → (ℕ → Bool) → ℕ → ℤ
+abbrev pub outside : Network → (ℕ → ℕ → ℤ) → (ℕ → Bool) → ℕ → ℤ
 outside net x set u = sum_to (demand_count net) (λ d. if set d then pos 0 else x u d)
 
--- what the demands outside lack, the room of the nodes that touch the set, and what these give outside
+abbrev pub unused : Network → (ℕ → ℕ → ℤ) → (ℕ → Bool) → ℕ → ℤ
+unused net x set u = sum_to (demand_count net) (λ d. if set d then room_of net u d -ℤ x u d else pos 0)
+
+-- by how much a set is over what is charged
+abbrev pub over_with : Network → (ℕ → Bool) → (ℕ → Bool) → ℤ
+over_with net set rooms =
+    sum_to (demand_count net) (λ d. if set d then want_of net d else pos 0)
+    -ℤ sum_to (node_count net) (λ u. if rooms u then open_at net set u else cap_of net u)
+
+-- what the demands outside lack, and what is charged but does not go to the set
 abbrev pub lack_outside : Network → (ℕ → ℕ → ℤ) → (ℕ → Bool) → ℤ
 lack_outside net x set = sum_to (demand_count net) (λ d. if set d then pos 0 else lack_at net x d)
 
-abbrev pub room_inside : Network → (ℕ → ℕ → ℤ) → (ℕ → Bool) → ℤ
-room_inside net x set = sum_to (node_count net) (λ u. if touches_some net set u then room_at net x u else pos 0)
+abbrev pub slack : Network → (ℕ → ℕ → ℤ) → (ℕ → Bool) → (ℕ → Bool) → ℤ
+slack net x set rooms = sum_to (node_count net) (λ u. if rooms u then unused net x set u else spare_at net x u +ℤ outside net x set u)
 
-abbrev pub given_outside : Network → (ℕ → ℕ → ℤ) → (ℕ → Bool) → ℤ
-given_outside net x set = sum_to (node_count net) (λ u. if touches_some net set u then outside net x set u else pos 0)
+-- ---- all demands in parts
 
--- a node that does not touch the set gives nothing inside
-inside-zero : (net : Network) (x : ℕ → ℕ → ℤ) (set : ℕ → Bool) (u : ℕ) → IsPartFlow net x → u < node_count net → touches_some net set u ≡ false → inside net x set u ≡ pos 0
-inside-zero net x set u part b none = sum_to-zero (demand_count net) _ (λ d c. at d c (set d) refl)
+-- what is charged to a node, in two parts
+charge_parts : (net : Network) (x : ℕ → ℕ → ℤ) (set : ℕ → Bool) (u : ℕ) (t : Bool) → (if t then open_at net set u else cap_of net u) ≡ inside net x set u +ℤ (if t then unused net x set u else spare_at net x u +ℤ outside net x set u)
+charge_parts net x set u true =
+    sum_to-same (demand_count net) _ _ (λ d c. at (set d) d)
+    ∙ sum_to-+ℤ (demand_count net) (λ d. if set d then x u d else pos 0) (λ d. if set d then room_of net u d -ℤ x u d else pos 0)
   where
-    free : (a t : Bool) → (a && t) ≡ false → t ≡ true → a ≡ false
-    free true true h e = cc
-    free true false h e = cc
-    free false t h e = refl
-
-    at : (d : ℕ) → d < demand_count net → (t : Bool) → set d ≡ t → (if t then x u d else pos 0) ≡ pos 0
-    at d c true e = part.untouched u d b c (free (touches net u d) (set d) (any_below-false (demand_count net) (λ k. touches net u k && set k) none d c) e)
-    at d c false e = refl
-
--- the cap of a node that touches the set, in three parts
-cap_parts : (net : Network) (x : ℕ → ℕ → ℤ) (set : ℕ → Bool) (u : ℕ) → IsPartFlow net x → u < node_count net →
-    (if touches_some net set u then cap_of net u else pos 0) ≡ inside net x set u +ℤ ((if touches_some net set u then room_at net x u else pos 0) +ℤ (if touches_some net set u then outside net x set u else pos 0))
-cap_parts net x set u part b = at (touches_some net set u) refl
-  where
-    at : (t : Bool) → touches_some net set u ≡ t → (if t then cap_of net u else pos 0) ≡ inside net x set u +ℤ ((if t then room_at net x u else pos 0) +ℤ (if t then outside net x set u else pos 0))
-    at true e = omega (arith, linear, sum_to-by_test (demand_count net) set (λ d. x u d))
-    at false e = omega (arith, linear, inside-zero net x set u part b e)
+    at : (t : Bool) (d : ℕ) → (if t then room_of net u d else pos 0) ≡ (if t then x u d else pos 0) +ℤ (if t then room_of net u d -ℤ x u d else pos 0)
+    at true d = omega (arith, linear)
+    at false d = omega (arith, linear)
+charge_parts net x set u false = omega (arith, linear, sum_to-by_test (demand_count net) set (λ d. x u d))
 
 -- what the demands of a set get is what the nodes give inside
 got_inside : (net : Network) (x : ℕ → ℕ → ℤ) (set : ℕ → Bool) → sum_to (demand_count net) (λ d. if set d then got_by (node_count net) x d else pos 0) ≡ sum_to (node_count net) (λ u. inside net x set u)
@@ -65,76 +63,101 @@ want_parts net x set =
     at true d = omega (arith, linear)
     at false d = omega (arith, linear)
 
--- all demands are what the set is over by, what is carried, and three parts that are not negative
-pub want_sum-parts : (net : Network) (x : ℕ → ℕ → ℤ) (set : ℕ → Bool) → IsPartFlow net x →
-    want_sum net ≡ over net set +ℤ (carried net x +ℤ (lack_outside net x set +ℤ (room_inside net x set +ℤ given_outside net x set)))
-want_sum-parts net x set part =
-    let caps : sum_to (node_count net) (λ u. if touches_some net set u then cap_of net u else pos 0) ≡ sum_to (node_count net) (λ u. inside net x set u) +ℤ (room_inside net x set +ℤ given_outside net x set) =
-    sum_to-same (node_count net) _ _ (λ u b. cap_parts net x set u part b)
-    ∙ sum_to-+ℤ (node_count net) (λ u. inside net x set u) (λ u. (if touches_some net set u then room_at net x u else pos 0) +ℤ (if touches_some net set u then outside net x set u else pos 0))
-    ∙ ap (λ z. sum_to (node_count net) (λ u. inside net x set u) +ℤ z) (sum_to-+ℤ (node_count net) (λ u. if touches_some net set u then room_at net x u else pos 0) (λ u. if touches_some net set u then outside net x set u else pos 0)) in
+-- all demands are what the set is over by, what is carried, and two parts that are not negative
+pub want_sum-parts : (net : Network) (x : ℕ → ℕ → ℤ) (set rooms : ℕ → Bool) → want_sum net ≡ over_with net set rooms +ℤ (carried net x +ℤ (lack_outside net x set +ℤ slack net x set rooms))
+want_sum-parts net x set rooms =
+    let charges : sum_to (node_count net) (λ u. if rooms u then open_at net set u else cap_of net u) ≡ sum_to (node_count net) (λ u. inside net x set u) +ℤ slack net x set rooms =
+    sum_to-same (node_count net) _ _ (λ u b. charge_parts net x set u (rooms u))
+    ∙ sum_to-+ℤ (node_count net) (λ u. inside net x set u) (λ u. if rooms u then unused net x set u else spare_at net x u +ℤ outside net x set u) in
     let wants = sum_to-by_test (demand_count net) set (want_of net) in
     let gots = sum_to-by_test (demand_count net) set (λ d. got_by (node_count net) x d) in
     let all : carried net x ≡ sum_to (demand_count net) (λ d. got_by (node_count net) x d) = sum_to-swap (node_count net) (demand_count net) x in
-    omega (arith, linear, caps, wants, gots, all, want_parts net x set, got_inside net x set)
+    omega (arith, linear, charges, wants, gots, all, want_parts net x set, got_inside net x set)
 
--- ---- the three parts are not negative
+-- ---- the two parts are not negative
 
-pub room-nonneg : (net : Network) (x : ℕ → ℕ → ℤ) (u : ℕ) → IsPartFlow net x → u < node_count net → pos 0 ≤ℤ room_at net x u
-room-nonneg net x u part b = (let h : given_by (demand_count net) x u ≤ℤ cap_of net u = part.caps u b in omega (arith, linear))
+pub spare-nonneg : (net : Network) (x : ℕ → ℕ → ℤ) (u : ℕ) → IsPartFlow net x → u < node_count net → pos 0 ≤ℤ spare_at net x u
+spare-nonneg net x u part b = (let h : given_by (demand_count net) x u ≤ℤ cap_of net u = part.caps u b in omega (arith, linear))
 
 pub lack-nonneg : (net : Network) (x : ℕ → ℕ → ℤ) (d : ℕ) → IsPartFlow net x → d < demand_count net → pos 0 ≤ℤ lack_at net x d
 lack-nonneg net x d part b = (let h : got_by (node_count net) x d ≤ℤ want_of net d = part.wants d b in omega (arith, linear))
 
-lack_terms : (net : Network) (x : ℕ → ℕ → ℤ) (set : ℕ → Bool) → IsPartFlow net x → (d : ℕ) → d < demand_count net → pos 0 ≤ℤ (if set d then pos 0 else lack_at net x d)
-lack_terms net x set part d b = unchosen-nonneg (set d) (lack_at net x d) (lack-nonneg net x d part b)
+outside_terms : (net : Network) (x : ℕ → ℕ → ℤ) (set : ℕ → Bool) (u : ℕ) → IsPartFlow net x → u < node_count net → (d : ℕ) → d < demand_count net → pos 0 ≤ℤ (if set d then pos 0 else x u d)
+outside_terms net x set u part b d c = unchosen-nonneg (set d) (x u d) (part.nonneg u d b c)
 
-room_terms : (net : Network) (x : ℕ → ℕ → ℤ) (set : ℕ → Bool) → IsPartFlow net x → (u : ℕ) → u < node_count net → pos 0 ≤ℤ (if touches_some net set u then room_at net x u else pos 0)
-room_terms net x set part u b = chosen-nonneg (touches_some net set u) (room_at net x u) (room-nonneg net x u part b)
+outside-nonneg : (net : Network) (x : ℕ → ℕ → ℤ) (set : ℕ → Bool) (u : ℕ) → IsPartFlow net x → u < node_count net → pos 0 ≤ℤ outside net x set u
+outside-nonneg net x set u part b = sum_to-nonneg (demand_count net) _ (outside_terms net x set u part b)
 
-outside_terms : (net : Network) (x : ℕ → ℕ → ℤ) (set : ℕ → Bool) → IsPartFlow net x → (u : ℕ) → u < node_count net → (d : ℕ) → d < demand_count net → pos 0 ≤ℤ (if set d then pos 0 else x u d)
-outside_terms net x set part u b d c = unchosen-nonneg (set d) (x u d) (part.nonneg u d b c)
+unused_terms : (net : Network) (x : ℕ → ℕ → ℤ) (set : ℕ → Bool) (u : ℕ) → IsPartFlow net x → u < node_count net → (d : ℕ) → d < demand_count net → pos 0 ≤ℤ (if set d then room_of net u d -ℤ x u d else pos 0)
+unused_terms net x set u part b d c = chosen-nonneg (set d) (room_of net u d -ℤ x u d) (let most = part.rooms u d b c in omega (arith, linear, most))
 
-given_terms : (net : Network) (x : ℕ → ℕ → ℤ) (set : ℕ → Bool) → IsPartFlow net x → (u : ℕ) → u < node_count net → pos 0 ≤ℤ (if touches_some net set u then outside net x set u else pos 0)
-given_terms net x set part u b = chosen-nonneg (touches_some net set u) (outside net x set u) (sum_to-nonneg (demand_count net) _ (λ d c. outside_terms net x set part u b d c))
+slack_terms : (net : Network) (x : ℕ → ℕ → ℤ) (set rooms : ℕ → Bool) → IsPartFlow net x → (u : ℕ) → u < node_count net → pos 0 ≤ℤ (if rooms u then unused net x set u else spare_at net x u +ℤ outside net x set u)
+slack_terms net x set rooms part u b = at (rooms u)
+  where
+    at : (t : Bool) → pos 0 ≤ℤ (if t then unused net x set u else spare_at net x u +ℤ outside net x set u)
+    at true = sum_to-nonneg (demand_count net) _ (unused_terms net x set u part b)
+    at false = omega (arith, linear, spare-nonneg net x u part b, outside-nonneg net x set u part b)
+
+pub slack-nonneg : (net : Network) (x : ℕ → ℕ → ℤ) (set rooms : ℕ → Bool) → IsPartFlow net x → pos 0 ≤ℤ slack net x set rooms
+slack-nonneg net x set rooms part = sum_to-nonneg (node_count net) _ (slack_terms net x set rooms part)
 
 pub lack_outside-nonneg : (net : Network) (x : ℕ → ℕ → ℤ) (set : ℕ → Bool) → IsPartFlow net x → pos 0 ≤ℤ lack_outside net x set
-lack_outside-nonneg net x set part = sum_to-nonneg (demand_count net) _ (lack_terms net x set part)
+lack_outside-nonneg net x set part = sum_to-nonneg (demand_count net) _ (λ d b. unchosen-nonneg (set d) (lack_at net x d) (lack-nonneg net x d part b))
 
-pub room_inside-nonneg : (net : Network) (x : ℕ → ℕ → ℤ) (set : ℕ → Bool) → IsPartFlow net x → pos 0 ≤ℤ room_inside net x set
-room_inside-nonneg net x set part = sum_to-nonneg (node_count net) _ (room_terms net x set part)
+-- ---- the least that may be charged
 
-pub given_outside-nonneg : (net : Network) (x : ℕ → ℕ → ℤ) (set : ℕ → Bool) → IsPartFlow net x → pos 0 ≤ℤ given_outside net x set
-given_outside-nonneg net x set part = sum_to-nonneg (node_count net) _ (given_terms net x set part)
+-- the nodes whose rooms for the set are less than their caps
+abbrev pub least_rooms : Network → (ℕ → Bool) → ℕ → Bool
+least_rooms net set u = int_lt (open_at net set u) (cap_of net u)
+
+pub over-least : (net : Network) (set : ℕ → Bool) → over net set ≡ over_with net set (least_rooms net set)
+over-least net set =
+    ap (λ z. sum_to (demand_count net) (λ d. if set d then want_of net d else pos 0) -ℤ z) (sum_to-same (node_count net) _ _ (λ u b. refl))
+
+pub over-most : (net : Network) (set rooms : ℕ → Bool) → over_with net set rooms ≤ℤ over net set
+over-most net set rooms =
+    let charges = sum_to-le (node_count net) (λ u. int_min (cap_of net u) (open_at net set u)) (λ u. if rooms u then open_at net set u else cap_of net u) (λ u b. at (rooms u) (cap_of net u) (open_at net set u)) in
+    omega (arith, linear, charges)
+  where
+    at : (t : Bool) (a b : ℤ) → int_min a b ≤ℤ (if t then b else a)
+    at true a b = omega (arith, ints, clamps)
+    at false a b = omega (arith, ints, clamps)
 
 -- no set is over by more than what is not carried
 pub over-le : (net : Network) (x : ℕ → ℕ → ℤ) (set : ℕ → Bool) → IsPartFlow net x → over net set ≤ℤ (want_sum net -ℤ carried net x)
-over-le net x set part = omega (arith, linear, want_sum-parts net x set part, lack_outside-nonneg net x set part, room_inside-nonneg net x set part, given_outside-nonneg net x set part)
+over-le net x set part = omega (arith, linear, over-least net set, want_sum-parts net x set (least_rooms net set), lack_outside-nonneg net x set part, slack-nonneg net x set (least_rooms net set) part)
 
 -- ---- a set that is over by all that is not carried
 
-pub record IsTight (net : Network) (x : ℕ → ℕ → ℤ) (set : ℕ → Bool) : Type 0 where
-  pub tight : over net set ≡ want_sum net -ℤ carried net x
+pub record IsTight (net : Network) (x : ℕ → ℕ → ℤ) (set rooms : ℕ → Bool) : Type 0 where
+  pub tight : over_with net set rooms ≡ want_sum net -ℤ carried net x
 
-no_room-sum : (net : Network) (x : ℕ → ℕ → ℤ) (set : ℕ → Bool) → IsPartFlow net x → IsTight net x set → (room_inside net x set ≤ℤ pos 0) × (given_outside net x set ≤ℤ pos 0)
-no_room-sum net x set part t =
-    let parts = want_sum-parts net x set part in
+no_slack : (net : Network) (x : ℕ → ℕ → ℤ) (set rooms : ℕ → Bool) → IsPartFlow net x → IsTight net x set rooms → (u : ℕ) → u < node_count net → (if rooms u then unused net x set u else spare_at net x u +ℤ outside net x set u) ≡ pos 0
+no_slack net x set rooms part t u b =
     let lacks = lack_outside-nonneg net x set part in
-    let rooms = room_inside-nonneg net x set part in
-    let gives = given_outside-nonneg net x set part in
     let e = t.tight in
-    (omega (arith, linear, parts, lacks, rooms, gives, e), omega (arith, linear, parts, lacks, rooms, gives, e))
+    let none : slack net x set rooms ≤ℤ pos 0 = omega (arith, linear, want_sum-parts net x set rooms, lacks, e) in
+    sum_to-all_zero (node_count net) u (λ v. if rooms v then unused net x set v else spare_at net x v +ℤ outside net x set v) b (slack_terms net x set rooms part) none
 
--- a node that touches it has no room
-pub no_room : (net : Network) (x : ℕ → ℕ → ℤ) (set : ℕ → Bool) → IsPartFlow net x → IsTight net x set → (u : ℕ) → u < node_count net → touches_some net set u ≡ true → room_at net x u ≡ pos 0
-no_room net x set part t u b e =
-    let z = sum_to-all_zero (node_count net) u (λ v. if touches_some net set v then room_at net x v else pos 0) b (room_terms net x set part) (no_room-sum net x set part t).0 in
-    rw e at z
+-- a node that is charged with its cap has nothing left of it
+pub no_spare : (net : Network) (x : ℕ → ℕ → ℤ) (set rooms : ℕ → Bool) → IsPartFlow net x → IsTight net x set rooms → (u : ℕ) → u < node_count net → rooms u ≡ false → spare_at net x u ≤ℤ pos 0
+no_spare net x set rooms part t u b e =
+    let z = rw e at (no_slack net x set rooms part t u b) in
+    omega (arith, linear, z, outside-nonneg net x set u part b)
 
 -- and gives nothing outside
-pub no_gift : (net : Network) (x : ℕ → ℕ → ℤ) (set : ℕ → Bool) → IsPartFlow net x → IsTight net x set → (u d : ℕ) → u < node_count net → d < demand_count net → touches_some net set u ≡ true → set d ≡ false → x u d ≡ pos 0
-no_gift net x set part t u d b c e f =
-    let z = sum_to-all_zero (node_count net) u (λ v. if touches_some net set v then outside net x set v else pos 0) b (given_terms net x set part) (no_room-sum net x set part t).1 in
-    let w : outside net x set u ≡ pos 0 = rw e at z in
-    let y = sum_to-all_zero (demand_count net) d (λ k. if set k then pos 0 else x u k) c (outside_terms net x set part u b) (omega (arith, linear, w)) in
+pub no_gift : (net : Network) (x : ℕ → ℕ → ℤ) (set rooms : ℕ → Bool) → IsPartFlow net x → IsTight net x set rooms → (u d : ℕ) → u < node_count net → d < demand_count net → rooms u ≡ false → set d ≡ false → x u d ≡ pos 0
+no_gift net x set rooms part t u d b c e f =
+    let z = rw e at (no_slack net x set rooms part t u b) in
+    let none : outside net x set u ≤ℤ pos 0 = omega (arith, linear, z, spare-nonneg net x u part b) in
+    let y = sum_to-all_zero (demand_count net) d (λ k. if set k then pos 0 else x u k) c (outside_terms net x set u part b) none in
     rw f at y
+
+-- a node that is charged with its rooms has none left for the set
+pub no_room : (net : Network) (x : ℕ → ℕ → ℤ) (set rooms : ℕ → Bool) → IsPartFlow net x → IsTight net x set rooms → (u d : ℕ) → u < node_count net → d < demand_count net → rooms u ≡ true → set d ≡ true → room_of net u d ≤ℤ x u d
+no_room net x set rooms part t u d b c e f =
+    let z = rw e at (no_slack net x set rooms part t u b) in
+    let none : unused net x set u ≤ℤ pos 0 = omega (arith, linear, z) in
+    let y = sum_to-all_zero (demand_count net) d (λ k. if set k then room_of net u k -ℤ x u k else pos 0) c (unused_terms net x set u part b) none in
+    let w : room_of net u d -ℤ x u d ≡ pos 0 = rw f at y in
+    omega (arith, linear, w)

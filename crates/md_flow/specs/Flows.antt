@@ -1,8 +1,8 @@
 -- What a flow through a net is: an amount for each node and demand.
-use Rattle.std.specs.Prelude.{ℕ, ◌+◌, ◌*◌, ◌<◌, ◌≡◌, ℤ, pos, ◌≤ℤ◌, false, List}
+use Rattle.std.specs.Prelude.{ℕ, ◌+◌, ◌*◌, ◌<◌, ◌≡◌, ℤ, pos, ◌≤ℤ◌, List}
 use Rattle.md_math.specs.Lists.{number_at}
 use Rattle.md_math.specs.Sums.{sum_to}
-use Rattle.md_flow.specs.Network.{Network, node_count, demand_count, cap_of, want_of, touches}
+use Rattle.md_flow.specs.Network.{Network, node_count, demand_count, cap_of, want_of, room_of}
 
 -- what a node gives to the first m demands
 abbrev pub given_by : ℕ → (ℕ → ℕ → ℤ) → ℕ → ℤ
@@ -16,10 +16,10 @@ got_by n x d = sum_to n (λ u. x u d)
 abbrev pub carried : Network → (ℕ → ℕ → ℤ) → ℤ
 carried net x = sum_to (node_count net) (λ u. given_by (demand_count net) x u)
 
--- amounts that are not negative, 0 where a node does not touch a demand, at each node at most its cap in sum, and at each demand at most the demand in sum
+-- amounts that are not negative, each at most the room of its pair, at each node at most its cap in sum, and at each demand at most the demand in sum
 pub record IsPartFlow (net : Network) (x : ℕ → ℕ → ℤ) : Type 0 where
   pub nonneg : (u d : ℕ) → u < node_count net → d < demand_count net → pos 0 ≤ℤ x u d
-  pub untouched : (u d : ℕ) → u < node_count net → d < demand_count net → touches net u d ≡ false → x u d ≡ pos 0
+  pub rooms : (u d : ℕ) → u < node_count net → d < demand_count net → x u d ≤ℤ room_of net u d
   pub caps : (u : ℕ) → u < node_count net → given_by (demand_count net) x u ≤ℤ cap_of net u
   pub wants : (d : ℕ) → d < demand_count net → got_by (node_count net) x d ≤ℤ want_of net d
 

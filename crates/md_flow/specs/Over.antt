@@ -1,29 +1,44 @@
--- By how much the demands of a set are over the caps of the nodes that touch it.
-use Rattle.std.specs.Prelude.{ℕ, zero, suc, ◌<◌, ◌≡◌, ℤ, pos, ◌-ℤ◌, ◌≤ℤ◌, ◌<ℤ◌, Bool, true, false, ◌||◌, ◌&&◌, if◌then◌else◌}
+-- By how much the demands of a set are over what the nodes can give to it.
+use Rattle.std.specs.Prelude.{ℕ, zero, suc, ◌<◌, ◌≡◌, ℤ, pos, ◌-ℤ◌, ◌≤ℤ◌, ◌<ℤ◌, Bool, true, false, ◌||◌, ◌&&◌, if◌then◌else◌, List, length, slice_index}
+use Rattle.std.specs.Int.{int_min}
+use Rattle.md_math.specs.Lists.{number_at}
+use Rattle.md_math.specs.Sets.{member}
 use Rattle.md_math.specs.Sums.{sum_to}
-use Rattle.md_flow.specs.Network.{Network, node_count, demand_count, cap_of, want_of, touches}
+use Rattle.md_flow.specs.Network.{Network, node_count, demand_count, cap_of, want_of, room_of}
+
+-- the sum of the rooms that a node has for the demands of a set
+abbrev pub open_at : Network → (ℕ → Bool) → ℕ → ℤ
+open_at net set u = sum_to (demand_count net) (λ d. if set d then room_of net u d else pos 0)
+
+-- the sum of the demands in a set, minus what each node can give to the set: its cap, or its rooms for the set where these are less
+abbrev pub over : Network → (ℕ → Bool) → ℤ
+over net set =
+    sum_to (demand_count net) (λ d. if set d then want_of net d else pos 0)
+    -ℤ sum_to (node_count net) (λ u. int_min (cap_of net u) (open_at net set u))
+
+-- no set is over what the nodes can give to it
+pub record NoneOver (net : Network) : Type 0 where
+  pub none : (set : ℕ → Bool) → over net set ≤ℤ pos 0
+
+-- the largest set that is over by most
+pub record IsWorst (net : Network) (set : ℕ → Bool) : Type 0 where
+  pub positive : pos 0 <ℤ over net set
+  pub greatest : (other : ℕ → Bool) → over net other ≤ℤ over net set
+  pub largest : (other : ℕ → Bool) → over net other ≡ over net set → (d : ℕ) → d < demand_count net → other d ≡ true → set d ≡ true
+
+-- ---- where each node touches a set of demands
 
 -- whether a test holds at some place below n
 abbrev pub any_below : ℕ → (ℕ → Bool) → Bool
 any_below zero test = false
 any_below (suc n) test = any_below n test || test n
 
--- whether a node touches some demand of a set
-abbrev pub touches_some : Network → (ℕ → Bool) → ℕ → Bool
-touches_some net set u = any_below (demand_count net) (λ d. touches net u d && set d)
+-- whether a node touches some of the first m demands in a set
+abbrev pub touches_some : ℕ → List ℕ → (ℕ → Bool) → ℕ → Bool
+touches_some m touches set u = any_below m (λ d. member (slice_index touches u) d && set d)
 
 -- the sum of the demands in a set, minus the sum of the caps of the nodes that touch it
-abbrev pub over : Network → (ℕ → Bool) → ℤ
-over net set =
-    sum_to (demand_count net) (λ d. if set d then want_of net d else pos 0)
-    -ℤ sum_to (node_count net) (λ u. if touches_some net set u then cap_of net u else pos 0)
-
--- no set is over its caps
-pub record NoneOver (net : Network) : Type 0 where
-  pub none : (set : ℕ → Bool) → over net set ≤ℤ pos 0
-
--- the largest set that is over its caps by most
-pub record IsWorst (net : Network) (set : ℕ → Bool) : Type 0 where
-  pub positive : pos 0 <ℤ over net set
-  pub greatest : (other : ℕ → Bool) → over net other ≤ℤ over net set
-  pub largest : (other : ℕ → Bool) → over net other ≡ over net set → (d : ℕ) → d < demand_count net → other d ≡ true → set d ≡ true
+abbrev pub over_touched : List ℤ → List ℤ → List ℕ → (ℕ → Bool) → ℤ
+over_touched caps wants touches set =
+    sum_to (length wants) (λ d. if set d then number_at wants d else pos 0)
+    -ℤ sum_to (length caps) (λ u. if touches_some (length wants) touches set u then number_at caps u else pos 0)

@@ -1,12 +1,12 @@
 //! Flows through a net: what each node gives to each demand.
-ghost use Rattle.std.specs.Prelude.{◌≡◌, ℕ, ◌+◌, ◌-◌, ◌*◌, ◌/◌, ◌^◌, ◌<◌, ◌≤◌, pos, ◌+ℤ◌, ◌≤ℤ◌, neg_ℤ, unsigned_abs, length, replicate, IfOk, OnOk};
+ghost use Rattle.std.specs.Prelude.{◌≡◌, ℕ, ◌+◌, ◌-◌, ◌*◌, ◌/◌, ◌^◌, ◌<◌, ◌≤◌, pos, ◌+ℤ◌, ◌<ℤ◌, ◌≤ℤ◌, neg_ℤ, ◌↔◌, IsTrue, unsigned_abs, length, replicate, IfOk, OnOk};
 ghost use Rattle.md_math.specs.Lists.{number_at};
-ghost use Rattle.md_flow.specs.Network.{IsNet, node_count, demand_count, cap_of, want_of};
+ghost use Rattle.md_flow.specs.Network.{IsNet, node_count, demand_count, cap_of, want_of, room_of};
 ghost use Rattle.md_flow.specs.Flows.{given_by, got_by};
-ghost use Rattle.md_flow.specs.Paths.{IsRoute, IsTouching, IsEnough, IsShifted, node_at, demand_at, last_of, amount_at_pairs};
+ghost use Rattle.md_flow.specs.Paths.{IsRoute, IsEnough, IsShifted, node_at, demand_at, last_of};
 ghost use Rattle.md_flow.specs.Tables.{cell_of, flow_of, IsGrown};
 
-use crate::net::Net;
+use crate::net::{Net, place};
 use crate::steps::Steps;
 use md_num::{NoMemory, Nums};
 use std::alloc::Global;
@@ -45,7 +45,7 @@ impl Flow {
         ensures zero { IfOk result (λ flow. (u d : ℕ) → flow_of flow u d ≡ pos 0) }
     {
         Ok(Flow {
-            amounts: zeros(alloc, cell(net.nodes(), net.demands()))?,
+            amounts: zeros(alloc, cell_count(net.nodes(), net.demands()))?,
             sent: zeros(alloc, net.nodes())?,
             got: zeros(alloc, net.demands())?,
         })
@@ -68,6 +68,17 @@ impl Flow {
         ensures size { result < 2 ^ 126 }
     {
         self.amounts[place(node, self.got.len(), demand)]
+    }
+
+    // Whether a node may give more to a demand.
+    pub(crate) fn has_room(&self, net: &Net, node: usize, demand: usize) -> bool
+        requires nodes { self.now.nodes ≡ node_count net.now }
+        requires demands { self.now.demands ≡ demand_count net.now }
+        requires node { node < node_count net.now }
+        requires demand { demand < demand_count net.now }
+        ensures { IsTrue result ↔ flow_of self.now node demand <ℤ room_of net.now node demand }
+    {
+        self.amount_at(node, demand) < net.room(node, demand)
     }
 
     // What a node gives in all.
@@ -117,7 +128,6 @@ impl Flow {
         requires nodes { self.old.nodes ≡ node_count net.now }
         requires demands { self.old.demands ≡ demand_count net.now }
         requires route { IsRoute (node_count net.now) (demand_count net.now) path.now }
-        requires touching { IsTouching net.now path.now }
         requires some { pos 1 ≤ℤ amount }
         requires enough { IsEnough path.now amount (flow_of self.old) }
         requires cap { (given_by self.old.demands (flow_of self.old) (node_at path.now 0) +ℤ amount) ≤ℤ cap_of net.now (node_at path.now 0) }
@@ -147,22 +157,12 @@ fn zeros(alloc: Global, count: usize) -> Result<Vec<u128>, NoMemory>
 }
 
 // How many amounts there are.
-fn cell(nodes: usize, demands: usize) -> usize
+fn cell_count(nodes: usize, demands: usize) -> usize
     requires few_nodes { nodes < 2 ^ 32 }
     requires few_demands { demands ≤ 12 }
     ensures { result ≡ nodes * demands }
 {
     nodes * demands
-}
-
-// Where the amount for a node and a demand stands.
-fn place(node: usize, demands: usize, demand: usize) -> usize
-    requires few_nodes { node < 2 ^ 32 }
-    requires few_demands { demands ≤ 12 }
-    requires demand { demand < demands }
-    ensures { result ≡ node * demands + demand }
-{
-    node * demands + demand
 }
 
 // The number at a place of a path.

@@ -1,6 +1,6 @@
 //! Labels of nodes and demands, which tell how far each is from a node with something left to give.
-ghost use Rattle.std.specs.Prelude.{◌≡◌, ◌≢◌, ℕ, ◌+◌, ◌<◌, ◌≤◌, ◌⊎◌, true, false, length, replicate, IfOk};
-ghost use Rattle.md_flow.specs.Network.{node_count, demand_count};
+ghost use Rattle.std.specs.Prelude.{◌≡◌, ◌≢◌, ℕ, ◌+◌, ◌<◌, ◌≤◌, ◌<ℤ◌, ◌⊎◌, true, false, length, replicate, IfOk};
+ghost use Rattle.md_flow.specs.Network.{node_count, demand_count, room_of};
 ghost use Rattle.md_flow.specs.Tables.{flow_of};
 ghost use Rattle.md_flow.specs.Labels.{AreLabels, AreRaised, AreReached, IsNodeLabel, IsDemandLabel, label_at};
 
@@ -39,7 +39,7 @@ impl Labels {
     {
         'rounds: loop {
             raise_nodes(net, flow, &self.demands, &mut self.nodes);
-            if !raise_demands(net, &self.nodes, &mut self.demands) {
+            if !raise_demands(net, flow, &self.nodes, &mut self.demands) {
                 break 'rounds;
             }
         }
@@ -67,7 +67,7 @@ fn raise_nodes(net: &Net, flow: &Flow, demands: &Vec<u8>, nodes: &mut Vec<u8>)
     }
 }
 
-// The greatest label of a node: 0 where it has room, else one more than the least label of the demands to which it gives something.
+// The greatest label of a node: 0 where something is left of its cap, else one more than the least label of the demands to which it gives something.
 fn node_label(net: &Net, flow: &Flow, demands: &Vec<u8>, node: usize) -> u8
     requires nodes { flow.now.nodes ≡ node_count net.now }
     requires demands { flow.now.demands ≡ demand_count net.now }
@@ -105,17 +105,19 @@ fn least_after(label: u8, amount: u128, demand: u8) -> u8
 }
 
 // Gives each demand its greatest label by those of the nodes, and says whether one has changed.
-fn raise_demands(net: &Net, nodes: &Vec<u8>, demands: &mut Vec<u8>) -> bool
+fn raise_demands(net: &Net, flow: &Flow, nodes: &Vec<u8>, demands: &mut Vec<u8>) -> bool
+    requires nodes { flow.now.nodes ≡ node_count net.now }
+    requires demands { flow.now.demands ≡ demand_count net.now }
     requires one_node { length nodes.now.items ≡ node_count net.now }
     requires one_demand { length demands.old.items ≡ demand_count net.now }
     ensures length { length demands.new.items ≡ length demands.old.items }
-    ensures labels { (d : ℕ) → d < demand_count net.now → IsDemandLabel net.now nodes.now.items d (label_at demands.new.items d) }
+    ensures labels { (d : ℕ) → d < demand_count net.now → IsDemandLabel net.now (flow_of flow.now) nodes.now.items d (label_at demands.new.items d) }
     ensures changed { result ≡ true → (d : ℕ) × (d < demand_count net.now) × (label_at demands.new.items d ≢ label_at demands.old.items d) }
     ensures same { result ≡ false → (d : ℕ) → d < demand_count net.now → label_at demands.new.items d ≡ label_at demands.old.items d }
 {
     let mut changed = false;
     for demand in 0..net.demands() {
-        let label = demand_label(net, nodes, demand);
+        let label = demand_label(net, flow, nodes, demand);
         if demands[demand] != label {
             changed = true;
         }
@@ -124,26 +126,31 @@ fn raise_demands(net: &Net, nodes: &Vec<u8>, demands: &mut Vec<u8>) -> bool
     changed
 }
 
-// The greatest label of a demand: the least one of the nodes that touch it.
-fn demand_label(net: &Net, nodes: &Vec<u8>, demand: usize) -> u8
+// The greatest label of a demand: the least one of the nodes that have room for it.
+fn demand_label(net: &Net, flow: &Flow, nodes: &Vec<u8>, demand: usize) -> u8
+    requires nodes { flow.now.nodes ≡ node_count net.now }
+    requires demands { flow.now.demands ≡ demand_count net.now }
     requires one_node { length nodes.now.items ≡ node_count net.now }
     requires demand { demand < demand_count net.now }
-    ensures { IsDemandLabel net.now nodes.now.items demand result }
+    ensures { IsDemandLabel net.now (flow_of flow.now) nodes.now.items demand result }
 {
     let mut label = top(net);
     for node in 0..net.nodes() {
-        let touching = net.touches(node, demand);
-        label = least_at(label, touching, nodes[node]);
+        label = least_at(net, flow, node, demand, label, nodes[node]);
     }
     label
 }
 
-// A label, or that of a touching node, where this is less.
-fn least_at(label: u8, touching: bool, node: u8) -> u8
-    ensures { ((result ≡ label) × (touching ≡ true → label ≤ node)) ⊎ ((result ≡ node) × (touching ≡ true) × (node < label)) }
+// A label, or that of a node, where this is less and the node has room for a demand.
+fn least_at(net: &Net, flow: &Flow, node: usize, demand: usize, label: u8, other: u8) -> u8
+    requires nodes { flow.now.nodes ≡ node_count net.now }
+    requires demands { flow.now.demands ≡ demand_count net.now }
+    requires node { node < node_count net.now }
+    requires demand { demand < demand_count net.now }
+    ensures { ((result ≡ label) × (flow_of flow.now node demand <ℤ room_of net.now node demand → label ≤ other)) ⊎ ((result ≡ other) × (flow_of flow.now node demand <ℤ room_of net.now node demand) × (other < label)) }
 {
-    if node < label && touching {
-        return node;
+    if other < label && flow.has_room(net, node, demand) {
+        return other;
     }
     label
 }

@@ -1,8 +1,8 @@
 //! The search for a path along labels.
-ghost use Rattle.std.specs.Prelude.{◌≡◌, ◌≢◌, ℕ, ◌+◌, ◌*◌, ◌<◌, ◌≤◌, ℤ, pos, ◌<ℤ◌, ◌≤ℤ◌, ◌↔◌, IsTrue, true, false, ◌∷◌, [], ◌++◌, length, Ok, None, IfOk, IfSome, OnOk};
-ghost use Rattle.md_flow.specs.Network.{IsNet, node_count, demand_count, touches};
+ghost use Rattle.std.specs.Prelude.{◌≡◌, ℕ, ◌+◌, ◌*◌, ◌<◌, ◌≤◌, ℤ, pos, ◌<ℤ◌, ◌≤ℤ◌, ◌↔◌, IsTrue, true, false, ◌∷◌, [], ◌++◌, length, Ok, None, IfOk, IfSome, OnOk};
+ghost use Rattle.md_flow.specs.Network.{IsNet, node_count, demand_count, room_of};
 ghost use Rattle.md_flow.specs.Tables.{flow_of};
-ghost use Rattle.md_flow.specs.Labels.{AreLinked, AllFull, label_at, room_at, lack_at, top_of};
+ghost use Rattle.md_flow.specs.Labels.{AreLinked, AllFull, label_at, spare_at, lack_at, top_of};
 ghost use Rattle.md_flow.specs.Paths.{IsLevelled, IsTrail};
 ghost use Rattle.md_flow.specs.Search.{AreEntries, AreKnown, EntersFrom, entry_at};
 
@@ -23,7 +23,7 @@ pub struct Search {
 }
 
 impl Search {
-    // Room for a search.
+    // What a search begins with.
     pub fn start(alloc: Global, net: &Net) -> Result<Search, NoMemory>
         ensures entries { IfOk result (λ search. length search.entries.items ≡ demand_count net.now) }
         ensures before { IfOk result (λ search. length search.before.items ≡ demand_count net.now) }
@@ -121,14 +121,14 @@ fn enter(search: &mut Search, net: &Net, flow: &Flow, labels: &Vec<u8>, demand: 
     ensures known { fresh ≡ true → AreLinked net.now (flow_of flow.now) labels.now.items → AreKnown net.now labels.now.items search.old.entries.items (label_at labels.now.items demand) → label_at labels.now.items demand < top_of net.now → entry_at search.new.entries.items demand < node_count net.now }
 {
     if labels[demand] == 0 {
-        enter_with_room(search, net, flow, labels, demand, fresh);
+        enter_first(search, net, flow, labels, demand, fresh);
     } else {
         enter_after(search, net, flow, labels, demand, fresh);
     }
 }
 
-// Looks for a node with room to enter a demand with label 0 by.
-fn enter_with_room(
+// Looks for a node with something left of its cap to enter a demand with label 0 by.
+fn enter_first(
     search: &mut Search,
     net: &Net,
     flow: &Flow,
@@ -150,7 +150,7 @@ fn enter_with_room(
     let nodes = net.nodes();
     let place = 13 * demand;
     let from = first_place(&search.places, place, fresh);
-    let node = node_with_room(net, flow, demand, from);
+    let node = spare_node(net, flow, demand, from);
     search.places[place] = node;
     if node < nodes {
         search.entries[demand] = node;
@@ -209,7 +209,7 @@ fn try_from(
     ensures found { result ≡ true → EntersFrom net.now (flow_of flow.now) before demand search.old.entries.items search.new.entries.items search.old.before.items search.new.before.items }
     ensures entries { result ≡ false → search.new.entries.items ≡ search.old.entries.items }
     ensures before { result ≡ false → search.new.before.items ≡ search.old.before.items }
-    ensures none { result ≡ false → fresh ≡ true → label_at labels.now.items demand ≡ label_at labels.now.items before + 1 → entry_at search.old.entries.items before < node_count net.now → (u : ℕ) → u < node_count net.now → touches net.now u demand ≡ true → flow_of flow.now u before ≤ℤ pos 0 }
+    ensures none { result ≡ false → fresh ≡ true → label_at labels.now.items demand ≡ label_at labels.now.items before + 1 → entry_at search.old.entries.items before < node_count net.now → (u : ℕ) → u < node_count net.now → flow_of flow.now u demand <ℤ room_of net.now u demand → flow_of flow.now u before ≤ℤ pos 0 }
 {
     if !is_before(labels[before], labels[demand]) {
         return false;
@@ -227,7 +227,7 @@ fn is_before(first: u8, second: u8) -> bool
     first < second && first + 1 == second
 }
 
-// Looks for a node that touches a demand and gives something to the one before.
+// Looks for a node that has room for a demand and gives something to the one before.
 fn enter_from(
     search: &mut Search,
     net: &Net,
@@ -247,7 +247,7 @@ fn enter_from(
     ensures found { result ≡ true → EntersFrom net.now (flow_of flow.now) before demand search.old.entries.items search.new.entries.items search.old.before.items search.new.before.items }
     ensures entries { result ≡ false → search.new.entries.items ≡ search.old.entries.items }
     ensures before { result ≡ false → search.new.before.items ≡ search.old.before.items }
-    ensures none { result ≡ false → fresh ≡ true → (u : ℕ) → u < node_count net.now → touches net.now u demand ≡ true → flow_of flow.now u before ≤ℤ pos 0 }
+    ensures none { result ≡ false → fresh ≡ true → (u : ℕ) → u < node_count net.now → flow_of flow.now u demand <ℤ room_of net.now u demand → flow_of flow.now u before ≤ℤ pos 0 }
 {
     let nodes = net.nodes();
     let place = 12 * before + demand;
@@ -270,35 +270,35 @@ fn first_place(places: &Vec<usize>, at: usize, fresh: bool) -> usize
     if fresh { 0 } else { places[at] }
 }
 
-// The first node from a place on which touches a demand and has room.
-fn node_with_room(net: &Net, flow: &Flow, demand: usize, from: usize) -> usize
+// The first node from a place on with something left of its cap and room for a demand.
+fn spare_node(net: &Net, flow: &Flow, demand: usize, from: usize) -> usize
     requires nodes { flow.now.nodes ≡ node_count net.now }
     requires demands { flow.now.demands ≡ demand_count net.now }
     requires demand { demand < demand_count net.now }
-    ensures touching { result < node_count net.now → touches net.now result demand ≡ true }
-    ensures room { result < node_count net.now → pos 0 <ℤ room_at net.now (flow_of flow.now) result }
-    ensures none { node_count net.now ≤ result → (u : ℕ) → from ≤ u → u < node_count net.now → touches net.now u demand ≡ true → room_at net.now (flow_of flow.now) u ≤ℤ pos 0 }
+    ensures room { result < node_count net.now → flow_of flow.now result demand <ℤ room_of net.now result demand }
+    ensures spare { result < node_count net.now → pos 0 <ℤ spare_at net.now (flow_of flow.now) result }
+    ensures none { node_count net.now ≤ result → (u : ℕ) → from ≤ u → u < node_count net.now → flow_of flow.now u demand <ℤ room_of net.now u demand → spare_at net.now (flow_of flow.now) u ≤ℤ pos 0 }
 {
     for node in from..net.nodes() {
-        if net.touches(node, demand) && flow.sent(node) < net.cap(node) {
+        if flow.sent(node) < net.cap(node) && flow.has_room(net, node, demand) {
             return node;
         }
     }
     net.nodes()
 }
 
-// The first node from a place on which touches a demand and gives something to another.
+// The first node from a place on which has room for a demand and gives something to another.
 fn carrier(net: &Net, flow: &Flow, before: usize, demand: usize, from: usize) -> usize
     requires nodes { flow.now.nodes ≡ node_count net.now }
     requires demands { flow.now.demands ≡ demand_count net.now }
     requires before { before < demand_count net.now }
     requires demand { demand < demand_count net.now }
-    ensures touching { result < node_count net.now → touches net.now result demand ≡ true }
+    ensures room { result < node_count net.now → flow_of flow.now result demand <ℤ room_of net.now result demand }
     ensures carrying { result < node_count net.now → pos 0 <ℤ flow_of flow.now result before }
-    ensures none { node_count net.now ≤ result → (u : ℕ) → from ≤ u → u < node_count net.now → touches net.now u demand ≡ true → flow_of flow.now u before ≤ℤ pos 0 }
+    ensures none { node_count net.now ≤ result → (u : ℕ) → from ≤ u → u < node_count net.now → flow_of flow.now u demand <ℤ room_of net.now u demand → flow_of flow.now u before ≤ℤ pos 0 }
 {
     for node in from..net.nodes() {
-        if net.touches(node, demand) && flow.amount_at(node, before) > 0 {
+        if flow.amount_at(node, before) > 0 && flow.has_room(net, node, demand) {
             return node;
         }
     }

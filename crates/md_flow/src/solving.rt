@@ -1,14 +1,13 @@
-//! The greatest flow, path by path, and the set that is over its caps by most.
-ghost use Rattle.std.specs.Prelude.{◌≡◌, ℕ, ◌+◌, ◌-◌, ◌*◌, ◌^◌, ◌<◌, ◌≤◌, ◌⊎◌, ℤ, pos, ◌+ℤ◌, ◌-ℤ◌, ◌*ℤ◌, ◌<ℤ◌, ◌≤ℤ◌, true, false, length, Ok, None, Some, IfOk, IfSome, OnOk, List, ◌==◌};
-ghost use Rattle.md_flow.specs.Network.{IsNet, node_count, demand_count, want_sum};
+//! The greatest flow, path by path, and the set that is over by most.
+ghost use Rattle.std.specs.Prelude.{◌≡◌, ℕ, ◌+◌, ◌-◌, ◌*◌, ◌^◌, ◌<◌, ◌≤◌, ◌⊎◌, pos, ◌+ℤ◌, ◌*ℤ◌, ◌<ℤ◌, ◌≤ℤ◌, true, false, length, Ok, None, Some, IfOk, List, ◌==◌};
 ghost use Rattle.md_math.specs.Sets.{member};
-ghost use Rattle.md_flow.specs.Flows.{IsPartFlow, Meets, amount_in, carried};
-ghost use Rattle.md_flow.specs.Over.{over, NoneOver, IsWorst};
+ghost use Rattle.md_flow.specs.Network.{IsNet, node_count, demand_count};
+ghost use Rattle.md_flow.specs.Flows.{IsPartFlow};
 ghost use Rattle.md_flow.specs.Costs.{vertex_count, edge_count};
-ghost use Rattle.md_flow.specs.Ends.{WhereFull, WhereCut};
+ghost use Rattle.md_flow.specs.Ends.{IsEndOf};
 ghost use Rattle.md_flow.specs.Tables.{flow_of};
 ghost use Rattle.md_flow.specs.Labels.{AreLabels, AreReached, AllFull, label_at, lack_at, top_of};
-ghost use Rattle.md_flow.specs.Paths.{IsLevelled, IsBottleneck};
+ghost use Rattle.md_flow.specs.Paths.{IsLevelled, IsPath, IsEnough, FitsRooms, IsBottleneck, last_of, room_left, amount_before};
 ghost use Rattle.md_flow.specs.Potential.{potential};
 
 use crate::flow::{Flow, number};
@@ -19,21 +18,13 @@ use crate::search::{Search, forget};
 use crate::steps::Steps;
 use md_num::{NoMemory, Nums};
 use std::alloc::Global;
-use std::sync::ledger::Ledger;
+use std::marker::Brand;
+use std::sync::ledger::{Blank, Ledger};
 
-/// Finds a flow that gives each demand exactly, or the largest set of demands that is over its caps by most. Each change of the flow along one path is one step; where memory runs out, the steps that were taken stay.
+/// Finds a flow that gives each demand exactly, or the largest set of demands that is over by most what the nodes can give to it. Each change of the flow along one path is one step; where memory runs out, the steps that were taken stay.
 pub fn solve<L: Ledger>(alloc: Global, net: &Net, steps: &mut Steps<L>) -> Result<FlowEnd, NoMemory>
-    // Full comes with a flow that meets the net, and then no set is over its caps.
-    ensures full { IfOk result (WhereFull (λ amounts. Meets net.now (amount_in net.now amounts))) }
-    ensures full_length { IfOk result (WhereFull (λ amounts. length amounts ≡ node_count net.now * demand_count net.now)) }
-    ensures full_none { IfOk result (WhereFull (λ amounts. NoneOver net.now)) }
-
-    // Cut comes with the largest set that is over its caps by most, so that some set is over them.
-    ensures cut { IfOk result (WhereCut (λ set amounts. IsWorst net.now (member set))) }
-    ensures cut_set { IfOk result (WhereCut (λ set amounts. set < 2 ^ demand_count net.now)) }
-    ensures cut_length { IfOk result (WhereCut (λ set amounts. length amounts ≡ node_count net.now * demand_count net.now)) }
-    ensures cut_part { IfOk result (WhereCut (λ set amounts. IsPartFlow net.now (amount_in net.now amounts))) }
-    ensures cut_carries { IfOk result (WhereCut (λ set amounts. carried net.now (amount_in net.now amounts) ≡ want_sum net.now -ℤ over net.now (member set))) }
+    // Full comes with a flow that meets the net, so that no set is over; Cut with the largest set that is over by most.
+    ensures end { IfOk result (IsEndOf net.now) }
 
     // The steps taken are at most the product of the numbers of vertices and edges, whatever comes of it.
     ensures counted { steps.old ≤ steps.new }
@@ -42,6 +33,24 @@ pub fn solve<L: Ledger>(alloc: Global, net: &Net, steps: &mut Steps<L>) -> Resul
     let mut flow = Flow::start(alloc, net)?;
     let labels = send(alloc, net, &mut flow, steps)?;
     conclude(alloc, net, &flow, &labels)
+}
+
+/// The same, for a caller that keeps no count of the steps.
+pub fn find_end(alloc: Global, net: &Net) -> Result<FlowEnd, NoMemory>
+    ensures { IfOk result (IsEndOf net.now) }
+{
+    end_with::<Brand>(alloc, net, Blank::new(1))
+}
+
+// The end of a net, with a count that is thrown away.
+fn end_with<L: Ledger>(alloc: Global, net: &Net, blank: Blank) -> Result<FlowEnd, NoMemory>
+    requires name { blank.name ≡ L.name }
+    requires parts { blank.parts ≡ L.parts }
+    requires some { 0 < blank.parts }
+    ensures { IfOk result (IsEndOf net.now) }
+{
+    let mut steps = Steps::<L>::open(blank);
+    solve(alloc, net, &mut steps)
 }
 
 // Changes the flow along paths until no path is left, and gives the labels that show it.
@@ -75,7 +84,7 @@ fn send<L: Ledger>(
 }
 
 // One step along a path that the labels lead to; or, where there is none, labels anew. Answers whether the labels are new, and nothing where new labels lead to no path.
-pub(crate) fn turn<L: Ledger>(
+fn turn<L: Ledger>(
     alloc: Global,
     net: &Net,
     flow: &mut Flow,
@@ -109,7 +118,7 @@ pub(crate) fn turn<L: Ledger>(
 {
     match search.find(alloc, net, flow, &labels.demands, fresh)? {
         Some(path) => {
-            push(net, flow, labels, &path, steps);
+            push(net, flow, &path, steps);
             Ok(Some(false))
         }
         None => {
@@ -123,40 +132,77 @@ pub(crate) fn turn<L: Ledger>(
     }
 }
 
-// Changes the flow along a path by as much as it takes.
-fn push<L: Ledger>(net: &Net, flow: &mut Flow, labels: &Labels, path: &Nums, steps: &mut Steps<L>)
+// Changes the flow along a path by as much as it takes. Labels that lead along the path stay labels, and make the potential smaller.
+fn push<L: Ledger>(net: &Net, flow: &mut Flow, path: &Nums, steps: &mut Steps<L>)
     requires nodes { flow.old.nodes ≡ node_count net.now }
     requires demands { flow.old.demands ≡ demand_count net.now }
     requires net { IsNet net.now }
     requires part { IsPartFlow net.now (flow_of flow.old) }
-    requires labels { AreLabels net.now (flow_of flow.old) labels.now.nodes.items labels.now.demands.items }
-    requires path { IsLevelled net.now (flow_of flow.old) labels.now.demands.items path.now }
+    requires path { IsPath net.now (flow_of flow.old) path.now }
     ensures nodes { flow.new.nodes ≡ node_count net.now }
     ensures demands { flow.new.demands ≡ demand_count net.now }
     ensures part { IsPartFlow net.now (flow_of flow.new) }
-    ensures labels { AreLabels net.now (flow_of flow.new) labels.now.nodes.items labels.now.demands.items }
+    ensures labels { (nodes demands : List ℕ) → AreLabels net.now (flow_of flow.old) nodes demands → IsLevelled net.now (flow_of flow.old) demands path.now → AreLabels net.now (flow_of flow.new) nodes demands }
     ensures step { steps.new ≡ steps.old + 1 }
-    ensures cost { (potential net.now (flow_of flow.new) labels.now.nodes.items labels.now.demands.items +ℤ pos 1) ≤ℤ potential net.now (flow_of flow.old) labels.now.nodes.items labels.now.demands.items }
+    ensures cost { (nodes demands : List ℕ) → AreLabels net.now (flow_of flow.old) nodes demands → IsLevelled net.now (flow_of flow.old) demands path.now → (potential net.now (flow_of flow.new) nodes demands +ℤ pos 1) ≤ℤ potential net.now (flow_of flow.old) nodes demands }
 {
-    let amount = bottleneck(net, flow, &labels.demands, path);
+    let amount = bottleneck(net, flow, path);
     flow.augment(net, path, amount as i128, steps);
 }
 
 // The greatest amount that a path takes.
-fn bottleneck(net: &Net, flow: &Flow, labels: &Vec<u8>, path: &Nums) -> u128
+fn bottleneck(net: &Net, flow: &Flow, path: &Nums) -> u128
     requires nodes { flow.now.nodes ≡ node_count net.now }
     requires demands { flow.now.demands ≡ demand_count net.now }
     requires net { IsNet net.now }
     requires part { IsPartFlow net.now (flow_of flow.now) }
-    requires path { IsLevelled net.now (flow_of flow.now) labels.now.items path.now }
+    requires path { IsPath net.now (flow_of flow.now) path.now }
     ensures least { IsBottleneck net.now (flow_of flow.now) path.now (pos result) }
     ensures small { result < 2 ^ 126 }
 {
     let first = number(path, 0);
     let end = number(path, path.len() - 1);
-    let room = net.cap(first) - flow.sent(first);
+    let spare = net.cap(first) - flow.sent(first);
     let lack = net.want(end) - flow.got(end);
-    let mut least = lesser(room, lack);
+    let most = least_room(net, flow, path, lesser(spare, lack));
+    least_carried(net, flow, path, most)
+}
+
+// The lesser of a number and the least room that is left along a path.
+fn least_room(net: &Net, flow: &Flow, path: &Nums, most: u128) -> u128
+    requires nodes { flow.now.nodes ≡ node_count net.now }
+    requires demands { flow.now.demands ≡ demand_count net.now }
+    requires net { IsNet net.now }
+    requires path { IsPath net.now (flow_of flow.now) path.now }
+    requires some { 1 ≤ most }
+    ensures some { 1 ≤ result }
+    ensures most { result ≤ most }
+    ensures fits { FitsRooms net.now (flow_of flow.now) path.now (pos result) }
+    ensures reached { (result ≡ most) ⊎ ((j : ℕ) × (j < last_of path.now + 1) × (pos result ≡ room_left net.now (flow_of flow.now) path.now j)) }
+{
+    let mut least = most;
+    for j in 0..path.len() / 2 {
+        let node = number(path, 2 * j);
+        let demand = number(path, 2 * j + 1);
+        let left = net.room(node, demand) - flow.amount_at(node, demand);
+        least = lesser(least, left);
+    }
+    least
+}
+
+// The lesser of a number and the least amount that a path takes away from.
+fn least_carried(net: &Net, flow: &Flow, path: &Nums, most: u128) -> u128
+    requires nodes { flow.now.nodes ≡ node_count net.now }
+    requires demands { flow.now.demands ≡ demand_count net.now }
+    requires net { IsNet net.now }
+    requires path { IsPath net.now (flow_of flow.now) path.now }
+    requires some { 1 ≤ most }
+    ensures some { 1 ≤ result }
+    ensures most { result ≤ most }
+    ensures enough { IsEnough path.now (pos result) (flow_of flow.now) }
+    ensures reached { (result ≡ most) ⊎ ((j : ℕ) × (j < last_of path.now) × (pos result ≡ amount_before (flow_of flow.now) path.now j)) }
+{
+    let mut least = most;
     for j in 0..path.len() / 2 - 1 {
         let carried = flow.amount_at(number(path, 2 * (j + 1)), number(path, 2 * j + 1));
         least = lesser(least, carried);
@@ -182,14 +228,7 @@ fn conclude(alloc: Global, net: &Net, flow: &Flow, labels: &Labels) -> Result<Fl
     requires labels { AreLabels net.now (flow_of flow.now) labels.now.nodes.items labels.now.demands.items }
     requires reached { AreReached net.now (flow_of flow.now) labels.now.nodes.items labels.now.demands.items }
     requires full { AllFull net.now (flow_of flow.now) labels.now.demands.items }
-    ensures full { IfOk result (WhereFull (λ amounts. Meets net.now (amount_in net.now amounts))) }
-    ensures full_length { IfOk result (WhereFull (λ amounts. length amounts ≡ node_count net.now * demand_count net.now)) }
-    ensures full_none { IfOk result (WhereFull (λ amounts. NoneOver net.now)) }
-    ensures cut { IfOk result (WhereCut (λ set amounts. IsWorst net.now (member set))) }
-    ensures cut_set { IfOk result (WhereCut (λ set amounts. set < 2 ^ demand_count net.now)) }
-    ensures cut_length { IfOk result (WhereCut (λ set amounts. length amounts ≡ node_count net.now * demand_count net.now)) }
-    ensures cut_part { IfOk result (WhereCut (λ set amounts. IsPartFlow net.now (amount_in net.now amounts))) }
-    ensures cut_carries { IfOk result (WhereCut (λ set amounts. carried net.now (amount_in net.now amounts) ≡ want_sum net.now -ℤ over net.now (member set))) }
+    ensures { IfOk result (IsEndOf net.now) }
 {
     let amounts = flow.amounts(alloc)?;
     if first_lacking(net, flow) >= net.demands() {

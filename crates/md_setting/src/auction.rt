@@ -8,7 +8,7 @@ ghost use Rattle.md_setting.specs.AuctionShaped.{IsAuction};
 use crate::BuildRefusal;
 use crate::auction_check::{check_numbers, check_weights};
 use crate::auction_limits::sizes_of;
-use std::alloc::{AllocError, Global};
+use std::alloc::Global;
 use std::marker::Model;
 
 /// A symmetric auction of one item within the limits (Border 1991): each bidder has one of the values, by the same
@@ -57,7 +57,7 @@ impl Auction {
             return Err(BuildRefusal::Memory);
         };
         let total = check_weights(bidders as usize, values, &weights)?;
-        let Ok(values) = copied(alloc, values) else {
+        let Ok(values) = Vec::from_slice(alloc, values) else {
             return Err(BuildRefusal::Memory);
         };
         Ok(Auction {
@@ -153,15 +153,4 @@ impl Auction {
     {
         self.keep
     }
-}
-
-// The numbers, kept.
-fn copied(alloc: Global, numbers: &[i64]) -> Result<Vec<i64>, AllocError>
-    ensures { IfOk result (λ kept. kept.items ≡ numbers.now) }
-{
-    let mut kept = Vec::new(alloc);
-    for number in numbers {
-        kept.push(*number)?;
-    }
-    Ok(kept)
 }

@@ -56,7 +56,10 @@ impl Setting {
         if !has_good_names(&raw) {
             return Err(BuildRefusal::BadName);
         }
-        if !has_own_names(alloc, &raw).map_err(|_| BuildRefusal::Memory)? {
+        let Ok(own) = has_own_names(alloc, &raw) else {
+            return Err(BuildRefusal::Memory);
+        };
+        if !own {
             return Err(BuildRefusal::DoubleName);
         }
         let space = space_of(alloc, &raw)?;

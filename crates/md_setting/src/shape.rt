@@ -25,7 +25,9 @@ pub(crate) fn space_of(alloc: Global, raw: &RawSetting) -> Result<Space, BuildRe
     if outcomes < 1 || outcomes > MAX_OUTCOMES || !has_few_types(&raw.agents) {
         return Err(BuildRefusal::Sizes);
     }
-    let sizes = sizes(alloc, &raw.agents).map_err(|_| BuildRefusal::Memory)?;
+    let Ok(sizes) = sizes(alloc, &raw.agents) else {
+        return Err(BuildRefusal::Memory);
+    };
     match Space::new(alloc, &sizes) {
         Ok(space) => Ok(space),
         Err(SpaceRefusal::Memory) => Err(BuildRefusal::Memory),

@@ -57,8 +57,12 @@ impl Space {
         let Some(profiles) = profiles_within(types) else {
             return Err(SpaceRefusal::TooManyProfiles);
         };
-        let strides = strides(alloc, types, profiles).map_err(|_| SpaceRefusal::Memory)?;
-        let types = Vec::from_slice(alloc, types).map_err(|_| SpaceRefusal::Memory)?;
+        let Ok(strides) = strides(alloc, types, profiles) else {
+            return Err(SpaceRefusal::Memory);
+        };
+        let Ok(types) = Vec::from_slice(alloc, types) else {
+            return Err(SpaceRefusal::Memory);
+        };
         Ok(Space {
             types,
             strides,

@@ -2,8 +2,8 @@
 ghost use Rattle.std.specs.Prelude.{◌≡◌, ◌*◌, ◌≤◌, length};
 
 use crate::lists::{MOST, numbers};
+use md_flow::{FlowEnd, Net, find_end};
 use md_num::NoMemory;
-use md_rooms::{FlowEnd, Net, solve};
 use std::alloc::Global;
 use std::test::Fail;
 
@@ -15,7 +15,7 @@ fn net_of(alloc: Global, caps: &[i128], wants: &[i128], rooms: &[i128]) -> Resul
     let caps = numbers(alloc, caps)?;
     let wants = numbers(alloc, wants)?;
     let rooms = numbers(alloc, rooms)?;
-    Ok(Net::new(caps, wants, rooms))
+    Ok(Net::with_rooms(caps, wants, rooms))
 }
 
 // A net, and the worst set or the amounts that are carried, by node and then by demand.
@@ -135,7 +135,7 @@ static CASES: [Case; 12] = [
 fn is_end(case: &Case, end: &FlowEnd) -> bool {
     match end {
         FlowEnd::Full(amounts) => case.set.is_none() && amounts.as_slice() == case.amounts,
-        FlowEnd::Cut(set) => case.set == Some(*set),
+        FlowEnd::Cut { set, amounts: _ } => case.set == Some(*set),
     }
 }
 
@@ -147,7 +147,7 @@ fn ends_so(alloc: Global, case: &Case) -> Result<bool, NoMemory> {
         return Ok(false);
     }
     let net = net_of(alloc, case.caps, case.wants, case.rooms)?;
-    let end = solve(alloc, &net)?;
+    let end = find_end(alloc, &net)?;
     Ok(is_end(case, &end))
 }
 

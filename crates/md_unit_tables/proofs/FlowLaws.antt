@@ -21,9 +21,9 @@ use Rattle.md_border.specs.Odds.{IsInterim, demand_of}
 use Rattle.md_border.specs.Sets.{sum_in}
 use Rattle.md_border.specs.Sides.{right_by_counts}
 use Rattle.md_border.proofs.SetLaws.{pos-sum_in}
-use Rattle.md_rooms.specs.Network.{Network, node_count, demand_count, cap_of, want_of, room_of}
-use Rattle.md_rooms.specs.Flows.{given_by, Meets, amount_in}
-use Rattle.md_rooms.specs.Over.{open_at, over, NoneOver, IsWorst}
+use Rattle.md_flow.specs.Network.{Network, node_count, demand_count, cap_of, want_of, room_of}
+use Rattle.md_flow.specs.Flows.{given_by, Meets, amount_in}
+use Rattle.md_flow.specs.Over.{open_at, over, NoneOver, IsWorst}
 use Rattle.md_expost.specs.Masses.{rank_count, counts_in, cap_at, mass_at}
 use Rattle.md_expost.proofs.MassLaws.{cap-nonneg}
 use Rattle.md_unit_laws.specs.Odds.{unit_excess_of, IsWorstUnitSet, MeetsUnitBorder}

@@ -3,7 +3,7 @@ use Rattle.std.proofs.Common.{◌≡◌, ℕ, ◌+◌, ◌*◌, ◌^◌, ◌<◌
 use Rattle.std.specs.Prelude.{slice_index, unsigned_abs}
 use Rattle.std.proofs.lemmas.Int.{ints}
 use Rattle.std.proofs.lemmas.List.Sums.{get_or-le-sum_by}
-use Rattle.md_math.specs.Lists.{number_at, list_to}
+use Rattle.md_math.specs.Lists.{number_at, list_to, up_to}
 use Rattle.md_math.specs.Sizes.{IsWithin}
 use Rattle.md_math.specs.Sums.{sum_to}
 use Rattle.md_math.proofs.Builders.{length-list_to, get_or-list_to, length-up_to, get_or-up_to}
@@ -16,7 +16,8 @@ use Rattle.md_mech.specs.Accepted.{number_limit}
 use Rattle.md_counts.proofs.RankLaws.{ranked}
 use Rattle.md_border.specs.declared.interim.Interim.{Interim}
 use Rattle.md_border.specs.Odds.{IsInterim, demand_of}
-use Rattle.md_rooms.specs.Network.{Network, IsNet, node_count, demand_count, cap_of, want_of, room_of}
+use Rattle.md_flow.specs.declared.rooms.Rooms.TheVariants.{Listed}
+use Rattle.md_flow.specs.Network.{Network, IsNet, OneEach, node_count, demand_count, cap_of, want_of, room_in, room_of}
 use Rattle.md_expost.specs.Masses.{rank_count, counts_in, cap_at}
 use Rattle.md_expost.proofs.MassLaws.{cap-nonneg, cap-within, caps-within}
 use Rattle.md_expost.proofs.NetLaws.{IsFit, demands-fit}
@@ -42,9 +43,11 @@ want-of a units interim net v h b = ap (λ wants. number_at wants v) h.wants ∙
 
 pub room-of : (a : SymmetricAuction) (units : ℕ) (interim : Interim) (net : Network) (rank v : ℕ) → IsUnitNetOf a units interim net → rank < rank_count a → v < value_count a
     → room_of net rank v ≡ room_at a interim.den rank v
+unfolding room_in
 room-of a units interim net rank v h b l =
     let rooms = λ (r : ℕ). list_to (value_count a) (room_at a interim.den r) in
-    ap₂ (λ numbers m. number_at numbers (rank * m + v)) h.rooms (demands-of a units interim net h)
+    ap (λ kept. room_in net.caps net.wants kept rank v) h.rooms
+    ∙ ap (λ m. number_at (up_to (rank_count a) rooms) (rank * m + v)) (demands-of a units interim net h)
     ∙ get_or-up_to (rank_count a) (value_count a) rank v rooms (pos 0) (λ r c. length-list_to (value_count a) (room_at a interim.den r)) b l
     ∙ get_or-list_to (value_count a) (room_at a interim.den rank) v (pos 0) l
 
@@ -92,9 +95,11 @@ units-fit a den x y rank units h p m b few e f =
 
 -- the net is one whose flows are found
 pub net-fits : (a : SymmetricAuction) (units : ℕ) (interim : Interim) (net : Network) → IsAuction a → IsInterim a interim → units ≤ 12 → IsUnitNetOf a units interim net → IsNet net
+unfolding OneEach
 net-fits a units interim net shaped fits few h = record {
-  one_room = ap length h.rooms ∙ length-up_to (rank_count a) (value_count a) (λ r. list_to (value_count a) (room_at a interim.den r)) (λ r c. length-list_to (value_count a) (room_at a interim.den r))
-      ∙ sym (ap₂ (λ m k. m * k) nodes demands);
+  one_each =
+      subst (OneEach net.caps net.wants) (sym h.rooms)
+      (length-up_to (rank_count a) (value_count a) (λ r. list_to (value_count a) (room_at a interim.den r)) (λ r c. length-list_to (value_count a) (room_at a interim.den r)) ∙ sym (ap₂ (λ m k. m * k) nodes demands));
   few_nodes = omega (arith, nodes, shaped.few_counts);
   few_demands = wants.few;
   caps = λ u b. subst (λ z. pos 0 ≤ℤ z) (sym (cap-of a units interim net u h (node u b))) (nonneg-*ℤ (pos units) _ (nonneg units) (cap-nonneg a interim.den u fits.den_positive));

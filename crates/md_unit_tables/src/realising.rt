@@ -13,8 +13,8 @@ use crate::UnitEnd;
 use crate::unit_net::net_of;
 use md_border::Interim;
 use md_counts::Counts;
+use md_flow::{FlowEnd, find_end};
 use md_num::NoMemory;
-use md_rooms::{FlowEnd, solve};
 use md_setting::Auction;
 use std::alloc::Global;
 
@@ -43,8 +43,8 @@ pub fn realise_units(
 {
     let counts = Counts::of(alloc, auction)?;
     let net = net_of(alloc, auction, &counts, units, interim)?;
-    match solve(alloc, &net)? {
+    match find_end(alloc, &net)? {
         FlowEnd::Full(rows) => Ok(UnitEnd::Table(rows)),
-        FlowEnd::Cut(set) => Ok(UnitEnd::Violated(set)),
+        FlowEnd::Cut { set, amounts: _ } => Ok(UnitEnd::Violated(set)),
     }
 }

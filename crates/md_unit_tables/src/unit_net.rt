@@ -10,8 +10,8 @@ ghost use Rattle.md_unit_tables.specs.UnitNets.{IsUnitNetOf};
 
 use md_border::{Interim, demand};
 use md_counts::Counts;
+use md_flow::Net;
 use md_num::{NoMemory, Nums, product};
-use md_rooms::Net;
 use md_setting::Auction;
 use std::alloc::Global;
 
@@ -32,7 +32,7 @@ pub(crate) fn net_of(
     let caps = caps(alloc, auction, counts, units, interim.den)?;
     let demands = demands(alloc, auction, interim)?;
     let rooms = rooms(alloc, auction, counts, interim.den)?;
-    Ok(Net::new(caps, demands, rooms))
+    Ok(Net::with_rooms(caps, demands, rooms))
 }
 
 // The caps of all lists of counts: as many units as there are.

@@ -1,4 +1,4 @@
-use Rattle.std.proofs.Common.{◌≡◌, ◌<◌, ◌^◌, pos, ◌≤ℤ◌, length, slice_index, sym, ap, ◌∙◌, subst, arith, lit<}
+use Rattle.std.proofs.Common.{◌≡◌, ◌<◌, pos, ◌≤ℤ◌, if◌then◌else◌, length, sym, ap, ◌∙◌, arith, lit<}
 use Rattle.md_math.specs.Lists.{list_to, number_at}
 use Rattle.md_math.specs.Sizes.{IsWithin}
 use Rattle.md_math.proofs.Bits.{read_within}
@@ -6,6 +6,7 @@ use Rattle.md_math.proofs.Builders.{length-list_to}
 use Rattle.md_space.specs.Profiles.{profile_count}
 use Rattle.md_setting.specs.Meaning.{sizes_of}
 use Rattle.md_mech.specs.Accepted.{number_limit}
+use Rattle.md_flow.proofs.Touching.{room-touched}
 use Rattle.md_asym_tables.specs.PairNets.{cap_at}
 use Rattle.md_asym_sale.specs.Sides.{demand_at}
 use Rattle.md_asym_sale.specs.Values.{pairs_of}
@@ -36,10 +37,6 @@ new-requires-clause-few_nodes c = omega (arith, (caps c).few)
 pub new-requires-clause-few_demands : goal.new-requires-clause-few_demands
 new-requires-clause-few_demands c = (demands c).few
 
-pub new-requires-clause-sets : goal.new-requires-clause-sets
-new-requires-clause-sets c = λ u b.
-    subst (λ k. slice_index c.in_ok-touches.touches u < 2 ^ k) (sym (pairs c)) (c.in_ok-touches.ensures.below u (omega (arith, nodes c, b)))
-
 pub new-requires-clause-caps : goal.new-requires-clause-caps
 new-requires-clause-caps c = (caps c).nonneg
 
@@ -54,10 +51,12 @@ new-requires-clause-demand_size c = (demands c).size
 
 pub returns-clause-net : goal.returns-clause-net
 returns-clause-net c =
-    rw c.new.ensures
+    rw c.new.ensures.net
     (record {
-      caps = rw (read_within number_limit c.args.den (den-within c.args.setting.now c.args.den c.args.odds.now c.requires.odds) (lit< tt)) at c.in_ok-caps.ensures.value;
+      caps = caps_are c.before;
       wants = c.in_ok-demands.ensures;
-      one_set = c.in_ok-touches.ensures.count;
-      touches = λ r p b l. c.in_ok-touches.ensures.members r p (omega (arith, b, c.in_ok-touches.ensures.count)) l;
+      nonneg = (caps c.before).nonneg;
+      rooms = λ u p b l.
+          room-touched c.in_ok-caps.caps c.in_ok-demands.demands c.in_ok-touches.touches u p
+          ∙ ap (λ t. if t then number_at c.in_ok-caps.caps u else pos 0) (c.in_ok-touches.ensures.members u p (omega (arith, nodes c.before, b)) (omega (arith, pairs c.before, l)));
     })

@@ -1,4 +1,4 @@
-use Rattle.std.proofs.Common.{◌≡◌, ℕ, ◌<◌, ◌^◌, length, slice_index}
+use Rattle.std.proofs.Common.{◌≡◌, ℕ, ◌<◌, length, slice_index}
 use Rattle.md_math.specs.Sets.{member}
 use Rattle.md_asym_tables.specs.PairNets.{has_at}
 use Rattle.md_asym_sale.specs.Values.{pairs_of}
@@ -7,6 +7,5 @@ use Rattle.md_asym_tables.proofs.pair_net.touches.Given as goal
 abbrev pub invariant-loop-rank : goal.invariant-loop-rank
 invariant-loop-rank l = record {
   size_is : length l.sets ≡ l.rank;
-  below : (r : ℕ) → r < length l.sets → slice_index l.sets r < 2 ^ pairs_of l.setting;
   members : (r p : ℕ) → r < length l.sets → p < pairs_of l.setting → member (slice_index l.sets r) p ≡ has_at l.setting r p;
 }

@@ -1,11 +1,12 @@
-use Rattle.std.proofs.Common.{◌≡◌, ◌<◌, ◌^◌, length, slice_index, sym, ap, ◌∙◌, subst, arith, lit<}
-use Rattle.md_math.specs.Lists.{list_to}
+use Rattle.std.proofs.Common.{◌≡◌, ◌<◌, pos, if◌then◌else◌, length, sym, ap, ◌∙◌, arith, lit<}
+use Rattle.md_math.specs.Lists.{list_to, number_at}
 use Rattle.md_math.proofs.Bits.{read_within}
 use Rattle.md_math.proofs.Builders.{length-list_to}
 use Rattle.md_setting.specs.Auction.{value_count}
 use Rattle.md_mech.specs.Accepted.{number_limit}
 use Rattle.md_border.proofs.DemandLaws.{den-within}
 use Rattle.md_border.specs.Odds.{demand_of}
+use Rattle.md_flow.proofs.Touching.{room-touched}
 use Rattle.md_expost.specs.Masses.{rank_count, cap_at}
 use Rattle.md_expost.proofs.NetLaws.{IsFit, caps-fit, demands-fit}
 use Rattle.md_expost.proofs.net.net_of.Goals as goal
@@ -35,10 +36,6 @@ new-requires-clause-few_nodes c = omega (arith, (caps c).few)
 pub new-requires-clause-few_demands : goal.new-requires-clause-few_demands
 new-requires-clause-few_demands c = (demands c).few
 
-pub new-requires-clause-sets : goal.new-requires-clause-sets
-new-requires-clause-sets c = λ u b.
-    subst (λ k. slice_index c.in_ok-touches.touches u < 2 ^ k) (sym (kinds c)) (c.in_ok-touches.ensures.below u (omega (arith, nodes c, b)))
-
 pub new-requires-clause-caps : goal.new-requires-clause-caps
 new-requires-clause-caps c = (caps c).nonneg
 
@@ -50,3 +47,15 @@ new-requires-clause-cap_size c = (caps c).size
 
 pub new-requires-clause-demand_size : goal.new-requires-clause-demand_size
 new-requires-clause-demand_size c = (demands c).size
+
+pub returns : goal.returns
+returns c =
+    rw c.new.ensures.net
+    (record {
+      caps = caps_are c.before;
+      wants = c.in_ok-demands.ensures.value;
+      nonneg = (caps c.before).nonneg;
+      rooms = λ u v b l.
+          room-touched c.in_ok-caps.caps c.in_ok-demands.demands c.in_ok-touches.touches u v
+          ∙ ap (λ t. if t then number_at c.in_ok-caps.caps u else pos 0) (c.in_ok-touches.ensures.members u v (omega (arith, nodes c.before, b)) (omega (arith, kinds c.before, l)));
+    })

@@ -1,5 +1,6 @@
 use Rattle.std.proofs.Common.{◌≡◌, ℕ, ◌<◌, length}
-use Rattle.md_flow.specs.Labels.{IsNodeLabel, label_at}
+use Rattle.md_flow.specs.Labels.{label_at}
+use Rattle.md_flow.specs.Labels.{IsNodeLabel}
 use Rattle.md_flow.specs.Tables.{flow_of}
 use Rattle.md_flow.proofs.labels.raise_nodes.Given as goal
 

@@ -2,7 +2,8 @@ use Rattle.std.proofs.Common.{◌<◌, arith}
 use Rattle.std.proofs.lemmas.List.{get_or_read}
 use Rattle.md_flow.specs.Labels.{label_at}
 use Rattle.md_flow.specs.Tables.{flow_of}
-use Rattle.md_flow.proofs.SearchLaws.{IsTrail-more, OnOk-map}
+use Rattle.md_flow.proofs.SearchLaws.{OnOk-map}
+use Rattle.md_flow.proofs.SearchLaws.{IsTrail-more}
 use Rattle.md_flow.proofs.search.+trace.Goals as goal
 
 pub returns : goal.returns

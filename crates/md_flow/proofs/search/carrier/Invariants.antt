@@ -1,7 +1,7 @@
-use Rattle.std.proofs.Common.{◌≡◌, ℕ, ◌<◌, ◌≤◌, pos, ◌≤ℤ◌, true}
-use Rattle.md_flow.specs.Network.{touches}
+use Rattle.std.proofs.Common.{ℕ, ◌<◌, ◌≤◌, pos, ◌≤ℤ◌, ◌<ℤ◌}
+use Rattle.md_flow.specs.Network.{room_of}
 use Rattle.md_flow.specs.Tables.{flow_of}
 use Rattle.md_flow.proofs.search.carrier.Given as goal
 
 abbrev pub invariant-loop-node : goal.invariant-loop-node
-invariant-loop-node l = (u : ℕ) → l.from ≤ u → u < l.node → touches l.net u l.demand ≡ true → flow_of l.flow u l.before ≤ℤ pos 0
+invariant-loop-node l = (u : ℕ) → l.from ≤ u → u < l.node → flow_of l.flow u l.demand <ℤ room_of l.net u l.demand → flow_of l.flow u l.before ≤ℤ pos 0

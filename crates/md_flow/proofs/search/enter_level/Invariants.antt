@@ -1,7 +1,9 @@
 use Rattle.std.proofs.Common.{◌≡◌, ℕ, ◌<◌, true, length}
 use Rattle.md_flow.specs.Network.{node_count, demand_count}
-use Rattle.md_flow.specs.Labels.{label_at, top_of, AreLinked}
-use Rattle.md_flow.specs.Search.{entry_at, AreEntries, AreKnown}
+use Rattle.md_flow.specs.Labels.{label_at}
+use Rattle.md_flow.specs.Labels.{top_of, AreLinked}
+use Rattle.md_flow.specs.Search.{entry_at}
+use Rattle.md_flow.specs.Search.{AreEntries, AreKnown}
 use Rattle.md_flow.specs.Tables.{flow_of}
 use Rattle.md_flow.proofs.search.enter_level.Given as goal
 

@@ -1,44 +1,31 @@
 use Rattle.std.proofs.Common.{◌<◌, ◌∙◌, arith}
-use Rattle.md_flow.specs.Network.{demand_count}
 use Rattle.md_math.specs.Sets.{member}
+use Rattle.md_flow.specs.Network.{demand_count}
 use Rattle.md_flow.specs.Flows.{amount_in}
 use Rattle.md_flow.specs.Tables.{flow_of}
 use Rattle.md_flow.proofs.Worst.{IsUnreached, IsWorst-end, carried-end, Meets-end, NoneOver-meets}
 use Rattle.md_flow.proofs.Listed.{listed, listed-length, IsPartFlow-same, Meets-same, carried-same}
 use Rattle.md_flow.proofs.solving.conclude.Goals as goal
 
-pub returns-then-first_lacking-demands-clause-full : goal.returns-then-first_lacking-demands-clause-full
-returns-then-first_lacking-demands-clause-full c =
+pub returns-then-first_lacking-demands : goal.returns-then-first_lacking-demands
+returns-then-first_lacking-demands c =
     let same = listed c.args.net.now c.args.flow.now.nodes c.args.flow.now.demands (flow_of c.args.flow.now) c.in_ok-amounts.amounts c.requires.nodes c.requires.demands c.in_ok-amounts.ensures.at in
     let meets = Meets-end c.args.net.now (flow_of c.args.flow.now) c.requires.part (c.first_lacking.ensures.none (omega (arith, c.if-first_lacking-demands.true, c.demands.ensures.value))) in
-    Meets-same c.args.net.now (flow_of c.args.flow.now) (amount_in c.args.net.now c.in_ok-amounts.amounts) meets same
+    record {
+      meets = Meets-same c.args.net.now (flow_of c.args.flow.now) (amount_in c.args.net.now c.in_ok-amounts.amounts) meets same;
+      one_each = listed-length c.args.net.now c.args.flow.now.nodes c.args.flow.now.demands c.in_ok-amounts.amounts c.requires.nodes c.requires.demands c.in_ok-amounts.ensures.length;
+      none_over = NoneOver-meets c.args.net.now (flow_of c.args.flow.now) meets;
+    }
 
-pub returns-then-first_lacking-demands-clause-full_none : goal.returns-then-first_lacking-demands-clause-full_none
-returns-then-first_lacking-demands-clause-full_none c =
-    let meets = Meets-end c.args.net.now (flow_of c.args.flow.now) c.requires.part (c.first_lacking.ensures.none (omega (arith, c.if-first_lacking-demands.true, c.demands.ensures.value))) in
-    NoneOver-meets c.args.net.now (flow_of c.args.flow.now) meets
-
-pub returns-then-first_lacking-demands-clause-full_length : goal.returns-then-first_lacking-demands-clause-full_length
-returns-then-first_lacking-demands-clause-full_length c =
-    listed-length c.args.net.now c.args.flow.now.nodes c.args.flow.now.demands c.in_ok-amounts.amounts c.requires.nodes c.requires.demands c.in_ok-amounts.ensures.length
-
-pub returns-clause-cut : goal.returns-clause-cut
-returns-clause-cut c =
+pub returns : goal.returns
+returns c =
+    let same = listed c.args.net.now c.args.flow.now.nodes c.args.flow.now.demands (flow_of c.args.flow.now) c.in_ok-amounts.amounts c.requires.nodes c.requires.demands c.in_ok-amounts.ensures.at in
     let unreached : IsUnreached c.args.net.now c.args.labels.now.demands.items (member c.unreached.result) = record { is = c.unreached.ensures.members } in
     let inside : c.first_lacking.result < demand_count c.args.net.now = omega (arith, c.if-first_lacking-demands.false, c.demands.ensures.value) in
-    IsWorst-end c.args.net.now (flow_of c.args.flow.now) c.args.labels.now.nodes.items c.args.labels.now.demands.items (member c.unreached.result) c.requires.part c.requires.labels c.requires.reached c.requires.full unreached c.first_lacking.result inside (c.first_lacking.ensures.lacks inside)
-
-pub returns-clause-cut_length : goal.returns-clause-cut_length
-returns-clause-cut_length c =
-    listed-length c.args.net.now c.args.flow.now.nodes c.args.flow.now.demands c.in_ok-amounts.amounts c.requires.nodes c.requires.demands c.in_ok-amounts.ensures.length
-
-pub returns-clause-cut_part : goal.returns-clause-cut_part
-returns-clause-cut_part c =
-    let same = listed c.args.net.now c.args.flow.now.nodes c.args.flow.now.demands (flow_of c.args.flow.now) c.in_ok-amounts.amounts c.requires.nodes c.requires.demands c.in_ok-amounts.ensures.at in
-    IsPartFlow-same c.args.net.now (flow_of c.args.flow.now) (amount_in c.args.net.now c.in_ok-amounts.amounts) c.requires.part same
-
-pub returns-clause-cut_carries : goal.returns-clause-cut_carries
-returns-clause-cut_carries c =
-    let same = listed c.args.net.now c.args.flow.now.nodes c.args.flow.now.demands (flow_of c.args.flow.now) c.in_ok-amounts.amounts c.requires.nodes c.requires.demands c.in_ok-amounts.ensures.at in
-    let unreached : IsUnreached c.args.net.now c.args.labels.now.demands.items (member c.unreached.result) = record { is = c.unreached.ensures.members } in
-    carried-same c.args.net.now (flow_of c.args.flow.now) (amount_in c.args.net.now c.in_ok-amounts.amounts) same ∙ carried-end c.args.net.now (flow_of c.args.flow.now) c.args.labels.now.nodes.items c.args.labels.now.demands.items (member c.unreached.result) c.requires.part c.requires.labels c.requires.reached c.requires.full unreached
+    record {
+      worst = IsWorst-end c.args.net.now (flow_of c.args.flow.now) c.args.labels.now.nodes.items c.args.labels.now.demands.items (member c.unreached.result) c.requires.part c.requires.labels c.requires.reached c.requires.full unreached c.first_lacking.result inside (c.first_lacking.ensures.lacks inside);
+      inside = c.unreached.ensures.size;
+      one_each = listed-length c.args.net.now c.args.flow.now.nodes c.args.flow.now.demands c.in_ok-amounts.amounts c.requires.nodes c.requires.demands c.in_ok-amounts.ensures.length;
+      part = IsPartFlow-same c.args.net.now (flow_of c.args.flow.now) (amount_in c.args.net.now c.in_ok-amounts.amounts) c.requires.part same;
+      carries = carried-same c.args.net.now (flow_of c.args.flow.now) (amount_in c.args.net.now c.in_ok-amounts.amounts) same ∙ carried-end c.args.net.now (flow_of c.args.flow.now) c.args.labels.now.nodes.items c.args.labels.now.demands.items (member c.unreached.result) c.requires.part c.requires.labels c.requires.reached c.requires.full unreached;
+    }

@@ -1,6 +1,7 @@
 use Rattle.std.proofs.Common.{◌≡◌, ℕ, ◌<◌, ◌^◌, ◌==◌}
 use Rattle.md_math.specs.Sets.{member}
-use Rattle.md_flow.specs.Labels.{label_at, top_of}
+use Rattle.md_flow.specs.Labels.{label_at}
+use Rattle.md_flow.specs.Labels.{top_of}
 use Rattle.md_flow.proofs.solving.unreached.Given as goal
 
 abbrev pub invariant-loop-demand : goal.invariant-loop-demand

@@ -1,11 +1,37 @@
-use Rattle.std.proofs.Common.{◌≡◌, length, ap, ◌∙◌, arith, lit<}
+use Rattle.std.proofs.Common.{◌≡◌, ◌<◌, length, ap, ◌∙◌, subst, arith, lit<, pos, to_z, of_z, ◌+ℤ◌}
+use mir.Syntax.{w64}
 use Rattle.std.proofs.lemmas.List.{length-map}
 use Rattle.md_math.proofs.Bits.{read_result, read_short_result, read_short_within}
-use Rattle.md_space.specs.Profiles.{profile_at}
+use Rattle.md_math.proofs.Ring.{linear}
+use Rattle.md_math.specs.Lists.{number_at}
+use Rattle.md_space.specs.Profiles.{profile_at, profile_count}
 use Rattle.md_setting.specs.Setting.{written}
-use Rattle.md_setting.specs.Meaning.{sizes_of, utility_of}
+use Rattle.md_setting.specs.Meaning.{sizes_of, utility_of, outcome_count}
 use Rattle.md_setting.proofs.ValueLaws.{value_fits, value_more, value_end}
 use Rattle.md_setting.proofs.values.value_in.Goals as goal
+
+pub bounds-as_slice-outcome : goal.bounds-as_slice-outcome
+bounds-as_slice-outcome c =
+    let long : length c.as_slice.result.now ≡ outcome_count (written c.args.raw.now) = ap length c.as_slice.ensures.value ∙ c.requires.listed.values in
+    omega (arith, long, c.requires.outcome_in)
+
+pub loop-agent-init : goal.loop-agent-init
+loop-agent-init c =
+    let s = written c.args.raw.now in
+    let start : c.from-value.result ≡ number_at s.values c.args.outcome =
+    c.from-value.ensures
+    ∙ ap (λ xs. to_z w64 (of_z w64 (number_at xs c.args.outcome))) c.as_slice.ensures.value
+    ∙ read_short_within 1000000 (number_at s.values c.args.outcome) (c.requires.small.value c.args.outcome) (lit< tt) in
+    let none : number_at s.values c.args.outcome ≡ number_at s.values c.args.outcome +ℤ pos 0 = omega (arith, linear) in
+    read_result c.from-value.result c.from-value.type_inv ∙ start ∙ none
+
+pub utility_in-utility-requires-clause-agent_in : goal.utility_in-utility-requires-clause-agent_in
+utility_in-utility-requires-clause-agent_in c =
+    let s = written c.args.raw.now in
+    omega (arith, c.loop-agent-test.true, c.agents-agent-end.ensures.count, ap length c.requires.sizes, length-map s.agents (λ a. length a.types))
+
+pub utility_in-utility-requires-clause-rank_in : goal.utility_in-utility-requires-clause-rank_in
+utility_in-utility-requires-clause-rank_in c = subst (λ sizes. c.args.rank < profile_count sizes) c.requires.sizes c.requires.rank_in
 
 pub add_product-value-requires : goal.add_product-value-requires
 add_product-value-requires c =

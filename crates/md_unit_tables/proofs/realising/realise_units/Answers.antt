@@ -1,29 +1,23 @@
-use Rattle.std.proofs.Common.{◌≡◌, ◌*◌, ◌^◌, ◌<◌, length, subst}
-use Rattle.md_math.specs.Sets.{member}
-use Rattle.md_rooms.specs.Network.{node_count, demand_count}
-use Rattle.md_rooms.specs.Flows.{Meets, amount_in}
-use Rattle.md_rooms.specs.Over.{NoneOver, IsWorst}
-use Rattle.md_rooms.specs.Ends.{WhereFull, WhereCut}
+use Rattle.std.proofs.Common.{subst}
+use Rattle.md_flow.specs.Ends.{IsFull, IsEndOf}
 use Rattle.md_unit_tables.proofs.FlowLaws.{table-of_flow, implements-of_flow, border-met, worst-of_net}
 use Rattle.md_unit_tables.proofs.MechanismLaws.{mechanism-of_table, odds-of_table, pays-of_table, no_mechanism}
 use Rattle.md_unit_tables.specs.Tables.{table_of}
 use Rattle.md_unit_tables.proofs.realising.realise_units.Goals as goal
 
-meets : (c : goal.After-drop-counts-inside-in-Full) → Meets c.in_ok-net.net (amount_in c.in_ok-net.net c.in-Full.rows)
-meets c = subst (WhereFull (λ amounts. Meets c.in_ok-net.net (amount_in c.in_ok-net.net amounts))) c.in-Full.is c.in_ok-rows.ensures.full
+full : (c : goal.After-drop-counts-inside-in-Full) → IsFull c.in_ok-net.net c.in-Full.rows
+full c = subst (IsEndOf c.in_ok-net.net) c.in-Full.is c.in_ok-rows.ensures
 
 pub returns-in-Full-clause-table : goal.returns-in-Full-clause-table
 returns-in-Full-clause-table c =
-    table-of_flow c.args.auction.now c.args.units c.args.interim.now c.in_ok-net.net c.in-Full.rows c.requires.fits c.in_ok-net.ensures
-    (subst (WhereFull (λ amounts. length amounts ≡ node_count c.in_ok-net.net * demand_count c.in_ok-net.net)) c.in-Full.is c.in_ok-rows.ensures.full_length)
-    (meets c)
+    table-of_flow c.args.auction.now c.args.units c.args.interim.now c.in_ok-net.net c.in-Full.rows c.requires.fits c.in_ok-net.ensures (full c).one_each (full c).meets
 
 pub returns-in-Full-clause-odds : goal.returns-in-Full-clause-odds
-returns-in-Full-clause-odds c = implements-of_flow c.args.auction.now c.args.units c.args.interim.now c.in_ok-net.net c.in-Full.rows c.in_ok-net.ensures (meets c)
+returns-in-Full-clause-odds c = implements-of_flow c.args.auction.now c.args.units c.args.interim.now c.in_ok-net.net c.in-Full.rows c.in_ok-net.ensures (full c).meets
 
 pub returns-in-Full-clause-none_over : goal.returns-in-Full-clause-none_over
 returns-in-Full-clause-none_over c =
-    border-met c.args.auction.now c.args.units c.args.interim.now c.in_ok-net.net c.requires.fits.den_positive c.in_ok-net.ensures (subst (WhereFull (λ amounts. NoneOver c.in_ok-net.net)) c.in-Full.is c.in_ok-rows.ensures.full_none)
+    border-met c.args.auction.now c.args.units c.args.interim.now c.in_ok-net.net c.requires.fits.den_positive c.in_ok-net.ensures (full c).none_over
 
 pub returns-in-Full-clause-mechanism : goal.returns-in-Full-clause-mechanism
 returns-in-Full-clause-mechanism c = λ pays.
@@ -38,9 +32,8 @@ returns-in-Full-clause-pays c = λ pays. pays-of_table c.args.auction.now c.args
 
 pub returns-clause-violated : goal.returns-clause-violated
 returns-clause-violated c =
-    worst-of_net c.args.auction.now c.args.units c.args.interim.now c.in_ok-net.net c.in-Cut.set c.requires.fits.den_positive c.in_ok-net.ensures
-    (subst (WhereCut (λ set. set < 2 ^ demand_count c.in_ok-net.net)) c.in-Cut.is c.in_ok-rows.ensures.cut_set)
-    (subst (WhereCut (λ set. IsWorst c.in_ok-net.net (member set))) c.in-Cut.is c.in_ok-rows.ensures.cut)
+    let cut = subst (IsEndOf c.in_ok-net.net) c.in-Cut.is c.in_ok-rows.ensures in
+    worst-of_net c.args.auction.now c.args.units c.args.interim.now c.in_ok-net.net c.in-Cut.set c.requires.fits.den_positive c.in_ok-net.ensures cut.inside cut.worst
 
 pub returns-clause-necessary : goal.returns-clause-necessary
 returns-clause-necessary c = λ m mechanism odds.

@@ -1,5 +1,6 @@
 use Rattle.std.proofs.Common.{◌≡◌, ◌^◌, ◌<◌, ◌≤◌, get_or, map, to_z, of_z, arith}
 use mir.Syntax.{w128}
+use Rattle.std.proofs.lemmas.Grind.{common_steps}
 use Rattle.std.proofs.lemmas.Int.{to_z-of_z}
 use Rattle.std.proofs.lemmas.List.{map-append, length-map}
 use Rattle.md_math.specs.Sizes.{AllWithin}
@@ -52,3 +53,22 @@ divided_row-requires-clause-columns c =
     let places : HasPlaces c.self.inside.columns c.args.terms.now = c.has_places.ensures.0 c.if-not-has_places.false in
     let few : c.self.inside.columns ≤ 65536 = c.self.invariant.columns in
     λ k none b. (let below : (get_or c.args.terms.now k none).column < c.self.inside.columns = All-below c.self.inside.columns c.args.terms.now places k none b in omega arith)
+
+-- where memory ran out
+pub returns-in_err-push-clause-ok : goal.returns-in_err-push-clause-ok
+returns-in_err-push-clause-ok c = grind (arith, common_steps)
+
+pub returns-in_err-push-clause-err : goal.returns-in_err-push-clause-err
+returns-in_err-push-clause-err c = grind (arith, common_steps)
+
+pub returns-in_err-push-clause-index : goal.returns-in_err-push-clause-index
+returns-in_err-push-clause-index c = grind (arith, common_steps)
+
+pub returns-in_err-push-clause-magnitude : goal.returns-in_err-push-clause-magnitude
+returns-in_err-push-clause-magnitude c = grind (arith, common_steps)
+
+pub returns-in_err-push-clause-too_many : goal.returns-in_err-push-clause-too_many
+returns-in_err-push-clause-too_many c = grind (arith, common_steps)
+
+pub returns-in_err-push-clause-taken : goal.returns-in_err-push-clause-taken
+returns-in_err-push-clause-taken c = grind (arith, common_steps)

@@ -34,5 +34,5 @@ invariant_of-result c =
     let w = written_auction a.bidders a.values.now a.weights.now a.revenue a.welfare a.keep in
     let good : HasGoodNumbers w = rw (to_z-of_z w64 a.bidders c.ranges.bidders, to_z-of_z w64 a.revenue c.ranges.revenue, to_z-of_z w64 a.welfare c.ranges.welfare, to_z-of_z w64 a.keep c.ranges.keep) at c.in_ok-check_numbers.ensures.ok in
     rw (to_z-of_z w64 a.bidders c.ranges.bidders, to_z-of_z w64 a.revenue c.ranges.revenue, to_z-of_z w64 a.welfare c.ranges.welfare, to_z-of_z w64 a.keep c.ranges.keep)
-    (kept w c.in-Ok-copied.values.items c.in-Ok.weights.items c.in_ok-total.total good c.in-Ok-copied.ensures c.in-Ok.ensures
+    (kept w c.in-Ok-from_slice.values.items c.in-Ok.weights.items c.in_ok-total.total good c.in-Ok-from_slice.ensures.items c.in-Ok.ensures
     (subst (λ weights. weight_refusal_of (unsigned_abs a.bidders) a.values.now weights ≡ None) c.deref.ensures.value (rw (to_z-of_z w64 a.bidders c.ranges.bidders) at c.in_ok-total.ensures.ok)) (c.in_ok-total.ensures.total ∙ ap total_weight c.deref.ensures.value))

@@ -8,6 +8,11 @@ overflow_sub-result c =
     let r : Replaces c.args.self.now c.args.rank c.args.agent c.args.b = replaces _ _ _ _ c.requires.rank_in c.requires.agent_in c.requires.report_in in
     rw (c.from.ensures, c.report.ensures.value, c.stride-stride.ensures.value) r.taken
 
+pub overflow_mul-result : goal.overflow_mul-result
+overflow_mul-result c =
+    let r : Replaces c.args.self.now c.args.rank c.args.agent c.args.b = replaces _ _ _ _ c.requires.rank_in c.requires.agent_in c.requires.report_in in
+    rw (c.from.ensures, c.report.ensures.value, c.stride-stride.ensures.value) (omega (arith, r.taken, r.below, c.requires.rank_in, c.stride-stride.ensures.space.few_profiles))
+
 pub overflow_mul-result-2 : goal.overflow_mul-result-2
 overflow_mul-result-2 c =
     let r : Replaces c.args.self.now c.args.rank c.args.agent c.args.b = replaces _ _ _ _ c.requires.rank_in c.requires.agent_in c.requires.report_in in

@@ -1,9 +1,0 @@
-pub mod NetLaws
-pub mod Changes
-pub mod LabelLaws
-pub mod SearchLaws
-pub mod Bottlenecks
-pub mod Steps
-pub mod SetLaws
-pub mod Worst
-pub mod Listed
