@@ -17,6 +17,10 @@ pub data Work : Type 1 where
   one_file : (SettingFile → Bool) → (SettingFile → Saying → Type 0) → (ℕ → Type 0) → Work
   two_files : (T : Type 0) → (SettingFile → Bool) → (SettingFile → List ℕ → Result T Refusal) → (SettingFile → T → Saying → Type 0) → (ℕ → Type 0) → Work
 
+-- a command whose number is refused, before any file is read
+abbrev pub number_refused : Work
+number_refused = no_file (λ saying. saying ≡ refused refusal.Number) (λ status. status ≡ 67)
+
 -- ---- what is said of the files
 
 -- P of what was read, or the refusal

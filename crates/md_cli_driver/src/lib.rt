@@ -8,11 +8,16 @@ mod one_file;
 mod read;
 mod refusal;
 mod setting_file;
+mod status;
 mod two_files;
 
 pub use answered::Answered;
-pub use no_file::{NoFile, of_none};
+pub use no_file::{NoFile, NumberRefused, of_none};
 pub use one_file::{OneFile, of_one};
 pub use refusal::{Refusal, want_of_memory};
 pub use setting_file::{auction, general, is_auction, is_general};
+pub use status::{
+    ANSWER_REFUSED, ARGUMENT_REFUSED, DONE, INFEASIBLE, NO_MEMORY, READ_FAULT, REJECTED,
+    SETTING_REFUSED, TOO_WIDE, UNBOUNDED, UNDECIDED, USAGE, VIOLATED, WRITE_FAULT,
+};
 pub use two_files::{TwoFiles, of_two};

@@ -1,6 +1,8 @@
 //! Carrying out a command that reads no file.
-ghost use Rattle.std.specs.Prelude.{ℕ, List, Option};
+ghost use Rattle.std.specs.Prelude.{◌≡◌, ℕ, List, Option};
+ghost use Rattle.md_cli_driver.specs.Refused.{refused};
 ghost use Rattle.md_cli_driver.specs.Saying.{Saying};
+ghost use Rattle.md_cli_driver.specs.declared.refusal.Refusal.TheVariants as refusal;
 ghost use Rattle.md_cli_driver.specs.Works.{IsCarriedOut, IsWorked, no_file};
 
 use crate::answered::Answered;
@@ -25,4 +27,18 @@ pub fn of_none<C: NoFile>(alloc: Global, command: &C) -> Result<Answered, Refusa
     ensures { (setting second : List ℕ) (content : List ℕ → Option (List ℕ)) (faults : List ℕ → ℕ) → IsCarriedOut (no_file (C.says command.now) C.own) setting second content faults faults result }
 {
     command.answer(alloc)
+}
+
+/// A command with a number that it refuses. No file is looked at.
+#[derive(Drop)]
+pub struct NumberRefused;
+
+impl NoFile for NumberRefused {
+    ghost says = { λ _ saying. saying ≡ refused refusal.Number };
+
+    ghost own = { λ status. status ≡ 67 };
+
+    fn answer(&self, _alloc: Global) -> Result<Answered, Refusal> {
+        Err(Refusal::Number)
+    }
 }

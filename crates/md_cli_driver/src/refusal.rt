@@ -4,6 +4,9 @@ ghost use Rattle.md_cli_driver.specs.declared.refusal.Refusal.TheVariants.{Memor
 ghost use Rattle.md_cli_driver.specs.Refused.{answer_refused};
 ghost use Rattle.md_cli_driver.specs.Texts.{build_text, setting_text, answer_text, want_of_memory};
 
+use crate::status::{
+    ANSWER_REFUSED, ARGUMENT_REFUSED, NO_MEMORY, READ_FAULT, SETTING_REFUSED, USAGE,
+};
 use md_num::NoMemory;
 use md_parts::AnswerRefusal;
 use md_setting::BuildRefusal;
@@ -144,15 +147,16 @@ impl Refusal {
         ensures { result ≡ status_of self }
     {
         match self {
-            Refusal::Usage => 64,
+            Refusal::Usage => USAGE,
             Refusal::SettingTooLong
             | Refusal::Setting(_)
             | Refusal::OtherKind
-            | Refusal::NotASale => 65,
-            Refusal::AnswerTooLong | Refusal::Answer(_) | Refusal::NoTable => 66,
-            Refusal::Pivot(_) | Refusal::Profile | Refusal::Draw | Refusal::Number => 67,
-            Refusal::ReadFault => 70,
-            Refusal::Memory => 72,
+            | Refusal::NotASale => SETTING_REFUSED,
+            Refusal::AnswerTooLong | Refusal::Answer(_) | Refusal::NoTable => ANSWER_REFUSED,
+            Refusal::Pivot(_) | Refusal::Profile | Refusal::Draw | Refusal::Number =>
+                ARGUMENT_REFUSED,
+            Refusal::ReadFault => READ_FAULT,
+            Refusal::Memory => NO_MEMORY,
         }
     }
 

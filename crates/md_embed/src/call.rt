@@ -8,17 +8,9 @@ ghost use Rattle.md_embed.specs.Words.{words_in};
 use crate::files::Files;
 use crate::text::Text;
 use crate::words::words_of;
+use md_cli_driver::{NO_MEMORY, USAGE, WRITE_FAULT};
 use md_top::mechdes;
 use std::alloc::Global;
-
-/// The status of words that are no text.
-const NO_WORDS: u8 = 64;
-
-/// The status where there is no memory.
-const NO_MEMORY: u8 = 72;
-
-/// The status of a command whose text was not written.
-const NOT_WRITTEN: u8 = 71;
 
 /// How many bytes the texts of a call have, whatever room there was for them.
 #[repr(C)]
@@ -58,13 +50,13 @@ fn answered(alloc: Global, words: &[u8], setting: &[u8], second: &[u8]) -> Resul
     ensures silent { IfErr result (IsSilent words.now) }
 {
     let Ok(text) = str::from_utf8(words) else {
-        return Err(NO_WORDS);
+        return Err(USAGE);
     };
     let Ok(words) = words_of(alloc, text) else {
         return Err(NO_MEMORY);
     };
     let reply = carried_out(alloc, &words, setting, second);
-    if reply.status == NOT_WRITTEN {
+    if reply.status == WRITE_FAULT {
         return Err(NO_MEMORY);
     }
     Ok(reply)

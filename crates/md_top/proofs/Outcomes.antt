@@ -11,7 +11,7 @@ use Rattle.md_mech.specs.RowName.{name_of}
 use Rattle.md_cli_driver.specs.declared.refusal.Refusal.{Refusal}
 use Rattle.md_cli_driver.specs.declared.refusal.Refusal.TheVariants as refusal
 use Rattle.md_cli_driver.specs.Refused.{HasMadeLine, IsTold, refused, status_of}
-use Rattle.md_using.specs.Auditing.{IsBrokenSaying, broken_text}
+use Rattle.md_cli_judge.specs.Auditing.{IsBrokenSaying, broken_text}
 use Rattle.md_top.specs.Reply.{IsReply, IsSaidBy, IsSaidOfOrder, work_of}
 use Rattle.md_cli_driver.specs.Saying.{Saying}
 use Rattle.md_cli_driver.specs.Works.{IsCarriedOut, IsOutcome}

@@ -18,7 +18,7 @@ use Rattle.md_cli_driver.specs.Refused.{refused, status_of}
 use Rattle.md_cli_driver.specs.Reading.{is_any, setting_in}
 use Rattle.md_top.specs.Reply.{IsReply, IsSaid, IsSaidBy, IsSaidOfOrder}
 use Rattle.md_cli_driver.specs.Works.{IsSaidOf}
-use Rattle.md_solving.specs.Solving.{IsShownBy, IsSolve}
+use Rattle.md_cli_best.specs.Solving.{IsShownBy, IsSolve}
 use Rattle.md_cli_driver.specs.Saying.{IsDelivered, IsSent, Saying, SinkChange, is_answer, write_fault}
 
 below_test : (status : ℕ) → status < 64 → nat_lt status 64 ≡ true

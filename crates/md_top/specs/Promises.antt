@@ -9,7 +9,7 @@ use Rattle.md_setting.specs.declared.file.SettingFile.{SettingFile}
 use Rattle.md_cli_driver.specs.Reading.{is_any, setting_in}
 use Rattle.md_top.specs.Reply.{HasFaulted, IsReply}
 use Rattle.md_cli_driver.specs.Saying.{IsDelivered, SinkChange}
-use Rattle.md_solving.specs.Solving.{IsShownBy}
+use Rattle.md_cli_best.specs.Solving.{IsShownBy}
 
 -- ---- the headline
 

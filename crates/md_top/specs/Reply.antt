@@ -12,30 +12,30 @@ use Rattle.md_cli_driver.specs.declared.refusal.Refusal.TheVariants as refusal
 use Rattle.md_cli_driver.specs.Saying.{Saying}
 use Rattle.md_cli_driver.specs.Reading.{answer_in, is_any, is_auction, is_general}
 use Rattle.md_cli_driver.specs.Refused.{refused}
-use Rattle.md_cli_driver.specs.Works.{Work, no_file, one_file, two_files, IsReplyTo, HasFaultedIn}
-use Rattle.md_solving.specs.Headline.{IsSolveStatus}
-use Rattle.md_using.specs.Auditing.{mechanism_in, IsAudit, IsAuditStatus}
-use Rattle.md_using.specs.Listing.{IsRows, IsRowsStatus}
-use Rattle.md_solving.specs.Checking.{IsCheck, IsCheckStatus}
-use Rattle.md_solving.specs.Solving.{IsSolve}
-use Rattle.md_using.specs.Replaying.{pivots_in, IsReplay, IsReplayStatus}
-use Rattle.md_using.specs.Realising.{odds_in, IsRealise, IsRealiseStatus}
-use Rattle.md_solving.specs.Fair.{IsFair}
-use Rattle.md_using.specs.Drawing.{drawable_in, IsRun, IsRunStatus}
-use Rattle.md_using.specs.Reporting.{IsReporting, IsReportStatus}
-use Rattle.md_solving.specs.Ironing.{IsIron, IsIronStatus}
-use Rattle.md_solving.specs.Making.{IsMake, IsMakeStatus}
-use Rattle.md_solving.specs.Drilling.{IsDrill, IsDrillStatus}
-use Rattle.md_selling.specs.Selling.{IsAsym, IsAsymStatus}
-use Rattle.md_selling.specs.SellingUnits.{IsUnits, IsUnitsStatus}
-use Rattle.md_selling.specs.UnitNumbers.{is_unit_number}
-use Rattle.md_ruling.specs.Determining.{IsDeterm, IsDetermStatus}
-use Rattle.md_ruling.specs.DetermChecking.{determ_text_in, IsDetermCheck, IsDetermCheckStatus}
+use Rattle.md_cli_driver.specs.Works.{Work, no_file, one_file, two_files, number_refused, IsReplyTo, HasFaultedIn}
+use Rattle.md_cli_best.specs.Headline.{IsSolveStatus}
+use Rattle.md_cli_judge.specs.Auditing.{mechanism_in, IsAudit, IsAuditStatus}
+use Rattle.md_cli_tell.specs.Listing.{IsRows, IsRowsStatus}
+use Rattle.md_cli_judge.specs.Checking.{IsCheck, IsCheckStatus}
+use Rattle.md_cli_best.specs.Solving.{IsSolve}
+use Rattle.md_cli_tell.specs.Replaying.{pivots_in, IsReplay, IsReplayStatus}
+use Rattle.md_cli_tell.specs.Realising.{odds_in, IsRealise, IsRealiseStatus}
+use Rattle.md_cli_best.specs.Fair.{IsFair}
+use Rattle.md_cli_tell.specs.Drawing.{drawable_in, IsRun, IsRunStatus}
+use Rattle.md_cli_tell.specs.Reporting.{IsReporting, IsReportStatus}
+use Rattle.md_cli_best.specs.Ironing.{IsIron, IsIronStatus}
+use Rattle.md_cli_best.specs.Making.{IsMake, IsMakeStatus}
+use Rattle.md_cli_best.specs.Drilling.{IsDrill, IsDrillStatus}
+use Rattle.md_cli_best.specs.Selling.{IsAsym, IsAsymStatus}
+use Rattle.md_cli_best.specs.SellingUnits.{IsUnits, IsUnitsStatus}
+use Rattle.md_cli_best.specs.UnitNumbers.{is_unit_number}
+use Rattle.md_cli_best.specs.Determining.{IsDeterm, IsDetermStatus}
+use Rattle.md_cli_judge.specs.DetermChecking.{determ_text_in, IsDetermCheck, IsDetermCheckStatus}
 
 -- So many units are sold to the bidders of an auction, where so many may be sold. Else the number is refused, and no file is read.
 abbrev pub units_work_by : Bool → ℕ → ℕ → Work
 units_work_by true units width = one_file is_auction (IsUnits units width) IsUnitsStatus
-units_work_by false units width = no_file (λ saying. saying ≡ refused refusal.Number) (λ status. status ≡ 67)
+units_work_by false units width = number_refused
 
 abbrev pub units_work : ℤ → ℕ → Work
 units_work number width = units_work_by (is_unit_number number) (unsigned_abs number) width

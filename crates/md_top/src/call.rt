@@ -10,7 +10,7 @@ ghost use Rattle.md_cli_driver.specs.declared.refusal.Refusal.{Refusal};
 
 use crate::run::run;
 use crate::send::send;
-use md_cli_driver::{Refusal, want_of_memory};
+use md_cli_driver::{NO_MEMORY, Refusal, want_of_memory};
 use md_cli_words::{Order, order_of};
 use md_ports::{Shelf, Sink};
 use std::alloc::Global;
@@ -98,6 +98,6 @@ fn say_refusal<E: Sink>(alloc: Global, refusal: Refusal, err: &mut E) -> u8
     }
     match refusal.made_line(alloc) {
         Ok(line) => send(err, refusal.status(), line.as_bytes()),
-        Err(_) => send(err, 72, want_of_memory().as_bytes()),
+        Err(_) => send(err, NO_MEMORY, want_of_memory().as_bytes()),
     }
 }

@@ -4,14 +4,13 @@ ghost use Rattle.md_cli_words.specs.Orders.{asked};
 ghost use Rattle.md_top.specs.Reply.{units_work, work_of};
 ghost use Rattle.md_cli_driver.specs.Works.{IsCarriedOut};
 
-use md_cli_driver::{Answered, Refusal, of_none, of_one, of_two};
+use md_cli_best::{Asym, Determ, Drill, Fair, Iron, Make, Solve, UnitNumber, Units};
+use md_cli_driver::{Answered, NumberRefused, Refusal, of_none, of_one, of_two};
+use md_cli_judge::{Audit, Check, DetermCheck};
+use md_cli_tell::{Draw, Realise, Replay, Rows, Tell};
 use md_cli_words::{Command, Order};
 use md_num::Width;
 use md_ports::Shelf;
-use md_ruling::{Determ, DetermCheck};
-use md_selling::{Asym, UnitNumber, Units, UnitsRefused};
-use md_solving::{Check, Drill, Fair, Iron, Make, Solve};
-use md_using::{Audit, Draw, Realise, Replay, Rows, Tell};
 use std::alloc::Global;
 
 /// Carries a command out.
@@ -71,6 +70,6 @@ fn sell_units<F: Shelf>(
 {
     match UnitNumber::new(number) {
         Some(units) => of_one(alloc, &Units { units, width }, setting, shelf),
-        None => of_none(alloc, &UnitsRefused),
+        None => of_none(alloc, &NumberRefused),
     }
 }

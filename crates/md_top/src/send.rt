@@ -2,10 +2,8 @@
 ghost use Rattle.std.specs.Prelude.{◌≢◌};
 ghost use Rattle.md_cli_driver.specs.Saying.{IsSent, write_fault};
 
+use md_cli_driver::WRITE_FAULT;
 use md_ports::Sink;
-
-/// The status of a call that could not write its text.
-const WRITE_FAULT: u8 = 71;
 
 /// Writes a text by one call of the sink, and gives the status to end with.
 pub(crate) fn send<S: Sink>(sink: &mut S, status: u8, text: &[u8]) -> u8

@@ -1,0 +1,114 @@
+-- What the answer of the fair program shows, by its kind.
+use Rattle.std.proofs.Common.{◌≡◌, ◌≢◌, ◌↔◌, ℕ, List, inl, inr, arith}
+use Rattle.md_setting.specs.Setting.{GeneralSetting}
+use Rattle.md_lp.specs.Program.{Program}
+use Rattle.md_lp.specs.declared.pivot.Pivot.{Pivot}
+use Rattle.md_lp.specs.declared.wide.Wide.{Wide}
+use Rattle.md_mech.specs.Admissible.{IsAdmissible}
+use Rattle.md_mech.specs.Optimal.{IsInfeasible}
+use Rattle.md_simplex.specs.declared.order.Order.{Order}
+use Rattle.md_simplex.specs.declared.order.Order.TheVariants.{Forward, Backward}
+use Rattle.md_simplex.specs.declared.simplex_error.SimplexError.TheVariants as errors
+use Rattle.md_simplex.specs.declared.step.Step.{Step}
+use Rattle.md_simplex.specs.declared.step.Step.TheVariants as steps
+use Rattle.md_simplex.specs.Runs.{IsLeft, IsTaken, MeetsWideBasis}
+use Rattle.md_fair.specs.declared.fair_answer.FairAnswer.{FairAnswer}
+use Rattle.md_fair.specs.declared.fair_answer.FairAnswer.TheVariants.{Optimal, Infeasible, Unbounded}
+use Rattle.md_fair.specs.Answered.{ClaimsEnd, ClaimsInfeasible, WhereInfeasible, WhereOptimal, WhereUnbounded}
+use Rattle.md_fair.specs.Certifies.{IsCertifiedAnswer}
+use Rattle.md_fair.specs.FairProgram.{IsFairProgram}
+use Rattle.md_fair.specs.Fairest.{GrowsFair, IsOptimalFair}
+use Rattle.md_fair.specs.Least.{IsLeastValueOf}
+use Rattle.md_fair.specs.Shown.{IsSo}
+use Rattle.md_fair.specs.Solved.{IsFairlySolved, IsFairlyWide}
+use Rattle.md_cli_best.specs.Fair.{IsFairSaying, status_of_fair, text_of_fair, text_of_wide}
+use Rattle.md_cli_best.specs.Headline.{IsEndStatus}
+use Rattle.md_cli_driver.specs.Saying.{Saying}
+
+-- what is known of an answer: what it claims is so, and it tells what the paths come to
+pub record IsShownFair (s : GeneralSetting) (width : ℕ) (answer : FairAnswer) : Type 0 where
+  pub solved : IsFairlySolved s width answer
+  pub only : (other : FairAnswer) → IsFairlySolved s width other → answer ≡ other
+  pub optimal : WhereOptimal (λ value mechanism bound. IsOptimalFair s mechanism) answer
+  pub value : WhereOptimal (λ value mechanism bound. IsLeastValueOf s mechanism value) answer
+  pub infeasible : WhereInfeasible (λ face. IsInfeasible s) answer
+  pub unbounded : WhereUnbounded (GrowsFair s) answer
+  pub admissible : WhereUnbounded (λ mechanism ray. IsAdmissible s mechanism) answer
+  pub certified : (p : Program) → IsFairProgram s p → IsCertifiedAnswer s p answer
+  pub wide : (p : Program) → IsFairProgram s p → MeetsWideBasis Forward p width → MeetsWideBasis Backward p width → ⊥
+  pub taken : (p : Program) (order : Order) (pivots : List Pivot) (step : Step) → IsFairProgram s p → IsTaken order p width pivots step → ClaimsEnd step answer
+  pub none : ClaimsInfeasible answer ↔ IsInfeasible s
+
+-- the claim is so
+so : (s : GeneralSetting) (width : ℕ) (answer : FairAnswer) → IsShownFair s width answer → IsSo s answer
+so s width (Optimal value m bound) h = (h.optimal, h.value)
+so s width (Infeasible face) h = h.infeasible
+so s width (Unbounded m ray) h = h.unbounded
+
+-- the status tells the end of the path
+end-status : (status : ℕ) (answer : FairAnswer) → status ≡ status_of_fair answer → (step : Step) → ClaimsEnd step answer → IsEndStatus step status
+end-status status (Optimal value m bound) is steps.Optimal h = is
+end-status status (Optimal value m bound) is steps.Infeasible h = absurd h
+end-status status (Optimal value m bound) is (steps.Unbounded column) h = absurd h
+end-status status (Optimal value m bound) is (steps.Pivot pivot) h = absurd h
+end-status status (Infeasible face) is steps.Optimal h = absurd h
+end-status status (Infeasible face) is steps.Infeasible h = is
+end-status status (Infeasible face) is (steps.Unbounded column) h = absurd h
+end-status status (Infeasible face) is (steps.Pivot pivot) h = absurd h
+end-status status (Unbounded m ray) is steps.Optimal h = absurd h
+end-status status (Unbounded m ray) is steps.Infeasible h = absurd h
+end-status status (Unbounded m ray) is (steps.Unbounded column) h = is
+end-status status (Unbounded m ray) is (steps.Pivot pivot) h = absurd h
+
+-- it is 10 exactly where no mechanism is admissible
+none-status : (s : GeneralSetting) (status : ℕ) (answer : FairAnswer) → status ≡ status_of_fair answer → ClaimsInfeasible answer ↔ IsInfeasible s
+    → (status ≡ 10) ↔ IsInfeasible s
+none-status s status (Optimal value m bound) is h = (λ other. absurd (omega (arith, is, other)), λ none. absurd (h.1 none))
+none-status s status (Infeasible face) is h = (λ _. h.0 tt, λ _. is)
+none-status s status (Unbounded m ray) is h = (λ other. absurd (omega (arith, is, other)), λ none. absurd (h.1 none))
+
+-- an answer
+pub of_answer : (s : GeneralSetting) (width : ℕ) (saying : Saying) (answer : FairAnswer) → IsShownFair s width answer
+    → saying.status ≡ status_of_fair answer → saying.text ≡ text_of_fair s answer → IsFairSaying s width saying
+of_answer s width saying answer h is text =
+    record {
+      told = inl (record {
+        answer = answer;
+        solved = h.solved;
+        only = h.only;
+        shows = so s width answer h;
+        admissible = h.admissible;
+        certified = h.certified;
+        status = is;
+        text = text;
+      });
+      wide = λ p program forward backward. absurd (h.wide p program forward backward);
+      taken = λ p order pivots step program way. end-status saying.status answer is step (h.taken p order pivots step program way);
+      none = λ _. none-status s saying.status answer is h.none;
+    }
+
+-- no error but want of memory is that
+not_memory : (first second : Wide) → errors.TooWide first second ≢ errors.Memory
+not_memory first second same = let e = same in cc
+
+-- both paths have a wide basis, so that none is taken
+pub of_wide : (s : GeneralSetting) (width : ℕ) (saying : Saying) (first second : Wide)
+    → IsFairlyWide s width first second
+    → ((p : Program) → IsFairProgram s p → IsLeft p width (errors.TooWide first second))
+    → ((p : Program) (order : Order) (pivots : List Pivot) (step : Step) → IsFairProgram s p → IsTaken order p width pivots step → errors.TooWide first second ≡ errors.Memory)
+    → saying.status ≡ 12 → saying.text ≡ text_of_wide first second → IsFairSaying s width saying
+of_wide s width saying first second wide left taken is text =
+    record {
+      told = inr (record {
+        first = first;
+        second = second;
+        wide = wide;
+        forward = λ p program. (left p program).0;
+        backward = λ p program. (left p program).1;
+        status = is;
+        text = text;
+      });
+      wide = λ p program forward backward. is;
+      taken = λ p order pivots step program way. absurd (not_memory first second (taken p order pivots step program way));
+      none = λ other. absurd (other is);
+    }

@@ -1,0 +1,10 @@
+pub mod Headlines
+pub mod AuctionHeadlines
+pub mod Fairest
+pub mod Drilled
+pub mod Closed
+pub mod Writable
+pub mod Sold
+pub mod Joined
+pub mod UnitsWritable
+pub mod UnitsSold

@@ -1,0 +1,38 @@
+-- What `iron` says of an auction.
+use Rattle.std.specs.Prelude.{◌≡◌, ◌⊎◌, ℕ, List}
+use Rattle.md_setting.specs.Auction.{SymmetricAuction}
+use Rattle.md_setting.specs.declared.file.SettingFile.{SettingFile}
+use Rattle.md_setting.specs.declared.file.SettingFile.TheVariants.{General, Auction}
+use Rattle.md_iron.specs.ClosedForms.{HasLongMultipliers, IsClosedForm, IsOneForm}
+use Rattle.md_cli_best.specs.AuctionHeadline.{PrintsAuctionOptimal}
+use Rattle.md_cli_driver.specs.Saying.{Saying}
+use Rattle.md_cli_judge.specs.Verdicts.{undecided_text}
+
+-- an answer whose mechanism is optimal and which the checker finds valid; it is that of the pools that the rule names, and no other
+-- value, odds, payments and cuts are
+pub record PrintsClosedForm (a : SymmetricAuction) (text : List ℕ) : Type 0 where
+  pub prints : PrintsAuctionOptimal a text
+  pub closed : IsClosedForm a prints.value prints.interim prints.masses prints.cuts prints.bound
+  pub one : IsOneForm a prints.value prints.interim prints.cuts
+
+-- An answer with 0; or that nothing is answered with 22, and then the multipliers that certify the pools that the rule names have
+-- more than 62 bits over each denominator.
+pub record IsClosed (a : SymmetricAuction) (saying : Saying) : Type 0 where
+  pub status : saying.status ≡ 0
+  pub shows : PrintsClosedForm a saying.text
+
+pub record IsUndecided (a : SymmetricAuction) (saying : Saying) : Type 0 where
+  pub status : saying.status ≡ 22
+  pub text : saying.text ≡ undecided_text
+  pub long : HasLongMultipliers a
+
+abbrev pub IsIroning : SymmetricAuction → Saying → Type 0
+IsIroning a saying = IsClosed a saying ⊎ IsUndecided a saying
+
+abbrev pub IsIron : SettingFile → Saying → Type 0
+IsIron (General s) saying = ⊥
+IsIron (Auction a) saying = IsIroning a saying
+
+-- the statuses of what is answered
+abbrev pub IsIronStatus : ℕ → Type 0
+IsIronStatus status = (status ≡ 0) ⊎ (status ≡ 22)

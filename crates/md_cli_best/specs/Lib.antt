@@ -1,0 +1,15 @@
+pub mod Headline
+pub mod AuctionHeadline
+pub mod Solving
+pub mod Fair
+pub mod Ironing
+pub mod Numbers
+pub mod Making
+pub mod Drilling
+pub mod WideTexts
+pub mod SaleTexts
+pub mod Selling
+pub mod UnitNumbers
+pub mod UnitTexts
+pub mod SellingUnits
+pub mod Determining

@@ -1,0 +1,76 @@
+-- What `asym` says of a general setting: the best mechanism of a sale, or that the setting is none.
+use Rattle.std.specs.Prelude.{◌≡◌, ◌⊎◌, ℕ, List, codes}
+use Rattle.md_setting.specs.Setting.{GeneralSetting}
+use Rattle.md_setting.specs.ByKind.{WhereGeneral}
+use Rattle.md_setting.specs.declared.file.SettingFile.{SettingFile}
+use Rattle.md_lp.specs.declared.wide.Wide.{Wide}
+use Rattle.md_mech.specs.Optimal.{IsOptimal}
+use Rattle.md_mech.specs.Value.{IsValueOf}
+use Rattle.md_cuts.specs.CutRuns.{EndsSettled, EndsWide}
+use Rattle.md_cuts.specs.declared.optimum.Optimum.{Optimum}
+use Rattle.md_asym_sale.specs.Sale.{IsSale}
+use Rattle.md_asym_tables.specs.Odds.{AreOdds, HasOdds, HasPays}
+use Rattle.md_asym_tables.specs.Tables.{IsProfileTable, Implements}
+use Rattle.md_asym.specs.SaleCuts.{sale_cutting}
+use Rattle.md_asym.specs.Solved.{IsSolvedSale, mechanism_in}
+use Rattle.md_asym.specs.declared.asym_answer.AsymAnswer.{AsymAnswer}
+use Rattle.md_cli_driver.specs.declared.refusal.Refusal.TheVariants as refusal
+use Rattle.md_cli_driver.specs.Refused.{refused}
+use Rattle.md_cli_driver.specs.Saying.{Saying}
+use Rattle.md_cli_best.specs.SaleTexts.{text_of_sale}
+use Rattle.md_cli_best.specs.WideTexts.{text_of_wide}
+
+-- ---- a sale
+
+-- The cut run of the sale ends with this answer. At each profile its masses add to at most the weight of the profile, and those
+-- of each pair to its demand. The mechanism of the masses, in which each bidder pays by its type, has the odds and payments and
+-- the value, and no admissible mechanism of the setting, of any denominator, has a greater objective.
+pub record IsSoldBest (s : GeneralSetting) (width : ℕ) (saying : Saying) : Type 0 where
+  pub answer : AsymAnswer
+  pub solved : IsSolvedSale s width answer
+  pub fits : AreOdds s answer.den answer.odds
+  pub table : IsProfileTable s answer.den answer.masses
+  pub implements : Implements s answer.odds answer.masses
+  pub optimal : IsOptimal s (mechanism_in s answer)
+  pub odds : HasOdds s (mechanism_in s answer) answer.den answer.odds
+  pub pays : HasPays s (mechanism_in s answer) answer.den answer.pays
+  pub value : IsValueOf s (mechanism_in s answer) answer.value
+  pub status : saying.status ≡ 0
+  pub text : saying.text ≡ text_of_sale s answer
+
+-- the cut run comes to a program each path of which has a wide basis: these are its cuts and the first such bases
+pub record IsSoldTooWide (s : GeneralSetting) (width : ℕ) (saying : Saying) : Type 0 where
+  pub cuts : List ℕ
+  pub first : Wide
+  pub second : Wide
+  pub wide : EndsWide (sale_cutting s) width cuts first second
+  pub status : saying.status ≡ 12
+  pub text : saying.text ≡ text_of_wide (codes "asym") cuts first second
+
+-- An answer, or that there is none within the width. There is one cut run, and the status tells how it ends.
+pub record IsSelling (s : GeneralSetting) (width : ℕ) (saying : Saying) : Type 0 where
+  pub told : IsSoldBest s width saying ⊎ IsSoldTooWide s width saying
+  pub settled : (cuts : List ℕ) (optimum : Optimum) → EndsSettled (sale_cutting s) width cuts optimum → saying.status ≡ 0
+  pub wide : (cuts : List ℕ) (first second : Wide) → EndsWide (sale_cutting s) width cuts first second → saying.status ≡ 12
+
+-- ---- a setting
+
+-- a sale, and what is said of it
+pub record IsSold (s : GeneralSetting) (width : ℕ) (saying : Saying) : Type 0 where
+  pub sale : IsSale s
+  pub selling : IsSelling s width saying
+
+-- none, which is refused
+pub record IsNoSale (s : GeneralSetting) (saying : Saying) : Type 0 where
+  pub no_sale : ¬ IsSale s
+  pub said : saying ≡ refused refusal.NotASale
+
+abbrev pub IsAsymOf : ℕ → GeneralSetting → Saying → Type 0
+IsAsymOf width s saying = IsSold s width saying ⊎ IsNoSale s saying
+
+abbrev pub IsAsym : ℕ → SettingFile → Saying → Type 0
+IsAsym width file saying = WhereGeneral (λ s. IsAsymOf width s saying) file
+
+-- the statuses of what is answered of a sale
+abbrev pub IsAsymStatus : ℕ → Type 0
+IsAsymStatus status = (status ≡ 0) ⊎ (status ≡ 12)

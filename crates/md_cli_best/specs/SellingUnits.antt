@@ -1,0 +1,60 @@
+-- What `units` says of an auction of several units, of which each bidder wants one: the best mechanism, within a width.
+use Rattle.std.specs.Prelude.{◌≡◌, ◌⊎◌, ℕ, List, codes}
+use Rattle.md_setting.specs.Auction.{SymmetricAuction}
+use Rattle.md_setting.specs.ByKind.{WhereAuction}
+use Rattle.md_setting.specs.declared.file.SettingFile.{SettingFile}
+use Rattle.md_lp.specs.declared.wide.Wide.{Wide}
+use Rattle.md_mech.specs.Optimal.{IsOptimal}
+use Rattle.md_mech.specs.Value.{IsValueOf}
+use Rattle.md_border.specs.Odds.{IsInterim}
+use Rattle.md_cuts.specs.CutRuns.{EndsSettled, EndsWide}
+use Rattle.md_cuts.specs.declared.optimum.Optimum.{Optimum}
+use Rattle.md_unit_laws.specs.Odds.{HasUnitOdds, HasUnitPays}
+use Rattle.md_unit_laws.specs.Setting.{units_of}
+use Rattle.md_unit_tables.specs.Tables.{ImplementsUnits, IsUnitTable, table_of}
+use Rattle.md_units.specs.Solved.{IsSolvedUnits, mechanism_in}
+use Rattle.md_units.specs.UnitCuts.{unit_cutting}
+use Rattle.md_units.specs.declared.units_answer.UnitsAnswer.{UnitsAnswer}
+use Rattle.md_cli_driver.specs.Saying.{Saying}
+use Rattle.md_cli_best.specs.UnitTexts.{text_of_units}
+use Rattle.md_cli_best.specs.WideTexts.{text_of_wide}
+
+-- The cut run of the units ends with this answer. At each list of counts its masses add to at most the weight of the profiles
+-- with the counts, times the units, and those of each value to at most one unit for each bidder with it; over all counts they
+-- add to its demand. The mechanism of the masses, in which each bidder pays by its value, has the odds and payments and the
+-- value, and no admissible mechanism of the units, of any denominator, has a greater objective, be it one that treats bidders
+-- with the same value differently.
+pub record IsSoldInUnits (a : SymmetricAuction) (units width : ℕ) (saying : Saying) : Type 0 where
+  pub answer : UnitsAnswer
+  pub solved : IsSolvedUnits a units width answer
+  pub fits : IsInterim a answer.interim
+  pub table : IsUnitTable a units (table_of answer.interim answer.masses)
+  pub implements : ImplementsUnits a answer.interim answer.masses
+  pub optimal : IsOptimal (units_of a units) (mechanism_in a units answer)
+  pub odds : HasUnitOdds a units (mechanism_in a units answer) answer.interim.den answer.interim.odds
+  pub pays : HasUnitPays a units (mechanism_in a units answer) answer.interim.den answer.interim.pays
+  pub value : IsValueOf (units_of a units) (mechanism_in a units answer) answer.value
+  pub status : saying.status ≡ 0
+  pub text : saying.text ≡ text_of_units a answer
+
+-- the cut run comes to a program each path of which has a wide basis: these are its cuts and the first such bases
+pub record IsUnitsTooWide (a : SymmetricAuction) (units width : ℕ) (saying : Saying) : Type 0 where
+  pub cuts : List ℕ
+  pub first : Wide
+  pub second : Wide
+  pub wide : EndsWide (unit_cutting a units) width cuts first second
+  pub status : saying.status ≡ 12
+  pub text : saying.text ≡ text_of_wide (codes "units") cuts first second
+
+-- An answer, or that there is none within the width. There is one cut run, and the status tells how it ends.
+pub record IsUnitSelling (a : SymmetricAuction) (units width : ℕ) (saying : Saying) : Type 0 where
+  pub told : IsSoldInUnits a units width saying ⊎ IsUnitsTooWide a units width saying
+  pub settled : (cuts : List ℕ) (optimum : Optimum) → EndsSettled (unit_cutting a units) width cuts optimum → saying.status ≡ 0
+  pub wide : (cuts : List ℕ) (first second : Wide) → EndsWide (unit_cutting a units) width cuts first second → saying.status ≡ 12
+
+abbrev pub IsUnits : ℕ → ℕ → SettingFile → Saying → Type 0
+IsUnits units width file saying = WhereAuction (λ a. IsUnitSelling a units width saying) file
+
+-- the statuses of what is answered of an auction
+abbrev pub IsUnitsStatus : ℕ → Type 0
+IsUnitsStatus status = (status ≡ 0) ⊎ (status ≡ 12)

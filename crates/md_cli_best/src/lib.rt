@@ -1,0 +1,26 @@
+//! The commands that find a best mechanism. `make` and `drill` have settings by numbers.
+#![tactic(auto)]
+
+mod asym;
+mod asym_text;
+mod determ;
+mod drill;
+mod fair;
+mod fair_text;
+mod iron;
+mod make;
+mod solve;
+mod unit_number;
+mod units;
+mod units_text;
+mod wide_text;
+
+pub use asym::Asym;
+pub use determ::Determ;
+pub use drill::Drill;
+pub use fair::Fair;
+pub use iron::Iron;
+pub use make::Make;
+pub use solve::Solve;
+pub use unit_number::UnitNumber;
+pub use units::Units;

@@ -1,0 +1,4 @@
+pub mod VerdictRows
+pub mod DetermRows
+pub mod CheckedTexts
+pub mod AuditedRows

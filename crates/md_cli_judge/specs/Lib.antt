@@ -1,0 +1,5 @@
+pub mod Verdicts
+pub mod Checking
+pub mod DetermVerdicts
+pub mod DetermChecking
+pub mod Auditing

@@ -1,0 +1,13 @@
+//! The commands that judge: whether what an answer claims is so, and whether a mechanism meets all conditions of a setting.
+#![tactic(auto)]
+
+mod answer_text;
+mod audit;
+mod check;
+mod determ_check;
+mod records;
+
+pub use answer_text::AnswerText;
+pub use audit::Audit;
+pub use check::Check;
+pub use determ_check::DetermCheck;

@@ -1,0 +1,4 @@
+pub mod PairLaws
+pub mod RowRecords
+pub mod Profiles
+pub mod Judged

@@ -1,2 +1,0 @@
-pub mod BrokenRows
-pub mod CheckedTexts

@@ -1,6 +1,0 @@
-pub mod Headlines
-pub mod AuctionHeadlines
-pub mod Fairest
-pub mod VerdictRows
-pub mod Drilled
-pub mod Closed

@@ -1,3 +1,0 @@
-pub mod Profiles
-pub mod BrokenRows
-pub mod Judged

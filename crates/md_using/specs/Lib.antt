@@ -1,6 +1,0 @@
-pub mod Auditing
-pub mod Listing
-pub mod Replaying
-pub mod Realising
-pub mod Drawing
-pub mod Reporting
