@@ -16,8 +16,8 @@ use Rattle.md_mech.specs.Value.{IsValueOf}
 use Rattle.md_lp.specs.Program.{Program}
 use Rattle.md_cert.specs.Claims.{IsOptimalPoint}
 use Rattle.md_cert.proofs.Duality.{optimal-claim}
-use Rattle.md_cuts.specs.declared.optimum.Optimum.{Optimum}
-use Rattle.md_cuts.specs.CutRuns.{EndsSettled, IsShownBy}
+use Rattle.md_cut_runs.specs.declared.optimum.Optimum.{Optimum}
+use Rattle.md_cut_runs.specs.CutRuns.{EndsSettled, IsShownBy}
 use Rattle.md_asym_sale.specs.Forms.{pay_in}
 use Rattle.md_asym_sale.specs.Sale.{IsSale}
 use Rattle.md_asym_sale.specs.Values.{pairs_of}

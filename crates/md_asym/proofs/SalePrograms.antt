@@ -1,5 +1,5 @@
 -- The programs of a sale are what a cut run goes over.
-use Rattle.std.proofs.Common.{◌≡◌, ℕ, ◌<◌, ℤ, pos, ◌-ℤ◌, ◌*ℤ◌, ◌≤ℤ◌, ◌<ℤ◌, List, length, sym, ap, ◌∙◌, subst, arith}
+use Rattle.std.proofs.Common.{◌≡◌, ℕ, ◌<◌, ℤ, pos, ◌-ℤ◌, ◌*ℤ◌, ◌≤ℤ◌, ◌<ℤ◌, List, length, refl, sym, ap, ◌∙◌, subst, arith}
 use Rattle.std.proofs.lemmas.Int.{ints}
 use Rattle.md_math.specs.Lists.{list_to, number_at}
 use Rattle.md_math.specs.Sizes.{IsWithin, AllWithin}
@@ -8,18 +8,11 @@ use Rattle.md_math.proofs.Ring.{linear}
 use Rattle.md_math.proofs.SizeLaws.{AllWithin-number_at, IsWithin-difference}
 use Rattle.md_setting.specs.Setting.{GeneralSetting}
 use Rattle.md_setting.specs.Shaped.{IsShaped}
-use Rattle.md_lp.specs.Program.{Program}
-use Rattle.md_lp.proofs.SamePrograms.{IsSameProgram}
-use Rattle.md_cert.specs.Fitting.{Fits, FitsBound, FitsColumns, FitsRows}
-use Rattle.md_cert.specs.declared.bound.Bound.{Bound}
-use Rattle.md_cert.specs.declared.certificate.Certificate.{Certificate}
-use Rattle.md_cert.specs.declared.certificate.Certificate.TheVariants.{Optimal, Infeasible, Unbounded}
-use Rattle.md_cert.proofs.SameCertificates.{certified-same}
-use Rattle.md_simplex.proofs.SamePaths.{first_wide-same}
-use Rattle.md_simplex.proofs.SameRuns.{run-same}
+use Rattle.md_lp.proofs.WorstLaws.{worst-same, none_over-same}
 use Rattle.md_mech.specs.Accepted.{number_limit}
-use Rattle.md_cuts.specs.Cutting.{IsCutPoint, IsCutting, IsShownOf}
-use Rattle.md_cuts.specs.Worst.{IsWorst, NoneOver}
+use Rattle.md_cut_runs.specs.Cutting.{IsCutPoint, IsCutting}
+use Rattle.md_cut_runs.specs.Worst.{IsWorst, NoneOver}
+use Rattle.md_cut_runs.proofs.OneProgram.{shown-of}
 use Rattle.md_asym_sale.specs.Forms.{pay_in}
 use Rattle.md_asym_sale.specs.ProgramOf.{column_count}
 use Rattle.md_asym_sale.specs.Sale.{IsSale}
@@ -32,35 +25,6 @@ use Rattle.md_asym_laws.proofs.OddsLaws.{listed-demands}
 use Rattle.md_asym_laws.proofs.PointLaws.{odds-at_most, odds-nonneg}
 use Rattle.md_asym_tables.specs.Odds.{AreOdds, IsWorstSet, MeetsBorder, excess_of}
 use Rattle.md_asym.specs.SaleCuts.{odds_in, pays_in, sale_cutting}
-
--- ---- one program
-
-module _ (p q : Program) (same : IsSameProgram p q) where
-  columns-same : (numbers : List ℤ) → FitsColumns p numbers → FitsColumns q numbers
-  columns-same numbers f = record {
-    one_each = f.one_each ∙ same.columns;
-    sizes = f.sizes;
-    nonneg = λ j l. f.nonneg j (subst (λ n. j < n) (sym same.columns) l);
-  }
-
-  rows-same : (numbers : List ℤ) → FitsRows p numbers → FitsRows q numbers
-  rows-same numbers f = record { one_each = f.one_each ∙ same.rows; sizes = f.sizes }
-
-  bound-same : (bound : Bound) → FitsBound p bound → FitsBound q bound
-  bound-same bound f = record { den = f.den; main = rows-same bound.main f.main; face = rows-same bound.face f.face }
-
-  fits-same : (c : Certificate) → Fits p c → Fits q c
-  fits-same (Optimal den point bound) f = (f.0, columns-same point f.1, bound-same bound f.2)
-  fits-same (Infeasible face) f = rows-same face f
-  fits-same (Unbounded den point ray) f = (f.0, columns-same point f.1, columns-same ray f.2)
-
-  shown-of : IsShownOf p q
-  shown-of = record {
-    run = run-same p q same;
-    wide = λ order width wide h. first_wide-same p q same order width wide.path wide.entry h;
-    certified = certified-same p q same;
-    fits = fits-same;
-  }
 
 -- ---- the cutting
 
@@ -126,15 +90,7 @@ excess-listed : (s : GeneralSetting) (den : ℤ) (x : ℕ → ℤ) (set : ℕ) �
 excess-listed s den x set = ap (λ d. d -ℤ den *ℤ right_of s set) (listed-demands s x set)
 
 pub worst-of : (s : GeneralSetting) (den : ℤ) (x : ℕ → ℤ) (set : ℕ) → IsWorstSet s den (odds_in s x) set → IsWorst (sale_cutting s) den x set
-worst-of s den x set h = record {
-  inside = h.inside;
-  positive = subst (λ z. pos 0 <ℤ z) (excess-listed s den x set) h.positive;
-  greatest = λ other b. subst (λ z. z ≤ℤ excess set) (excess-listed s den x other) (subst (λ z. excess_of s den (odds_in s x) other ≤ℤ z) (excess-listed s den x set) (h.greatest other b));
-  largest = λ other b e. h.largest other b (excess-listed s den x other ∙ e ∙ sym (excess-listed s den x set));
-}
-  where
-    excess : ℕ → ℤ
-    excess other = demands_in s x other -ℤ den *ℤ right_of s other
+worst-of s den x set = worst-same (pairs_of s) (pairs_of s) (excess_of s den (odds_in s x)) (λ other. demands_in s x other -ℤ den *ℤ right_of s other) set refl (excess-listed s den x)
 
 pub none-over : (s : GeneralSetting) (den : ℤ) (x : ℕ → ℤ) → MeetsBorder s den (odds_in s x) → NoneOver (sale_cutting s) den x
-none-over s den x h = record { none_over = λ set b. subst (λ z. z ≤ℤ pos 0) (excess-listed s den x set) (h.none_over set b) }
+none-over s den x = none_over-same (pairs_of s) (pairs_of s) (excess_of s den (odds_in s x)) (λ set. demands_in s x set -ℤ den *ℤ right_of s set) refl (excess-listed s den x)

@@ -4,7 +4,7 @@ use Rattle.md_math.specs.Lists.{list_to}
 use Rattle.md_math.specs.Sizes.{AllWithin}
 use Rattle.md_setting.specs.Setting.{GeneralSetting}
 use Rattle.md_mech.specs.Accepted.{number_limit}
-use Rattle.md_cuts.specs.Cutting.{Cutting}
+use Rattle.md_cut_runs.specs.Cutting.{Cutting}
 use Rattle.md_asym_sale.specs.Forms.{pay_in}
 use Rattle.md_asym_sale.specs.ProgramOf.{IsSaleProgram}
 use Rattle.md_asym_sale.specs.Sides.{demands_in, right_of}

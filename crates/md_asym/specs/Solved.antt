@@ -3,8 +3,8 @@ use Rattle.std.specs.Prelude.{◌≡◌, ℕ, List}
 use Rattle.md_math.specs.Lists.{number_at}
 use Rattle.md_setting.specs.Setting.{GeneralSetting}
 use Rattle.md_mech.specs.declared.mechanism.Mechanism.{Mechanism}
-use Rattle.md_cuts.specs.declared.optimum.Optimum.{Optimum}
-use Rattle.md_cuts.specs.CutRuns.{EndsSettled, IsShownBy}
+use Rattle.md_cut_runs.specs.declared.optimum.Optimum.{Optimum}
+use Rattle.md_cut_runs.specs.CutRuns.{EndsSettled, IsShownBy}
 use Rattle.md_asym_tables.specs.Mechanisms.{mechanism_of}
 use Rattle.md_asym.specs.declared.asym_answer.AsymAnswer.{AsymAnswer}
 use Rattle.md_asym.specs.SaleCuts.{odds_in, pays_in, sale_cutting}

@@ -9,5 +9,5 @@ mod solving;
 mod worth;
 
 pub use asym_answer::AsymAnswer;
-pub use md_cuts::CutsError as AsymError;
+pub use md_cut_runs::CutsError as AsymError;
 pub use solving::solve_asym;

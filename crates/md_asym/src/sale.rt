@@ -1,15 +1,15 @@
 //! The cut programs of sales, whose cuts are Border's conditions for sets of pairs.
 ghost use Rattle.std.specs.Prelude.{◌≡◌, IfOk};
 ghost use Rattle.md_math.specs.Lists.{number_at};
-ghost use Rattle.md_cuts.specs.Cutting.{IsCutPoint, IsCutting};
-ghost use Rattle.md_cuts.specs.Worst.{IsWorst, NoneOver, WhereTable, WhereViolated};
+ghost use Rattle.md_cut_runs.specs.Cutting.{IsCutPoint, IsCutting};
+ghost use Rattle.md_cut_runs.specs.Worst.{IsWorst, NoneOver, WhereTable, WhereViolated};
 ghost use Rattle.md_asym_sale.specs.Sale.{IsSale};
 ghost use Rattle.md_asym.specs.SaleCuts.{IsRealised, sale_cutting};
 
 use crate::payments::{odds_of, pays_of};
 use md_asym_sale::{pair_count, program};
 use md_asym_tables::{PairEnd, realise_pairs};
-use md_cuts::{CutProgram, Worst};
+use md_cut_runs::{CutProgram, Worst};
 use md_lp::{Lp, Sets};
 use md_num::{NoMemory, Nums};
 use md_setting::Setting;

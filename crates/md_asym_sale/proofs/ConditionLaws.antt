@@ -24,7 +24,7 @@ use Rattle.md_asym_sale.specs.declared.condition.SaleCondition.TheVariants.{Trut
 use Rattle.md_asym_sale.specs.Conditions.{truths_at, truths_of, truths, rationals_of, rationals, own_conditions, conditions_of, agent_condition, IsInside, IsOwnAt, IsAt}
 use Rattle.md_asym_sale.specs.Sale.{IsSale}
 use Rattle.md_asym_sale.specs.Values.{pairs_of}
-use Rattle.md_asym_sale.proofs.CutLaws.{cuts-at_most}
+use Rattle.md_lp.proofs.CutLaws.{cuts-at_most}
 
 -- ---- the conditions of the agents are the first ones of the setting
 

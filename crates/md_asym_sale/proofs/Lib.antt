@@ -1,7 +1,6 @@
 pub mod PairLaws
 pub mod PairSums
 pub mod ProductLaws
-pub mod CutLaws
 pub mod SaleLaws
 pub mod SideLaws
 pub mod ConditionLaws

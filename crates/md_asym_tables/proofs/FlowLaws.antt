@@ -13,6 +13,7 @@ use Rattle.md_math.proofs.Order.{chosen-times}
 use Rattle.md_math.proofs.SumLaws.{sum_to-same, sum_to-single, sum_to-*ℤ}
 use Rattle.md_space.specs.Profiles.{profile_count, profile_at}
 use Rattle.md_space.proofs.Ranks.{profile_at-IsProfile, report-below}
+use Rattle.md_lp.proofs.WorstLaws.{worst-same, none_over-same}
 use Rattle.md_setting.specs.Setting.{GeneralSetting}
 use Rattle.md_setting.specs.Meaning.{agent_count, sizes_of, weight_of}
 use Rattle.md_mech.proofs.CountLaws.{agents-length}
@@ -129,18 +130,10 @@ over-excess s den odds net set h =
     (caps-touched s den odds net set h)
 
 pub border-met : (s : GeneralSetting) (den : ℤ) (odds : List ℤ) (net : Network) → IsNetOf s den odds net → NoneOver net → MeetsBorder s den odds
-border-met s den odds net h none = record { none_over = λ set b. subst (λ z. z ≤ℤ pos 0) (over-excess s den odds net set h) (none.none (member set)) }
+border-met s den odds net h = none_over-same (demand_count net) (pairs_of s) (λ set. over net (member set)) (excess_of s den odds) (demands-of s den odds net h) (λ set. over-excess s den odds net set h)
 
-pub worst-of_net : (s : GeneralSetting) (den : ℤ) (odds : List ℤ) (net : Network) (set : ℕ) → IsNetOf s den odds net → set < 2 ^ demand_count net → IsWorst net (member set) → IsWorstSet s den odds set
-worst-of_net s den odds net set h b worst = record {
-  inside = subst (λ k. set < 2 ^ k) (demands-of s den odds net h) b;
-  positive = subst (λ z. pos 0 <ℤ z) (over-excess s den odds net set h) worst.positive;
-  greatest = λ other c.
-      subst (λ z. z ≤ℤ excess_of s den odds set) (over-excess s den odds net other h)
-      (subst (λ z. over net (member other) ≤ℤ z) (over-excess s den odds net set h) (worst.greatest (member other)));
-  largest = λ other c e p l m.
-      worst.largest (member other) (over-excess s den odds net other h ∙ e ∙ sym (over-excess s den odds net set h)) p (omega (arith, demands-of s den odds net h, l)) m;
-}
+pub worst-of_net : (s : GeneralSetting) (den : ℤ) (odds : List ℤ) (net : Network) (set : ℕ) → IsNetOf s den odds net → IsWorst net set → IsWorstSet s den odds set
+worst-of_net s den odds net set h = worst-same (demand_count net) (pairs_of s) (λ set. over net (member set)) (excess_of s den odds) set (demands-of s den odds net h) (λ other. over-excess s den odds net other h)
 
 -- ---- the table of a flow
 

@@ -15,6 +15,7 @@ use Rattle.md_space.specs.AllProfiles.{profiles_of}
 use Rattle.md_space.specs.Profiles.{IsProfile}
 use Rattle.md_space.proofs.InOrder.{All-profiles_of}
 use Rattle.md_space.proofs.TypeSums.{total-same}
+use Rattle.md_lp.proofs.WorstLaws.{worst-over}
 use Rattle.md_setting.specs.Setting.{GeneralSetting}
 use Rattle.md_setting.specs.Meaning.{agent_count, outcome_count, sizes_of, weight_of, marginal_of}
 use Rattle.md_setting.specs.Shaped.{IsShaped}
@@ -142,7 +143,4 @@ border s m den odds set sale shaped positive mechanism has =
     negative x y l = omega (arith, linear, l)
 
 pub no_mechanism : (s : GeneralSetting) (m : Mechanism) (den : ℤ) (odds : List ℤ) (set : ℕ) → IsSale s → IsShaped s → pos 1 ≤ℤ den → IsWorstSet s den odds set → IsMechanism s m → HasOdds s m den odds → ⊥
-no_mechanism s m den odds set sale shaped positive worst mechanism has = never (excess_of s den odds set) worst.positive (border s m den odds set sale shaped positive mechanism has)
-  where
-    never : (z : ℤ) → pos 0 <ℤ z → z ≤ℤ pos 0 → ⊥
-    never z p q = omega (arith, ints, p, q)
+no_mechanism s m den odds set sale shaped positive worst mechanism has = worst-over (pairs_of s) (excess_of s den odds) set worst (border s m den odds set sale shaped positive mechanism has)

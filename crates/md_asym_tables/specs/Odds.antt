@@ -1,8 +1,8 @@
 -- Interim odds of the pairs of a sale, which mechanisms have them, and by how much sets of pairs ask for the item more often
 -- than there are some (Border 1991).
-use Rattle.std.specs.Prelude.{◌≡◌, ℕ, ◌+◌, ◌<◌, ◌^◌, ℤ, pos, ◌-ℤ◌, ◌*ℤ◌, ◌≤ℤ◌, ◌<ℤ◌, true, List, length, slice_index}
+use Rattle.std.specs.Prelude.{◌≡◌, ℕ, ◌+◌, ◌<◌, ℤ, pos, ◌-ℤ◌, ◌*ℤ◌, ◌≤ℤ◌, List, length, slice_index}
 use Rattle.md_math.specs.Lists.{number_at}
-use Rattle.md_math.specs.Sets.{member}
+use Rattle.md_lp.specs.Worst.{IsWorstBy, NoneOverBy}
 use Rattle.md_setting.specs.Setting.{GeneralSetting}
 use Rattle.md_setting.specs.Meaning.{agent_count, sizes_of, marginal_of}
 use Rattle.md_mech.specs.declared.mechanism.Mechanism.{Mechanism}
@@ -36,14 +36,10 @@ pub record HasPays (s : GeneralSetting) (m : Mechanism) (den : ℤ) (pays : List
 abbrev pub excess_of : GeneralSetting → ℤ → List ℤ → ℕ → ℤ
 excess_of s den odds set = demands_in s (number_at odds) set -ℤ den *ℤ right_of s set
 
--- a set has the greatest excess, which is positive, and each other set with the same excess is a part of it
-pub record IsWorstSet (s : GeneralSetting) (den : ℤ) (odds : List ℤ) (set : ℕ) : Type 0 where
-  pub inside : set < 2 ^ pairs_of s
-  pub positive : pos 0 <ℤ excess_of s den odds set
-  pub greatest : (other : ℕ) → other < 2 ^ pairs_of s → excess_of s den odds other ≤ℤ excess_of s den odds set
-  pub largest : (other : ℕ) → other < 2 ^ pairs_of s → excess_of s den odds other ≡ excess_of s den odds set
-      → (p : ℕ) → p < pairs_of s → member other p ≡ true → member set p ≡ true
+-- the largest of the sets with the greatest excess, which is positive
+abbrev pub IsWorstSet : GeneralSetting → ℤ → List ℤ → ℕ → Type 0
+IsWorstSet s den odds = IsWorstBy (pairs_of s) (excess_of s den odds)
 
 -- no set asks for more than there is
-pub record MeetsBorder (s : GeneralSetting) (den : ℤ) (odds : List ℤ) : Type 0 where
-  pub none_over : (set : ℕ) → set < 2 ^ pairs_of s → excess_of s den odds set ≤ℤ pos 0
+abbrev pub MeetsBorder : GeneralSetting → ℤ → List ℤ → Type 0
+MeetsBorder s den odds = NoneOverBy (pairs_of s) (excess_of s den odds)

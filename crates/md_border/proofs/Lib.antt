@@ -6,4 +6,3 @@ pub mod Necessity
 pub mod DemandLaws
 pub mod WorthLaws
 pub mod MechanismWorth
-pub mod SingleCuts

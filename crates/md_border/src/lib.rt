@@ -10,11 +10,9 @@
 mod demands;
 mod interim;
 mod sides;
-mod single_sets;
 mod worth;
 
 pub use demands::{demand, excess, weight_of_all};
 pub use interim::Interim;
 pub use sides::{has_kind, right_side};
-pub use single_sets::singles;
 pub use worth::{auction_worth, surplus};

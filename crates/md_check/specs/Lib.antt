@@ -1,4 +1,3 @@
-pub mod Values
 pub mod Programs
 pub mod Certificates
 pub mod Verdicts

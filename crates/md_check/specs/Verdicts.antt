@@ -28,8 +28,8 @@ use Rattle.md_answer.specs.declared.answer.Answer.TheVariants.{Table, Optimal, I
 use Rattle.md_check.specs.declared.verdict.Reject.TheVariants.{Audit, Value}
 use Rattle.md_check.specs.declared.verdict.Verdict.{Verdict}
 use Rattle.md_check.specs.declared.verdict.Verdict.TheVariants.{Undecided, Rejected}
-use Rattle.md_check.specs.Values.{IsOtherValue}
 use Rattle.md_claims.specs.Certificates.{optimal_certificate, unbounded_certificate}
+use Rattle.md_claims.specs.Values.{IsOtherValue}
 use Rattle.md_check.specs.Certificates.{IsJudged}
 
 -- ---- the verdict

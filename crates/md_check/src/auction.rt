@@ -21,12 +21,12 @@ ghost use Rattle.md_check.specs.declared.verdict.Verdict.TheVariants.{Valid, Rej
 ghost use Rattle.md_check.specs.AuctionVerdicts.{AddUp, IsAuctionOptimalVerdict, IsAuctionVerdict, AuctionClaimHolds};
 
 use crate::faults::verdict_by;
-use crate::points::auction_certificate;
 use crate::value::other_worth;
 use crate::verdict::{Reject, Verdict};
 use md_answer::Answer;
 use md_border::{Interim, demand};
 use md_cert::{Bound, CertFault, check_lp};
+use md_claims::auction_certificate;
 use md_expost::{Masses, mass_sum};
 use md_lp::Sets;
 use md_num::{Frac, NoMemory};

@@ -21,12 +21,11 @@ ghost use Rattle.md_check.specs.AuctionVerdicts.{IsAuctionVerdict, IsSoundAuctio
 ghost use Rattle.md_check.specs.Verdicts.{IsVerdict, IsSound, ClaimsNothing, ClaimHolds};
 
 use crate::auction::check_auction;
-use crate::certificates::{infeasible_certificate, optimal_certificate, unbounded_certificate};
 use crate::faults::verdict_by;
-use crate::value::other_value;
 use crate::verdict::{Reject, Verdict};
 use md_answer::Answer;
 use md_cert::{Bound, Certificate, check_lp};
+use md_claims::{infeasible_certificate, optimal_certificate, other_value, unbounded_certificate};
 use md_lp::Lp;
 use md_mech::{Mechanism, audit};
 use md_num::{Frac, NoMemory, Nums};

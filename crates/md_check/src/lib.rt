@@ -3,11 +3,8 @@
 #![tactic(auto)]
 
 mod auction;
-mod certificates;
 mod checking;
 mod faults;
-mod lists;
-mod points;
 mod value;
 mod verdict;
 

@@ -1,35 +1,14 @@
-//! Printed values.
-ghost use Rattle.std.specs.Prelude.{◌≡◌, ◌<◌, ◌^◌, ◌↔◌, ◌*ℤ◌, ◌<ℤ◌, pos, unsigned_abs, IsTrue, MatchOption};
-ghost use Rattle.md_math.specs.Divisors.{IsLeastTerms};
-ghost use Rattle.md_mech.specs.Accepted.{IsAccepted};
-ghost use Rattle.md_setting.specs.Meaning.{total_of};
+//! Printed values of auctions.
+ghost use Rattle.std.specs.Prelude.{MatchOption};
 ghost use Rattle.md_parts.specs.Fitting.{IsFraction};
-ghost use Rattle.md_mech.specs.Value.{HasValue};
 ghost use Rattle.md_border.specs.Odds.{IsInterim};
 ghost use Rattle.md_border.specs.Worth.{HasWorth};
-ghost use Rattle.md_check.specs.Values.{IsOtherValue};
 ghost use Rattle.md_check.specs.AuctionVerdicts.{IsOtherWorth};
 
 use md_border::{Interim, auction_worth};
-use md_mech::{Mechanism, worth};
+use md_claims::is_same_number;
 use md_num::Frac;
-use md_setting::{Auction, Setting};
-
-/// The value of the mechanism in least terms, where the printed value is another number.
-pub(crate) fn other_value(setting: &Setting, mechanism: &Mechanism, printed: &Frac) -> Option<Frac>
-    requires accepted { IsAccepted setting.now mechanism.now }
-    requires fraction { IsFraction printed.now.num printed.now.den }
-    ensures { MatchOption result (HasValue setting.now mechanism.now printed.now) (IsOtherValue setting.now mechanism.now printed.now) }
-{
-    let weight = setting.total();
-    prove!(weight > 0);
-    let right = worth(setting, mechanism);
-    if is_same_number(printed, &right) {
-        None
-    } else {
-        Some(right)
-    }
-}
+use md_setting::Auction;
 
 /// The value of the odds and payments in least terms, where the printed value is another number.
 pub(crate) fn other_worth(auction: &Auction, interim: &Interim, printed: &Frac) -> Option<Frac>
@@ -45,13 +24,4 @@ pub(crate) fn other_worth(auction: &Auction, interim: &Interim, printed: &Frac) 
     } else {
         Some(found)
     }
-}
-
-// Whether a fraction is the number that the other one is in least terms.
-fn is_same_number(fraction: &Frac, least: &Frac) -> bool
-    requires fraction { IsFraction fraction.now.num fraction.now.den }
-    requires least { IsLeastTerms least.now.num least.now.den }
-    ensures { IsTrue result ↔ (least.now.num *ℤ fraction.now.den ≡ fraction.now.num *ℤ least.now.den) }
-{
-    Frac::reduced(fraction.num, fraction.den) == *least
 }

@@ -3,3 +3,4 @@ pub mod Laws
 pub mod Rays
 pub mod AuctionCertificates
 pub mod AuctionClaims
+pub mod Values

@@ -4,9 +4,9 @@ use Rattle.md_setting.specs.Setting.{GeneralSetting}
 use Rattle.md_lp.specs.declared.wide.Wide.{Wide}
 use Rattle.md_mech.specs.Optimal.{IsOptimal}
 use Rattle.md_mech.specs.Value.{IsValueOf}
-use Rattle.md_cuts.specs.CutRuns.{EndsSettled, EndsWide}
-use Rattle.md_cuts.specs.declared.cuts_error.CutsError.TheVariants as errors
-use Rattle.md_cuts.specs.declared.optimum.Optimum.{Optimum}
+use Rattle.md_cut_runs.specs.CutRuns.{EndsSettled, EndsWide}
+use Rattle.md_cut_runs.specs.declared.cuts_error.CutsError.TheVariants as errors
+use Rattle.md_cut_runs.specs.declared.optimum.Optimum.{Optimum}
 use Rattle.md_asym_tables.specs.Odds.{AreOdds, HasOdds, HasPays}
 use Rattle.md_asym_tables.specs.Tables.{IsProfileTable, Implements}
 use Rattle.md_asym.specs.SaleCuts.{sale_cutting}

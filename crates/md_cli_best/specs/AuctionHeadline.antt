@@ -10,8 +10,8 @@ use Rattle.md_expost.specs.declared.masses.Masses.{Masses}
 use Rattle.md_expost.specs.Masses.{AreMasses}
 use Rattle.md_cert.specs.declared.bound.Bound.{Bound}
 use Rattle.md_cuts.specs.AuctionCuts.{auction_cutting}
-use Rattle.md_cuts.specs.CutRuns.{EndsSettled, EndsWide}
-use Rattle.md_cuts.specs.declared.optimum.Optimum.{Optimum}
+use Rattle.md_cut_runs.specs.CutRuns.{EndsSettled, EndsWide}
+use Rattle.md_cut_runs.specs.declared.optimum.Optimum.{Optimum}
 use Rattle.md_claims.specs.AuctionClaims.{IsOptimalRule, mechanism_in}
 use Rattle.md_answer.specs.AuctionAnswers.{auction_answer_of}
 use Rattle.md_answer.specs.declared.answer.Answer.TheVariants.{AuctionOptimal, TooWide}

@@ -7,8 +7,8 @@ use Rattle.md_tree.specs.declared.answer.DetAnswer.{DetAnswer}
 use Rattle.md_tree.specs.declared.answer.DetAnswer.TheVariants.{Optimal, Infeasible, Unbounded, TooWide}
 use Rattle.md_tree.specs.declared.verdict.DetVerdict.TheVariants.{Valid}
 use Rattle.md_tree.specs.Verdicts.{ClaimHolds, ClaimsNothing, IsVerdict}
-use Rattle.md_tree_text.specs.Answers.{determ_answer_of}
-use Rattle.md_tree_text.specs.Rows.{text_of_determ}
+use Rattle.md_tree.specs.AnswerText.{determ_answer_of}
+use Rattle.md_tree.specs.Rows.{text_of_determ}
 use Rattle.md_determ.specs.Search.{IsSearched}
 use Rattle.md_cli_driver.specs.Saying.{Saying}
 

@@ -7,8 +7,8 @@ use Rattle.md_lp.specs.declared.wide.Wide.{Wide}
 use Rattle.md_mech.specs.Optimal.{IsOptimal}
 use Rattle.md_mech.specs.Value.{IsValueOf}
 use Rattle.md_border.specs.Odds.{IsInterim}
-use Rattle.md_cuts.specs.CutRuns.{EndsSettled, EndsWide}
-use Rattle.md_cuts.specs.declared.optimum.Optimum.{Optimum}
+use Rattle.md_cut_runs.specs.CutRuns.{EndsSettled, EndsWide}
+use Rattle.md_cut_runs.specs.declared.optimum.Optimum.{Optimum}
 use Rattle.md_unit_laws.specs.Odds.{HasUnitOdds, HasUnitPays}
 use Rattle.md_unit_laws.specs.Setting.{units_of}
 use Rattle.md_unit_tables.specs.Tables.{ImplementsUnits, IsUnitTable, table_of}

@@ -10,8 +10,7 @@ use md_cli_driver::{
 use md_determ::solve_determ;
 use md_num::{NoMemory, Width};
 use md_setting::{Setting, SettingFile};
-use md_tree::DetAnswer;
-use md_tree_text::write_determ;
+use md_tree::{DetAnswer, write_determ};
 use std::alloc::Global;
 
 /// `determ SETTING [--width W]`

@@ -2,7 +2,7 @@
 use Rattle.std.proofs.Common.{ℕ, List}
 use Rattle.md_setting.specs.Setting.{GeneralSetting}
 use Rattle.md_tree.specs.declared.verdict.DetVerdict.{DetVerdict}
-use Rattle.md_tree_check.specs.Texts.{IsCheckedText}
+use Rattle.md_tree.specs.Texts.{IsCheckedText}
 use Rattle.md_cli_driver.specs.Saying.{Saying}
 use Rattle.md_cli_judge.specs.DetermChecking.{IsDetermCheckedText}
 use Rattle.md_cli_judge.specs.DetermVerdicts.{TellsVerdict}

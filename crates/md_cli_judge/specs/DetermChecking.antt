@@ -10,7 +10,7 @@ use Rattle.md_tree.specs.declared.answer.DetAnswer.{DetAnswer}
 use Rattle.md_tree.specs.declared.verdict.DetVerdict.{DetVerdict}
 use Rattle.md_tree.specs.declared.verdict.DetVerdict.TheVariants.{Valid, Undecided}
 use Rattle.md_tree.specs.Verdicts.{ClaimHolds, ClaimsNothing, IsVerdict}
-use Rattle.md_tree_text.specs.Answers.{determ_answer_of}
+use Rattle.md_tree.specs.AnswerText.{determ_answer_of}
 use Rattle.md_cli_driver.specs.declared.refusal.Refusal.{Refusal}
 use Rattle.md_cli_driver.specs.declared.refusal.Refusal.TheVariants as refusal
 use Rattle.md_cli_driver.specs.Saying.{Saying}

@@ -5,7 +5,7 @@ ghost use Rattle.md_setting.specs.ByKind.{WhereGeneral};
 ghost use Rattle.md_mech.specs.declared.broken.Broken.{Broken};
 ghost use Rattle.md_mech.specs.Rows.{conditions_of};
 ghost use Rattle.md_tree.specs.declared.verdict.DetReject.TheVariants as rejects;
-ghost use Rattle.md_tree_check.specs.Texts.{IsCheckedText, IsReadText};
+ghost use Rattle.md_tree.specs.Texts.{IsCheckedText, IsReadText};
 ghost use Rattle.md_cli_driver.specs.Reading.{is_general};
 ghost use Rattle.md_cli_driver.specs.Saying.{said};
 ghost use Rattle.md_cli_judge.specs.DetermChecking.{IsDetermCheck, IsDetermCheckStatus, IsDetermCheckedText, determ_text_in};
@@ -19,8 +19,7 @@ use md_mech::{Broken, row_name};
 use md_num::NoMemory;
 use md_records::Row;
 use md_setting::{Setting, SettingFile};
-use md_tree::{DetReject, DetVerdict};
-use md_tree_check::{AnswerRefusal, check_text, read_text};
+use md_tree::{AnswerRefusal, DetReject, DetVerdict, check_text, read_text};
 use std::alloc::Global;
 
 /// `determcheck SETTING ANSWER`

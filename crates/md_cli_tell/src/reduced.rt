@@ -7,8 +7,7 @@ ghost use Rattle.md_cli_tell.specs.ProgramTexts.{texts_of};
 ghost use Rattle.md_cli_tell.specs.ReducedTexts.{IsReducedListing, reduced_names};
 
 use crate::listing::list_rows;
-use md_border::singles;
-use md_lp::Sets;
+use md_lp::{Sets, singles};
 use md_num::NoMemory;
 use md_reduced::{program, row_name};
 use md_setting::Auction;

@@ -14,9 +14,9 @@ use Rattle.md_reduced.specs.Points.{interim_in}
 use Rattle.md_reduced.proofs.OptimalLaws.{makes-optimal}
 use Rattle.md_cuts.specs.declared.auction_cuts.Realised.{Realised}
 use Rattle.md_cuts.specs.declared.auction_end.AuctionEnd.{AuctionEnd}
-use Rattle.md_cuts.specs.declared.optimum.Optimum.{Optimum}
+use Rattle.md_cut_runs.specs.declared.optimum.Optimum.{Optimum}
 use Rattle.md_cuts.specs.AuctionCuts.{IsRealised, IsSolvedAuction, TellsOptimum, auction_cutting, mechanism_in}
-use Rattle.md_cuts.specs.CutRuns.{EndsSettled, IsShownBy}
+use Rattle.md_cut_runs.specs.CutRuns.{EndsSettled, IsShownBy}
 
 -- the answer that an end gives
 abbrev answer : List ℕ → Optimum → Realised → AuctionEnd

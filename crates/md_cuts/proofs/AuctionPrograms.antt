@@ -10,20 +10,11 @@ use Rattle.md_math.proofs.Order.{nonneg-*ℤ}
 use Rattle.md_math.proofs.SumLaws.{sum_to-same, sum_to-zero}
 use Rattle.md_lp.specs.Program.{Program}
 use Rattle.md_lp.specs.Point.{Meets}
-use Rattle.md_lp.proofs.SamePrograms.{IsSameProgram}
-use Rattle.md_cert.specs.Fitting.{Fits, FitsBound, FitsColumns, FitsRows}
-use Rattle.md_cert.specs.declared.bound.Bound.{Bound}
-use Rattle.md_cert.specs.declared.certificate.Certificate.{Certificate}
-use Rattle.md_cert.specs.declared.certificate.Certificate.TheVariants.{Optimal, Infeasible, Unbounded}
-use Rattle.md_cert.proofs.SameCertificates.{certified-same}
 use Rattle.md_setting.specs.Auction.{SymmetricAuction, value_count}
 use Rattle.md_setting.specs.AuctionShaped.{IsAuction}
-use Rattle.md_simplex.proofs.SamePaths.{first_wide-same}
-use Rattle.md_simplex.proofs.SameRuns.{run-same}
 use Rattle.md_border.specs.Odds.{demands_in, excess_of, weight_given}
 use Rattle.md_border.specs.Sides.{right_by_counts}
 use Rattle.md_border.proofs.SideLaws.{right_of-counts}
-use Rattle.md_expost.specs.WorstSets.{IsWorstSet, MeetsBorder}
 use Rattle.md_forms.specs.Forms.{Holds}
 use Rattle.md_forms.proofs.OneProgram.{same_program}
 use Rattle.md_reduced.specs.Conditions.{conditions_of, rationals, truths}
@@ -33,37 +24,10 @@ use Rattle.md_reduced.specs.Sides.{cost_of, demands_of}
 use Rattle.md_reduced.proofs.BoundLaws.{bounded, right-nonneg, zero-meets}
 use Rattle.md_reduced.proofs.BuiltLaws.{all-of, meets-conditions}
 use Rattle.md_cuts.specs.AuctionCuts.{auction_cutting}
-use Rattle.md_cuts.specs.Cutting.{IsCutPoint, IsCutting, IsShownOf}
-use Rattle.md_cuts.specs.Worst.{IsWorst, NoneOver}
+use Rattle.md_cut_runs.specs.Cutting.{IsCutPoint, IsCutting, IsShownOf}
+use Rattle.md_cut_runs.proofs.OneProgram.{shown-of}
 
 -- ---- one program
-
-module _ (p q : Program) (same : IsSameProgram p q) where
-  columns-same : (numbers : List ℤ) → FitsColumns p numbers → FitsColumns q numbers
-  columns-same numbers f = record {
-    one_each = f.one_each ∙ same.columns;
-    sizes = f.sizes;
-    nonneg = λ j l. f.nonneg j (subst (λ n. j < n) (sym same.columns) l);
-  }
-
-  rows-same : (numbers : List ℤ) → FitsRows p numbers → FitsRows q numbers
-  rows-same numbers f = record { one_each = f.one_each ∙ same.rows; sizes = f.sizes }
-
-  bound-same : (bound : Bound) → FitsBound p bound → FitsBound q bound
-  bound-same bound f = record { den = f.den; main = rows-same bound.main f.main; face = rows-same bound.face f.face }
-
-  fits-same : (c : Certificate) → Fits p c → Fits q c
-  fits-same (Optimal den point bound) f = (f.0, columns-same point f.1, bound-same bound f.2)
-  fits-same (Infeasible face) f = rows-same face f
-  fits-same (Unbounded den point ray) f = (f.0, columns-same point f.1, columns-same ray f.2)
-
-  pub shown-of : IsShownOf p q
-  shown-of = record {
-    run = run-same p q same;
-    wide = λ order width wide h. first_wide-same p q same order width wide.path wide.entry h;
-    certified = certified-same p q same;
-    fits = fits-same;
-  }
 
 pub one-program : (a : SymmetricAuction) (units : ℕ) (cuts : List ℕ) (p q : Program) → IsReducedProgram a units cuts p → IsReducedProgram a units cuts q → IsShownOf p q
 one-program a units cuts p q h k =
@@ -121,16 +85,10 @@ IsCutting-auction a shaped = record {
   bounded = λ cuts p den x ray singles is. bounded a 1 cuts p shaped is singles den x ray;
 }
 
--- ---- points and worst sets
+-- ---- points
 
 pub meets-reduced : (a : SymmetricAuction) (den : ℤ) (point : List ℤ) → IsCutPoint (auction_cutting a) den point → MeetsReduced a den (number_at point)
 meets-reduced a den point h = record { units = 1; cuts = h.cuts; program = h.program; is_program = h.is_program; singles = h.singles; meets = h.meets }
 
 pub point-length : (a : SymmetricAuction) (den : ℤ) (point : List ℤ) → IsCutPoint (auction_cutting a) den point → length point ≡ column_count a
 point-length a den point h = h.point_fits.one_each ∙ h.is_program.columns
-
-pub worst-of : (a : SymmetricAuction) (den : ℤ) (x : ℕ → ℤ) (set : ℕ) → IsWorstSet a (interim_in a den x) set → IsWorst (auction_cutting a) den x set
-worst-of a den x set h = record { inside = h.inside; positive = h.positive; greatest = h.greatest; largest = h.largest }
-
-pub none-over : (a : SymmetricAuction) (den : ℤ) (x : ℕ → ℤ) → MeetsBorder a (interim_in a den x) → NoneOver (auction_cutting a) den x
-none-over a den x h = record { none_over = h.none_over }

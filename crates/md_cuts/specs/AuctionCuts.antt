@@ -11,9 +11,9 @@ use Rattle.md_reduced.specs.Points.{interim_in}
 use Rattle.md_reduced.specs.ProgramOf.{IsReducedProgram}
 use Rattle.md_cuts.specs.declared.auction_cuts.Realised.{Realised}
 use Rattle.md_cuts.specs.declared.auction_end.AuctionEnd.{AuctionEnd}
-use Rattle.md_cuts.specs.declared.optimum.Optimum.{Optimum}
-use Rattle.md_cuts.specs.CutRuns.{EndsSettled, IsShownBy}
-use Rattle.md_cuts.specs.Cutting.{Cutting}
+use Rattle.md_cut_runs.specs.declared.optimum.Optimum.{Optimum}
+use Rattle.md_cut_runs.specs.CutRuns.{EndsSettled, IsShownBy}
+use Rattle.md_cut_runs.specs.Cutting.{Cutting}
 
 -- the places are the values, the programs the reduced ones of one item, and a set is over by its excess at the odds of the
 -- point

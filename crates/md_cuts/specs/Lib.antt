@@ -1,5 +1,1 @@
-pub mod Cutting
-pub mod Worst
-pub mod CutRuns
-pub mod Turns
 pub mod AuctionCuts

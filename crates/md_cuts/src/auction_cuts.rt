@@ -1,29 +1,44 @@
 //! The cut programs of auctions: reduced programs, whose cuts are Border's conditions.
-ghost use Rattle.std.specs.Prelude.{IfOk};
+ghost use Rattle.std.specs.Prelude.{◌≡◌, IfOk};
 ghost use Rattle.md_math.specs.Lists.{number_at};
 ghost use Rattle.md_cuts.specs.AuctionCuts.{IsRealised, auction_cutting};
-ghost use Rattle.md_cuts.specs.Cutting.{IsCutPoint};
-ghost use Rattle.md_cuts.specs.Worst.{IsWorst, NoneOver, WhereTable, WhereViolated};
+ghost use Rattle.md_cut_runs.specs.Cutting.{IsCutPoint, IsCutting};
+ghost use Rattle.md_cut_runs.specs.Worst.{IsWorst, NoneOver, WhereTable, WhereViolated};
 
-use crate::{CutProgram, Worst};
 use md_border::Interim;
+use md_cut_runs::{CutProgram, Worst};
 use md_expost::{Masses, RealiseEnd, realise};
 use md_lp::{Lp, Sets};
 use md_num::{NoMemory, Nums};
 use md_reduced::{interim_of, program};
 use md_setting::Auction;
 use std::alloc::Global;
+use std::marker::Model;
+
+/// The sale of one item to the bidders of an auction.
+#[derive(Drop)]
+pub(crate) struct ItemSale<'a> {
+    pub(crate) auction: &'a Auction,
+}
+
+impl<'a> Model for ItemSale<'a> {
+    ghost use Rattle.md_setting.specs.Auction.{SymmetricAuction};
+
+    ghost Value = { SymmetricAuction };
+
+    ghost view = { λ sale. sale.auction.now };
+}
 
 /// The interim odds and payments of a point, and a mass table that has exactly the odds.
 #[derive(Drop)]
-pub struct Realised {
+pub(crate) struct Realised {
     /// The odds and the payments.
-    pub interim: Interim,
+    pub(crate) interim: Interim,
     /// The mass table, over the same denominator.
-    pub masses: Masses,
+    pub(crate) masses: Masses,
 }
 
-impl CutProgram for Auction {
+impl<'a> CutProgram for ItemSale<'a> {
     type Table = Realised;
 
     ghost cutting = { auction_cutting };
@@ -31,16 +46,24 @@ impl CutProgram for Auction {
     ghost shows = { IsRealised };
 
     fn places(&self) -> u32 {
-        self.kinds()
+        places_of(self.auction)
     }
 
     fn program(&self, alloc: Global, cuts: &Sets) -> Result<Lp, NoMemory> {
-        program(alloc, self, cuts)
+        program(alloc, self.auction, cuts)
     }
 
     fn worst(&self, alloc: Global, den: i128, point: &Nums) -> Result<Worst<Realised>, NoMemory> {
-        worst_of(alloc, self, den, point)
+        worst_of(alloc, self.auction, den, point)
     }
+}
+
+// How many values there are, for sets of them.
+fn places_of(auction: &Auction) -> u32
+    ensures count { result ≡ (auction_cutting auction.now).places }
+    ensures cutting { IsCutting (auction_cutting auction.now) }
+{
+    auction.kinds()
 }
 
 // A mass table with the odds of a point, or the set of values that breaks Border's condition most.

@@ -9,11 +9,14 @@ ghost use Rattle.md_border.specs.Odds.{HasOdds, HasPays, IsInterim};
 ghost use Rattle.md_expost.specs.Implementing.{Implements};
 ghost use Rattle.md_expost.specs.Masses.{AreMasses};
 ghost use Rattle.md_cuts.specs.declared.auction_end.AuctionEnd.{AuctionEnd};
-ghost use Rattle.md_cuts.specs.declared.optimum.Optimum.{Optimum};
+ghost use Rattle.md_cut_runs.specs.declared.cuts_error.CutsError.TheVariants.{Memory};
+ghost use Rattle.md_cut_runs.specs.declared.optimum.Optimum.{Optimum};
 ghost use Rattle.md_cuts.specs.AuctionCuts.{IsSolvedAuction, TellsOptimum, auction_cutting, mechanism_in};
-ghost use Rattle.md_cuts.specs.CutRuns.{EndsSettled, EndsWide, HasSmallEntries, IsLeftAt, TellsWide, WhereWide};
+ghost use Rattle.md_cut_runs.specs.CutRuns.{EndsSettled, EndsWide, HasSmallEntries, IsLeftAt, TellsWide, WhereWide};
 
-use crate::{AuctionEnd, CutsError, cut_run};
+use crate::auction_cuts::ItemSale;
+use crate::{AuctionEnd, CutsError};
+use md_cut_runs::cut_run;
 use md_num::Width;
 use md_setting::Auction;
 use std::alloc::Global;
@@ -42,7 +45,7 @@ pub fn solve_auction(
     ensures pays { IfOk result (λ end. HasPays auction.now (mechanism_in auction.now end) end.interim.den end.interim.pays) }
 
     // There is one run, and it has one end.
-    ensures settled { (cuts : List ℕ) (optimum : Optimum) → EndsSettled (auction_cutting auction.now) width cuts optimum → MatchResult result (TellsOptimum auction.now cuts optimum) (λ error. error ≡ CutsError.Memory) }
+    ensures settled { (cuts : List ℕ) (optimum : Optimum) → EndsSettled (auction_cutting auction.now) width cuts optimum → MatchResult result (TellsOptimum auction.now cuts optimum) (λ error. error ≡ Memory) }
     ensures wide { (cuts : List ℕ) (first second : Wide) → EndsWide (auction_cutting auction.now) width cuts first second → MatchResult result (λ _. ⊥) (TellsWide cuts first second) }
 
     // No cut comes twice, so that there are fewer than there are sets of values.
@@ -50,7 +53,8 @@ pub fn solve_auction(
     ensures few { MatchResult result (λ end. length end.cuts < 2 ^ value_count auction.now) (WhereWide (λ cuts. length cuts < 2 ^ value_count auction.now)) }
 {
     let _shaped = auction.kinds();
-    match cut_run(alloc, auction, width) {
+    let sale = ItemSale { auction };
+    match cut_run(alloc, &sale, width) {
         Ok(end) => Ok(AuctionEnd {
             cuts: end.cuts,
             interim: end.table.interim,

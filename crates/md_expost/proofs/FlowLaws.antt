@@ -11,6 +11,7 @@ use Rattle.md_math.proofs.BoundedTests.{and-left, and-right}
 use Rattle.md_math.proofs.Builders.{length-list_to, get_or-list_to}
 use Rattle.md_math.proofs.Ring.{*ℤ-zero, *ℤ-one, *ℤ_assoc}
 use Rattle.md_math.proofs.SumLaws.{sum_to-same, sum_to-zero, sum_to-positive, sum_to-*ℤ}
+use Rattle.md_lp.proofs.WorstLaws.{worst-same, none_over-same, worst-over}
 use Rattle.md_setting.specs.Auction.{SymmetricAuction, value_count}
 use Rattle.md_setting.specs.General.{general_of}
 use Rattle.md_mech.specs.declared.mechanism.Mechanism.{Mechanism}
@@ -182,22 +183,11 @@ over-excess a interim net set h =
     (caps-touched a interim net set h)
 
 pub border-met : (a : SymmetricAuction) (interim : Interim) (net : Network) → IsNetOf a interim net → NoneOver net → MeetsBorder a interim
-border-met a interim net h none = record { none_over = λ set b. subst (λ z. z ≤ℤ pos 0) (over-excess a interim net set h) (none.none (member set)) }
+border-met a interim net h = none_over-same (demand_count net) (value_count a) (λ set. over net (member set)) (excess_of a interim) (demands-of a interim net h) (λ set. over-excess a interim net set h)
 
-pub worst-of_net : (a : SymmetricAuction) (interim : Interim) (net : Network) (set : ℕ) → IsNetOf a interim net → set < 2 ^ demand_count net → IsWorst net (member set) → IsWorstSet a interim set
-worst-of_net a interim net set h b worst = record {
-  inside = subst (λ k. set < 2 ^ k) (demands-of a interim net h) b;
-  positive = subst (λ z. pos 0 <ℤ z) (over-excess a interim net set h) worst.positive;
-  greatest = λ other c.
-      subst (λ z. z ≤ℤ excess_of a interim set) (over-excess a interim net other h)
-      (subst (λ z. over net (member other) ≤ℤ z) (over-excess a interim net set h) (worst.greatest (member other)));
-  largest = λ other c e v l m.
-      worst.largest (member other) (over-excess a interim net other h ∙ e ∙ sym (over-excess a interim net set h)) v (omega (arith, demands-of a interim net h, l)) m;
-}
+pub worst-of_net : (a : SymmetricAuction) (interim : Interim) (net : Network) (set : ℕ) → IsNetOf a interim net → IsWorst net set → IsWorstSet a interim set
+worst-of_net a interim net set h = worst-same (demand_count net) (value_count a) (λ set. over net (member set)) (excess_of a interim) set (demands-of a interim net h) (λ other. over-excess a interim net other h)
 
 -- where a set breaks Border's condition, no mechanism has the odds
 pub no_mechanism : (a : SymmetricAuction) (interim : Interim) (set : ℕ) (m : Mechanism) → IsInterim a interim → IsWorstSet a interim set → IsMechanism (general_of a) m → HasOdds a m interim.den interim.odds → ⊥
-no_mechanism a interim set m fits worst mechanism odds = never (excess_of a interim set) worst.positive (border a interim set m fits.den_positive mechanism odds)
-  where
-    never : (z : ℤ) → pos 0 <ℤ z → z ≤ℤ pos 0 → ⊥
-    never z p q = omega (arith, ints)
+no_mechanism a interim set m fits worst mechanism odds = worst-over (value_count a) (excess_of a interim) set worst (border a interim set m fits.den_positive mechanism odds)

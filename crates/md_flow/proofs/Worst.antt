@@ -1,11 +1,12 @@
 -- The demands that no path reaches are the largest worst set.
-use Rattle.std.proofs.Common.{◌≡◌, ℕ, zero, suc, ◌+◌, ◌<◌, ◌≤◌, ℤ, pos, ◌+ℤ◌, ◌-ℤ◌, ◌≤ℤ◌, ◌<ℤ◌, ◌⊎◌, inl, inr, Bool, true, false, ◌==◌, not, if◌then◌else◌, nat_le, List, refl, sym, ◌∙◌, arith, eqb-true, eq-eqb}
+use Rattle.std.proofs.Common.{◌≡◌, ℕ, zero, suc, ◌+◌, ◌^◌, ◌<◌, ◌≤◌, ℤ, pos, ◌+ℤ◌, ◌-ℤ◌, ◌≤ℤ◌, ◌<ℤ◌, ◌⊎◌, inl, inr, Bool, true, false, ◌==◌, not, if◌then◌else◌, nat_le, List, refl, sym, ◌∙◌, arith, eqb-true, eq-eqb}
 use Rattle.std.proofs.lemmas.Bool.{eqb-false}
 use Rattle.std.proofs.lemmas.Int.{ints, by_lt_z}
 use Rattle.std.proofs.lemmas.Bool.Decides.{nat_tests}
 use Rattle.md_math.proofs.Ring.{linear}
 use Rattle.md_math.proofs.Order.{≤ℤ_antisymm, chosen-nonneg, chosen-le}
 use Rattle.md_math.proofs.SumLaws.{sum_to-same, sum_to-+ℤ, sum_to-zero, sum_to-le, sum_to-at_least, sum_to-positive, sum_to-sub, sum_to-swap}
+use Rattle.md_math.specs.Sets.{member}
 use Rattle.md_math.specs.Sums.{sum_to}
 use Rattle.md_math.proofs.BoundedTests.{true_or_false}
 use Rattle.md_flow.specs.Network.{Network, node_count, demand_count, want_of, room_of, want_sum}
@@ -166,19 +167,20 @@ kept_out net x nodes demands set other rooms h t (suc j) d b e l m =
 lack-sum : (net : Network) (x : ℕ → ℕ → ℤ) → want_sum net -ℤ carried net x ≡ sum_to (demand_count net) (λ d. lack_at net x d)
 lack-sum net x = omega (arith, linear, sum_to-sub (demand_count net) (want_of net) (λ d. got_by (node_count net) x d), sum_to-swap (node_count net) (demand_count net) x)
 
-pub IsWorst-end : (net : Network) (x : ℕ → ℕ → ℤ) (nodes demands : List ℕ) (set : ℕ → Bool) → IsPartFlow net x → AreLabels net x nodes demands → AreReached net x nodes demands → AllFull net x demands → IsUnreached net demands set → (d : ℕ) → d < demand_count net → pos 0 <ℤ lack_at net x d → IsWorst net set
-IsWorst-end net x nodes demands set part labels reached full unreached d b lacking =
-    let h : IsEnd net x nodes demands set = record { part = part; labels = labels; reached = reached; full = full; unreached = unreached } in
-    let is = over-end net x nodes demands set h in
+pub IsWorst-end : (net : Network) (x : ℕ → ℕ → ℤ) (nodes demands : List ℕ) (set : ℕ) → set < 2 ^ demand_count net → IsPartFlow net x → AreLabels net x nodes demands → AreReached net x nodes demands → AllFull net x demands → IsUnreached net demands (member set) → (d : ℕ) → d < demand_count net → pos 0 <ℤ lack_at net x d → IsWorst net set
+IsWorst-end net x nodes demands set inside part labels reached full unreached d b lacking =
+    let h : IsEnd net x nodes demands (member set) = record { part = part; labels = labels; reached = reached; full = full; unreached = unreached } in
+    let is = over-end net x nodes demands (member set) h in
     record {
+      inside = inside;
       positive = (let p = sum_to-positive (demand_count net) d (λ k. lack_at net x k) b (λ k c. lack-nonneg net x k part c) lacking in omega (arith, linear, is, lack-sum net x, p));
-      greatest = λ other. omega (arith, linear, is, over-le net x other part);
-      largest = λ other e k c m.
-          elim (true_or_false (set k)) [
+      greatest = λ other _. omega (arith, linear, is, over-le net x (member other) part);
+      largest = λ other _ e k c m.
+          elim (true_or_false (member set k)) [
             | inl in_it ↦ in_it
             | inr out ↦
-                let tight : IsTight net x other (least_rooms net other) = record { tight = omega (arith, linear, over-least net other, e, is) } in
-                absurd (kept_out net x nodes demands set other (least_rooms net other) h tight (label_at demands k) k c refl (label_of_other net x nodes demands set k labels unreached c out) m)
+                let tight : IsTight net x (member other) (least_rooms net (member other)) = record { tight = omega (arith, linear, over-least net (member other), e, is) } in
+                absurd (kept_out net x nodes demands (member set) (member other) (least_rooms net (member other)) h tight (label_at demands k) k c refl (label_of_other net x nodes demands (member set) k labels unreached c out) m)
           ];
     }
 
@@ -195,7 +197,7 @@ Meets-end net x part none = record { part = part; exact = λ d b. (let most = pa
 
 pub NoneOver-meets : (net : Network) (x : ℕ → ℕ → ℤ) → Meets net x → NoneOver net
 NoneOver-meets net x h = record {
-  none = λ set.
+  none_over = λ set _.
       let zero_sum : sum_to (demand_count net) (λ d. lack_at net x d) ≡ pos 0 = sum_to-zero (demand_count net) _ (λ d b. (let e = h.exact d b in omega (arith, linear, e))) in
-      omega (arith, linear, over-le net x set h.part, lack-sum net x, zero_sum);
+      omega (arith, linear, over-le net x (member set) h.part, lack-sum net x, zero_sum);
 }

@@ -1,5 +1,5 @@
 -- What an end says of its net.
-use Rattle.std.specs.Prelude.{◌≡◌, ℕ, ◌*◌, ◌^◌, ◌<◌, ℤ, ◌-ℤ◌, List, length}
+use Rattle.std.specs.Prelude.{◌≡◌, ℕ, ◌*◌, ℤ, ◌-ℤ◌, List, length}
 use Rattle.md_math.specs.Sets.{member}
 use Rattle.md_flow.specs.Network.{Network, node_count, demand_count, want_sum}
 use Rattle.md_flow.specs.Flows.{IsPartFlow, Meets, amount_in, carried}
@@ -15,8 +15,7 @@ pub record IsFull (net : Network) (amounts : List ℤ) : Type 0 where
 
 -- the largest set that is over by most, so that some set is over, and a part flow that carries all demands but what the set is over by
 pub record IsCut (net : Network) (set : ℕ) (amounts : List ℤ) : Type 0 where
-  pub worst : IsWorst net (member set)
-  pub inside : set < 2 ^ demand_count net
+  pub worst : IsWorst net set
   pub one_each : length amounts ≡ node_count net * demand_count net
   pub part : IsPartFlow net (amount_in net amounts)
   pub carries : carried net (amount_in net amounts) ≡ want_sum net -ℤ over net (member set)

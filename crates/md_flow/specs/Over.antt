@@ -1,9 +1,10 @@
 -- By how much the demands of a set are over what the nodes can give to it.
-use Rattle.std.specs.Prelude.{ℕ, zero, suc, ◌<◌, ◌≡◌, ℤ, pos, ◌-ℤ◌, ◌≤ℤ◌, ◌<ℤ◌, Bool, true, false, ◌||◌, ◌&&◌, if◌then◌else◌, List, length, slice_index}
+use Rattle.std.specs.Prelude.{ℕ, zero, suc, ℤ, pos, ◌-ℤ◌, Bool, false, ◌||◌, ◌&&◌, if◌then◌else◌, List, length, slice_index}
 use Rattle.std.specs.Int.{int_min}
 use Rattle.md_math.specs.Lists.{number_at}
 use Rattle.md_math.specs.Sets.{member}
 use Rattle.md_math.specs.Sums.{sum_to}
+use Rattle.md_lp.specs.Worst.{IsWorstBy, NoneOverBy}
 use Rattle.md_flow.specs.Network.{Network, node_count, demand_count, cap_of, want_of, room_of}
 
 -- the sum of the rooms that a node has for the demands of a set
@@ -16,15 +17,13 @@ over net set =
     sum_to (demand_count net) (λ d. if set d then want_of net d else pos 0)
     -ℤ sum_to (node_count net) (λ u. int_min (cap_of net u) (open_at net set u))
 
--- no set is over what the nodes can give to it
-pub record NoneOver (net : Network) : Type 0 where
-  pub none : (set : ℕ → Bool) → over net set ≤ℤ pos 0
+-- no set of demands is over what the nodes can give to it
+abbrev pub NoneOver : Network → Type 0
+NoneOver net = NoneOverBy (demand_count net) (λ set. over net (member set))
 
 -- the largest set that is over by most
-pub record IsWorst (net : Network) (set : ℕ → Bool) : Type 0 where
-  pub positive : pos 0 <ℤ over net set
-  pub greatest : (other : ℕ → Bool) → over net other ≤ℤ over net set
-  pub largest : (other : ℕ → Bool) → over net other ≡ over net set → (d : ℕ) → d < demand_count net → other d ≡ true → set d ≡ true
+abbrev pub IsWorst : Network → ℕ → Type 0
+IsWorst net = IsWorstBy (demand_count net) (λ set. over net (member set))
 
 -- ---- where each node touches a set of demands
 

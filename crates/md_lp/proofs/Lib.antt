@@ -11,3 +11,6 @@ pub mod RowRuns
 pub mod StoredRuns
 pub mod ColumnRuns
 pub mod SamePrograms
+pub mod CutLaws
+pub mod SingleCuts
+pub mod WorstLaws

@@ -7,3 +7,4 @@ pub mod Search
 pub mod Runs
 pub mod Affine
 pub mod Cuts
+pub mod Worst

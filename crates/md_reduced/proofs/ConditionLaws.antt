@@ -14,7 +14,7 @@ use Rattle.md_reduced.specs.declared.condition.ReducedCondition.{ReducedConditio
 use Rattle.md_reduced.specs.declared.condition.ReducedCondition.TheVariants.{Truth, Rational, Cut}
 use Rattle.md_reduced.specs.Conditions.{truths_at, truths, rationals, conditions_of, IsAt}
 use Rattle.md_lp.specs.Cuts.{AreCuts}
-use Rattle.md_reduced.proofs.CutLaws.{cuts-at_most}
+use Rattle.md_lp.proofs.CutLaws.{cuts-at_most}
 
 -- ---- how many
 

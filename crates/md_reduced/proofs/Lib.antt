@@ -1,4 +1,3 @@
-pub mod CutLaws
 pub mod ConditionLaws
 pub mod BuiltLaws
 pub mod TermForms

@@ -27,11 +27,11 @@ use Rattle.md_expost.proofs.MechanismLaws.{mechanism-of_masses}
 use Rattle.md_cert.specs.Certified.{Certified}
 use Rattle.md_reduced.specs.Points.{interim_in}
 use Rattle.md_cuts.specs.declared.auction_end.AuctionEnd.{AuctionEnd}
-use Rattle.md_cuts.specs.declared.cuts_error.CutsError.{CutsError}
-use Rattle.md_cuts.specs.declared.cuts_error.CutsError.TheVariants as errors
-use Rattle.md_cuts.specs.declared.optimum.Optimum.{Optimum}
+use Rattle.md_cut_runs.specs.declared.cuts_error.CutsError.{CutsError}
+use Rattle.md_cut_runs.specs.declared.cuts_error.CutsError.TheVariants as errors
+use Rattle.md_cut_runs.specs.declared.optimum.Optimum.{Optimum}
 use Rattle.md_cuts.specs.AuctionCuts.{IsSolvedAuction, TellsOptimum, auction_cutting}
-use Rattle.md_cuts.specs.CutRuns.{EndsSettled, EndsWide, HasSmallEntries, HasSmallEntry, TellsWide}
+use Rattle.md_cut_runs.specs.CutRuns.{EndsSettled, EndsWide, HasSmallEntries, HasSmallEntry, TellsWide}
 use Rattle.md_claims.specs.AuctionCertificates.{auction_certificate}
 use Rattle.md_claims.specs.AuctionClaims.{mechanism_in}
 use Rattle.md_claims.proofs.AuctionCertificates.{certified-at_interim}

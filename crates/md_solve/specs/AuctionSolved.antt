@@ -16,9 +16,9 @@ use Rattle.md_cert.specs.declared.bound.Bound.{Bound}
 use Rattle.md_cert.specs.Certified.{Certified}
 use Rattle.md_reduced.specs.Points.{interim_in}
 use Rattle.md_reduced.specs.ProgramOf.{IsReducedProgram}
-use Rattle.md_cuts.specs.declared.optimum.Optimum.{Optimum}
+use Rattle.md_cut_runs.specs.declared.optimum.Optimum.{Optimum}
 use Rattle.md_cuts.specs.AuctionCuts.{auction_cutting}
-use Rattle.md_cuts.specs.CutRuns.{EndsSettled, EndsWide}
+use Rattle.md_cut_runs.specs.CutRuns.{EndsSettled, EndsWide}
 use Rattle.md_claims.specs.AuctionCertificates.{auction_certificate}
 use Rattle.md_claims.specs.AuctionClaims.{IsOptimalRule, mechanism_in}
 use Rattle.md_answer.specs.declared.answer.Answer.{Answer}

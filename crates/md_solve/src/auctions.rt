@@ -2,9 +2,9 @@
 ghost use Rattle.std.specs.Prelude.{◌≡◌, ℕ, List, Some, IfOk};
 ghost use Rattle.md_lp.specs.Program.{Program};
 ghost use Rattle.md_lp.specs.declared.wide.Wide.{Wide};
-ghost use Rattle.md_cuts.specs.declared.optimum.Optimum.{Optimum};
+ghost use Rattle.md_cut_runs.specs.declared.optimum.Optimum.{Optimum};
 ghost use Rattle.md_cuts.specs.AuctionCuts.{auction_cutting};
-ghost use Rattle.md_cuts.specs.CutRuns.{EndsSettled, EndsWide};
+ghost use Rattle.md_cut_runs.specs.CutRuns.{EndsSettled, EndsWide};
 ghost use Rattle.md_answer.specs.AuctionAnswerTo.{IsAuctionAnswer};
 ghost use Rattle.md_answer.specs.declared.answer.Answer.{Answer};
 ghost use Rattle.md_solve.specs.AuctionSolved.{ClaimsAuctionOptimal, IsAuctionSo, IsAuctionSolved, IsCertifiedAuction, IsSameButMasses, WhereAuctionOptimal};

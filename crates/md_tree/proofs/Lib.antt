@@ -4,4 +4,14 @@ pub mod ClaimLaws
 pub mod OneVerdict
 pub mod AnswerLaws
 pub mod FitLaws
-pub mod SmallTrees
+pub mod Shorter
+pub mod RecordsRead
+pub mod TreesRead
+pub mod FixedRead
+pub mod TreesWritten
+pub mod TreesPushed
+pub mod WrittenAnswers
+pub mod JudgeLaws
+pub mod TreesJudged
+pub mod AnswersJudged
+pub mod Fewer

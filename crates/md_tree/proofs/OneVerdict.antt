@@ -22,19 +22,20 @@ use Rattle.md_cert.specs.declared.certificate.Certificate.TheVariants as certifi
 use Rattle.md_cert.proofs.SameCertificates.{certified-same}
 use Rattle.md_rows.proofs.OneProgram as rows
 use Rattle.md_claims.specs.Certificates.{optimal_certificate, unbounded_certificate}
+use Rattle.md_claims.specs.Values.{IsOtherValue}
+use Rattle.md_claims.proofs.ValueLaws.{same_least}
 use Rattle.md_determ_branching.specs.Fixed.{children_of}
 use Rattle.md_determ_node.specs.Deterministic.{HasNoLottery, IsDeterministic, IsFirstLottery}
 use Rattle.md_determ_node.proofs.Laws.{same_certificates}
 use Rattle.md_tree.specs.Trees.{AreTrees, root_of}
 use Rattle.md_tree.specs.Leaves.{IsCertified, IsRefused, IsCertifiedLeaf, IsRefusedLeaf, IsSoundLeaf}
-use Rattle.md_tree.specs.Verdicts.{IsLeafFault, IsFirstLeafFault, IsVerdictFrom, IsTreeVerdict, IsOtherValue, IsRule, IsRuleFault, IsOptimalVerdict, HasGrowth, HasNoGrowth, IsUnboundedVerdict}
+use Rattle.md_tree.specs.Verdicts.{IsLeafFault, IsFirstLeafFault, IsVerdictFrom, IsTreeVerdict, IsRule, IsRuleFault, IsOptimalVerdict, HasGrowth, HasNoGrowth, IsUnboundedVerdict}
 use Rattle.md_tree.specs.declared.node.Node.{Node}
 use Rattle.md_tree.specs.declared.node.Node.TheVariants.{Branch, Infeasible, Optimal}
 use Rattle.md_tree.specs.declared.verdict.DetReject.{DetReject}
 use Rattle.md_tree.specs.declared.verdict.DetReject.TheVariants.{Lottery, Audit, Value, Leaf, Worth, Root}
 use Rattle.md_tree.specs.declared.verdict.DetVerdict.{DetVerdict}
 use Rattle.md_tree.specs.declared.verdict.DetVerdict.TheVariants.{Valid, Undecided, Rejected}
-use Rattle.md_tree.proofs.WorthLaws.{one_value}
 
 -- ---- leaves
 
@@ -177,7 +178,7 @@ same_frac a b num den =
 one-value : (s : GeneralSetting) (m : Mechanism) (a b : Frac) → pos 0 <ℤ total_of s → pos 1 ≤ℤ m.den → IsValueOf s m a → IsValueOf s m b → a ≡ b
 one-value s m a b total den h k =
     let whole : pos 0 <ℤ (m.den *ℤ total_of s) = positive-*ℤ m.den (total_of s) (omega (arith, ints, den)) total in
-    let same = same_from_IsLeastTerms a.num a.den b.num b.den h.least k.least (one_value a.num a.den b.num b.den (worth_of s m) (m.den *ℤ total_of s) whole h.is_value k.is_value) in
+    let same = same_from_IsLeastTerms a.num a.den b.num b.den h.least k.least (same_least a.num a.den b.num b.den (worth_of s m) (m.den *ℤ total_of s) whole h.is_value k.is_value) in
     same_frac a b same.0 same.1
 
 -- ---- the first two conditions

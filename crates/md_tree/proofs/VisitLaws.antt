@@ -34,7 +34,7 @@ some-open s (fixed ∷ opens) node nodes h none = cc
 
 -- the trees at the open nodes that are left
 pub trees-after : (s : GeneralSetting) (opens : List (List (Option ℕ))) (node : Node) (nodes : List Node) → AreTrees (outcome_count s) (IsLeafFor s) opens (node ∷ nodes)
-    → AreTrees (outcome_count s) (IsLeafFor s) (opens_after (outcome_count s) (slice_index_or opens 0 []) (drop 1 opens) node) nodes
+    → AreTrees (outcome_count s) (IsLeafFor s) (opens_after (outcome_count s) (slice_index_or opens 0 []) node (drop 1 opens)) nodes
 trees-after s [] node nodes h = absurd h
 trees-after s (fixed ∷ opens) (Branch rank) nodes h = h.1
 trees-after s (fixed ∷ opens) (Infeasible face) nodes h = h.1
@@ -45,7 +45,7 @@ trees-after s (fixed ∷ opens) (Optimal m bound) nodes h = h.1
 -- a verdict on what is left is one on all, where the node is sound
 pub verdict-after : (s : GeneralSetting) (best : Option Mechanism) (opens : List (List (Option ℕ))) (number : ℕ) (node : Node) (nodes : List Node) (v : DetVerdict)
     → AreTrees (outcome_count s) (IsLeafFor s) opens (node ∷ nodes) → IsSoundNode s best (slice_index_or opens 0 []) node
-    → IsVerdictFrom s best (opens_after (outcome_count s) (slice_index_or opens 0 []) (drop 1 opens) node) (suc number) nodes v
+    → IsVerdictFrom s best (opens_after (outcome_count s) (slice_index_or opens 0 []) node (drop 1 opens)) (suc number) nodes v
     → IsVerdictFrom s best opens number (node ∷ nodes) v
 verdict-after s best [] number node nodes v trees sound h = absurd trees
 verdict-after s best (fixed ∷ opens) number (Branch rank) nodes Valid trees sound h = (trees.0, h)
@@ -106,7 +106,7 @@ module _ (s : GeneralSetting) (best : Option Mechanism) (tree : List Node) (tour
       way.verdicts (Rejected fault)
       (subst (λ nodes. IsVerdictFrom s best tour.opens place nodes (Rejected fault)) (sym rest) (verdict-here s best tour.opens place node (drop (suc place) tree) fault here h))
 
-  pub way-on : (new : Tour) → new.outcomes ≡ tour.outcomes → new.ranks ≡ tour.ranks → new.opens ≡ opens_after tour.outcomes (current_of tour) (rest_of tour) node
+  pub way-on : (new : Tour) → new.outcomes ≡ tour.outcomes → new.ranks ≡ tour.ranks → new.opens ≡ opens_after tour.outcomes (current_of tour) node (rest_of tour)
       → IsSoundNode s best (current_of tour) node → IsOnWay s best tree new (place + 1)
   way-on new same_outcomes same_ranks opens sound = rw add-one next
     where
@@ -114,10 +114,10 @@ module _ (s : GeneralSetting) (best : Option Mechanism) (tree : List Node) (tour
       nodes = drop (suc place) tree
 
       left : List (List (Option ℕ))
-      left = opens_after (outcome_count s) (current_of tour) (rest_of tour) node
+      left = opens_after (outcome_count s) (current_of tour) node (rest_of tour)
 
       opens_are : new.opens ≡ left
-      opens_are = opens ∙ ap (λ outcomes. opens_after outcomes (current_of tour) (rest_of tour) node) way.outcomes
+      opens_are = opens ∙ ap (λ outcomes. opens_after outcomes (current_of tour) node (rest_of tour)) way.outcomes
 
       verdict : (v : DetVerdict) → IsVerdictFrom s best left (suc place) nodes v → IsTreeVerdict s best tree v
       verdict v h =

@@ -1,7 +1,7 @@
 -- How what mechanisms are worth compares, as fractions over their denominators.
 use Rattle.std.proofs.Common.{◌≡◌, ◌↔◌, ℤ, pos, ◌*ℤ◌, ◌≤ℤ◌, ◌<ℤ◌, sym, ap, ◌∙◌, subst}
 use Rattle.md_math.proofs.Ring.{ring}
-use Rattle.md_math.proofs.Order.{*ℤ-le, *ℤ_cancel, le_from_*ℤ, le_from_lt, positive-*ℤ, ≤ℤ_trans}
+use Rattle.md_math.proofs.Order.{*ℤ-le, le_from_*ℤ, le_from_lt, positive-*ℤ, ≤ℤ_trans}
 
 -- a / x ≤ b / y and b / y ≤ c / z give a / x ≤ c / z
 pub at_most-chain : (a x b y c z : ℤ) → pos 0 <ℤ x → pos 0 <ℤ y → pos 0 <ℤ z → (a *ℤ y) ≤ℤ (b *ℤ x) → (b *ℤ z) ≤ℤ (c *ℤ y) → (a *ℤ z) ≤ℤ (c *ℤ x)
@@ -65,33 +65,3 @@ module _ (a b w m c d v n t : ℤ) (b_above : pos 0 <ℤ b) (d_above : pos 0 <�
   -- values compare as the worths do
   pub same-order : ((a *ℤ d) ≤ℤ (c *ℤ b)) ↔ ((w *ℤ n) ≤ℤ (v *ℤ m))
   same-order = (worth-at_most, value-at_most)
-
--- ---- one value
-
--- what is the same number as the value a / b of the worth w over t is this value too
-pub same_value : (a b n d w t : ℤ) → pos 0 <ℤ b → a *ℤ t ≡ w *ℤ b → a *ℤ d ≡ n *ℤ b → n *ℤ t ≡ w *ℤ d
-same_value a b n d w t above value same =
-    *ℤ_cancel b (n *ℤ t) (w *ℤ d) above (first b n t ∙ ap (λ z. z *ℤ t) (sym same) ∙ second a d t ∙ ap (λ z. z *ℤ d) value ∙ third w b d)
-  where
-    first : (b n t : ℤ) → b *ℤ (n *ℤ t) ≡ (n *ℤ b) *ℤ t
-    first b n t = simp ring
-
-    second : (a d t : ℤ) → (a *ℤ d) *ℤ t ≡ (a *ℤ t) *ℤ d
-    second a d t = simp ring
-
-    third : (w b d : ℤ) → (w *ℤ b) *ℤ d ≡ b *ℤ (w *ℤ d)
-    third w b d = simp ring
-
--- two values of a worth are the same number
-pub one_value : (a b n d w t : ℤ) → pos 0 <ℤ t → a *ℤ t ≡ w *ℤ b → n *ℤ t ≡ w *ℤ d → a *ℤ d ≡ n *ℤ b
-one_value a b n d w t above value same =
-    *ℤ_cancel t (a *ℤ d) (n *ℤ b) above (first a d t ∙ ap (λ z. z *ℤ d) value ∙ second w b d ∙ ap (λ z. z *ℤ b) (sym same) ∙ third n t b)
-  where
-    first : (a d t : ℤ) → t *ℤ (a *ℤ d) ≡ (a *ℤ t) *ℤ d
-    first a d t = simp ring
-
-    second : (w b d : ℤ) → (w *ℤ b) *ℤ d ≡ (w *ℤ d) *ℤ b
-    second w b d = simp ring
-
-    third : (n t b : ℤ) → (n *ℤ t) *ℤ b ≡ t *ℤ (n *ℤ b)
-    third n t b = simp ring

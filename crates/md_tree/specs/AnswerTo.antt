@@ -5,7 +5,7 @@ use Rattle.md_setting.specs.Setting.{GeneralSetting}
 use Rattle.md_setting.specs.Meaning.{outcome_count, sizes_of}
 use Rattle.md_mech.specs.Accepted.{IsAccepted}
 use Rattle.md_lp.specs.declared.pivot.Pivot.{Pivot}
-use Rattle.md_parts.specs.Fitting.{IsFraction, AreMultipliers, IsBoundOver, IsRayFor, HasFraction}
+use Rattle.md_parts.specs.Fitting.{IsFraction, AreMultipliers, IsBoundOver, IsRayFor, HasFraction, HasWidePlaces}
 use Rattle.md_determ_node.specs.NodeProgram.{row_count_of}
 use Rattle.md_tree.specs.Trees.{IsTree}
 use Rattle.md_tree.specs.declared.node.Node.{Node}
@@ -30,3 +30,8 @@ IsDetAnswerTo s (answers.Optimal value m tree) = IsFraction value.num value.den 
 IsDetAnswerTo s (answers.Infeasible tree) = IsTree s (IsLeafFor s) tree
 IsDetAnswerTo s (answers.Unbounded m ray) = IsAccepted s m × IsRayFor s ray
 IsDetAnswerTo s (answers.TooWide fixed first second) = AreFixedFrom s 0 fixed × HasFraction first × HasFraction second
+
+-- the places that an answer names are as its types hold them
+abbrev pub HasPlaces : DetAnswer → Type 0
+HasPlaces (answers.TooWide fixed first second) = HasWidePlaces first × HasWidePlaces second
+HasPlaces _ = Unit {0}

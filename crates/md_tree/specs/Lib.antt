@@ -3,3 +3,9 @@ pub mod Leaves
 pub mod AnswerTo
 pub mod Verdicts
 pub mod Visits
+pub mod Kinds
+pub mod TreeText
+pub mod AnswerText
+pub mod Rows
+pub mod Texts
+pub mod Judging

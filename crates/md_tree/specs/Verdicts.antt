@@ -13,12 +13,13 @@ use Rattle.md_setting.specs.Setting.{GeneralSetting}
 use Rattle.md_setting.specs.Meaning.{outcome_count}
 use Rattle.md_mech.specs.declared.mechanism.Mechanism.{Mechanism}
 use Rattle.md_mech.specs.Admissible.{IsAdmissible}
-use Rattle.md_mech.specs.Value.{HasValue, IsValueOf}
+use Rattle.md_mech.specs.Value.{HasValue}
 use Rattle.md_mech.specs.Rows.{IsFirstBroken, conditions_of}
 use Rattle.md_lp.specs.Program.{Program}
 use Rattle.md_cert.specs.Certified.{Certified}
 use Rattle.md_rows.specs.ProgramOf.{IsProgramOf}
 use Rattle.md_claims.specs.Certificates.{unbounded_certificate}
+use Rattle.md_claims.specs.Values.{IsOtherValue}
 use Rattle.md_determ_branching.specs.Fixed.{children_of}
 use Rattle.md_determ_node.specs.Deterministic.{IsDeterministic, IsFirstLottery, IsOptimalDeterministic, HasNoDeterministic, GrowsDeterministic}
 use Rattle.md_tree.specs.Trees.{AreTrees, root_of}
@@ -58,11 +59,6 @@ abbrev pub IsTreeVerdict : GeneralSetting → Option Mechanism → List Node →
 IsTreeVerdict s best tree verdict = IsVerdictFrom s best (root_of s ∷ []) 0 tree verdict
 
 -- ---- the answers
-
--- the value is this one, in least terms, and not the printed fraction
-pub record IsOtherValue (s : GeneralSetting) (m : Mechanism) (printed found : Frac) : Type 0 where
-  pub other : ¬ HasValue s m printed
-  pub right : IsValueOf s m found
 
 -- an admissible mechanism whose lotteries are each on one outcome
 pub record IsRule (s : GeneralSetting) (m : Mechanism) : Type 0 where

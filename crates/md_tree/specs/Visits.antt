@@ -27,10 +27,16 @@ abbrev pub IsNodeFor : GeneralSetting → List (Option ℕ) → Node → Type 0
 IsNodeFor s fixed (Branch rank) = IsFree fixed rank
 IsNodeFor s fixed leaf = IsLeafFor s fixed leaf
 
--- the open nodes once this one was visited, of which the first is fixed so and the others come behind it
-abbrev pub opens_after : ℕ → List (Option ℕ) → List (List (Option ℕ)) → Node → List (List (Option ℕ))
-opens_after outcomes fixed others (Branch rank) = children_of outcomes fixed rank ++ others
-opens_after outcomes fixed others leaf = others
+-- a branch stands where nothing is fixed, and a leaf anywhere
+abbrev pub MayStand : List (Option ℕ) → Node → Type 0
+MayStand fixed (Branch rank) = IsFree fixed rank
+MayStand fixed leaf = Unit {0}
+
+-- The open nodes once this one was visited, where this is fixed at it and the others were open behind it: a branch opens its
+-- children before these.
+abbrev pub opens_after : ℕ → List (Option ℕ) → Node → List (List (Option ℕ)) → List (List (Option ℕ))
+opens_after outcomes fixed (Branch rank) others = children_of outcomes fixed rank ++ others
+opens_after outcomes fixed leaf others = others
 
 -- the node is a branch, or a leaf that shows what it is to show
 abbrev pub IsSoundNode : GeneralSetting → Option Mechanism → List (Option ℕ) → Node → Type 0

@@ -13,13 +13,12 @@ ghost use Rattle.md_tree.specs.Verdicts.{IsTreeVerdict, IsOptimalVerdict, IsUnbo
 ghost use Rattle.md_tree.specs.Visits.{IsBest, IsNodeFor, IsSoundNode, IsNodeFault, opens_after};
 
 use crate::answer::DetAnswer;
-use crate::certificates::unbounded_certificate;
 use crate::leaves::check_leaf;
 use crate::node::Node;
 use crate::tree::Tree;
 use crate::verdict::{DetReject, DetVerdict};
-use crate::worths::other_value;
 use md_cert::check_lp;
+use md_claims::{other_value, unbounded_certificate};
 use md_determ_branching::Walk;
 use md_determ_node::first_lottery;
 use md_mech::{Mechanism, audit};
@@ -104,7 +103,7 @@ fn check_unbounded(
 
 /// Why a mechanism is no admissible one without lotteries: the first lottery, or else the first condition of the setting that it
 /// breaks. None where it is one.
-pub fn rule_fault(setting: &Setting, mechanism: &Mechanism) -> Option<DetReject>
+pub(crate) fn rule_fault(setting: &Setting, mechanism: &Mechanism) -> Option<DetReject>
     requires { IsAccepted setting.now mechanism.now }
     ensures { MatchOption result (IsRule setting.now mechanism.now) (IsRuleFault setting.now mechanism.now) }
 {
@@ -159,7 +158,7 @@ fn check_tree(
 ///
 /// # Errors
 /// Want of memory, for the program and the certificate of a leaf.
-pub fn visit(
+pub(crate) fn visit(
     alloc: Global,
     setting: &Setting,
     best: Option<&Mechanism>,
@@ -177,7 +176,7 @@ pub fn visit(
     // The walk goes on.
     ensures ranks { IfOk result (λ _. walk.new.ranks ≡ walk.old.ranks) }
     ensures outcomes { IfOk result (λ _. walk.new.outcomes ≡ walk.old.outcomes) }
-    ensures opens { IfOk result (λ _. walk.new.opens ≡ opens_after walk.old.outcomes (current_of walk.old) (rest_of walk.old) node.now) }
+    ensures opens { IfOk result (λ _. walk.new.opens ≡ opens_after walk.old.outcomes (current_of walk.old) node.now (rest_of walk.old)) }
 {
     if let Node::Branch(rank) = node {
         walk.branch(*rank);

@@ -2,8 +2,7 @@
 use md_num::Frac;
 use md_samples::{SampleAgent, Utility, setting};
 use md_setting::{RawSetting, Setting};
-use md_tree::{DetReject, DetVerdict, check_determ};
-use md_tree_text::{read_determ, write_determ};
+use md_tree::{DetReject, DetVerdict, check_determ, read_determ, write_determ};
 use std::alloc::{AllocError, Global};
 use std::test::Fail;
 

@@ -1,9 +1,9 @@
 -- Which mechanisms of a sale of several units have some interim odds and payments, and by how much sets of values ask for units
 -- more often than there are some (Border 1991).
-use Rattle.std.specs.Prelude.{◌≡◌, ℕ, ◌<◌, ◌^◌, ℤ, pos, ◌-ℤ◌, ◌*ℤ◌, ◌≤ℤ◌, ◌<ℤ◌, true, List, if◌then◌else◌}
+use Rattle.std.specs.Prelude.{◌≡◌, ℕ, ◌<◌, ℤ, pos, ◌-ℤ◌, ◌*ℤ◌, List, if◌then◌else◌}
 use Rattle.md_math.specs.Lists.{number_at}
-use Rattle.md_math.specs.Sets.{member}
 use Rattle.md_math.specs.Sums.{sum_to}
+use Rattle.md_lp.specs.Worst.{IsWorstBy, NoneOverBy}
 use Rattle.md_setting.specs.Auction.{SymmetricAuction, value_count}
 use Rattle.md_setting.specs.Meaning.{outcome_count}
 use Rattle.md_mech.specs.declared.mechanism.Mechanism.{Mechanism}
@@ -41,14 +41,10 @@ pub record HasUnitPays (a : SymmetricAuction) (units : ℕ) (m : Mechanism) (den
 abbrev pub unit_excess_of : SymmetricAuction → ℕ → Interim → ℕ → ℤ
 unit_excess_of a units interim set = demands_in a interim set -ℤ interim.den *ℤ right_by_counts a units set
 
--- a set has the greatest excess, which is positive, and each other set with the same excess is a part of it
-pub record IsWorstUnitSet (a : SymmetricAuction) (units : ℕ) (interim : Interim) (set : ℕ) : Type 0 where
-  pub inside : set < 2 ^ value_count a
-  pub positive : pos 0 <ℤ unit_excess_of a units interim set
-  pub greatest : (other : ℕ) → other < 2 ^ value_count a → unit_excess_of a units interim other ≤ℤ unit_excess_of a units interim set
-  pub largest : (other : ℕ) → other < 2 ^ value_count a → unit_excess_of a units interim other ≡ unit_excess_of a units interim set
-      → (v : ℕ) → v < value_count a → member other v ≡ true → member set v ≡ true
+-- the largest of the sets with the greatest excess, which is positive
+abbrev pub IsWorstUnitSet : SymmetricAuction → ℕ → Interim → ℕ → Type 0
+IsWorstUnitSet a units interim = IsWorstBy (value_count a) (unit_excess_of a units interim)
 
 -- no set asks for more units than there are
-pub record MeetsUnitBorder (a : SymmetricAuction) (units : ℕ) (interim : Interim) : Type 0 where
-  pub none_over : (set : ℕ) → set < 2 ^ value_count a → unit_excess_of a units interim set ≤ℤ pos 0
+abbrev pub MeetsUnitBorder : SymmetricAuction → ℕ → Interim → Type 0
+MeetsUnitBorder a units interim = NoneOverBy (value_count a) (unit_excess_of a units interim)

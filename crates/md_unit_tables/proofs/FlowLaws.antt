@@ -12,6 +12,7 @@ use Rattle.md_math.specs.Sums.{sum_to}
 use Rattle.md_math.proofs.Order.{*ℤ-le, chosen-times}
 use Rattle.md_math.proofs.Ring.{*ℤ_assoc}
 use Rattle.md_math.proofs.SumLaws.{sum_to-same, sum_to-*ℤ}
+use Rattle.md_lp.proofs.WorstLaws.{worst-same, none_over-same}
 use Rattle.md_setting.specs.Auction.{SymmetricAuction, value_count}
 use Rattle.md_counts.specs.Weights.{weight_of_counts}
 use Rattle.md_counts.proofs.ListsOfValues.{total_by-count_lists}
@@ -137,18 +138,9 @@ over-excess a units interim net set some h =
     (given-to a units interim net set some h)
 
 pub border-met : (a : SymmetricAuction) (units : ℕ) (interim : Interim) (net : Network) → pos 1 ≤ℤ interim.den → IsUnitNetOf a units interim net → NoneOver net → MeetsUnitBorder a units interim
-border-met a units interim net some h none = record { none_over = λ set b. subst (λ z. z ≤ℤ pos 0) (over-excess a units interim net set some h) (none.none (member set)) }
+border-met a units interim net some h =
+    none_over-same (demand_count net) (value_count a) (λ set. over net (member set)) (unit_excess_of a units interim) (demands-of a units interim net h) (λ set. over-excess a units interim net set some h)
 
-pub worst-of_net : (a : SymmetricAuction) (units : ℕ) (interim : Interim) (net : Network) (set : ℕ) → pos 1 ≤ℤ interim.den → IsUnitNetOf a units interim net → set < 2 ^ demand_count net → IsWorst net (member set)
-    → IsWorstUnitSet a units interim set
-worst-of_net a units interim net set some h b worst = record {
-  inside = subst (λ k. set < 2 ^ k) (demands-of a units interim net h) b;
-  positive = subst (λ z. pos 0 <ℤ z) (same set) worst.positive;
-  greatest = λ other c.
-      subst (λ z. z ≤ℤ unit_excess_of a units interim set) (same other)
-      (subst (λ z. over net (member other) ≤ℤ z) (same set) (worst.greatest (member other)));
-  largest = λ other c e v l m. worst.largest (member other) (same other ∙ e ∙ sym (same set)) v (omega (arith, demands-of a units interim net h, l)) m;
-}
-  where
-    same : (other : ℕ) → over net (member other) ≡ unit_excess_of a units interim other
-    same other = over-excess a units interim net other some h
+pub worst-of_net : (a : SymmetricAuction) (units : ℕ) (interim : Interim) (net : Network) (set : ℕ) → pos 1 ≤ℤ interim.den → IsUnitNetOf a units interim net → IsWorst net set → IsWorstUnitSet a units interim set
+worst-of_net a units interim net set some h =
+    worst-same (demand_count net) (value_count a) (λ set. over net (member set)) (unit_excess_of a units interim) set (demands-of a units interim net h) (λ other. over-excess a units interim net other some h)

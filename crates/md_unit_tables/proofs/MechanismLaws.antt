@@ -12,6 +12,7 @@ use Rattle.md_math.proofs.Ring.{ring, *ℤ_assoc}
 use Rattle.md_math.proofs.SumLaws.{sum_to-same}
 use Rattle.md_space.specs.Profiles.{IsProfile}
 use Rattle.md_space.proofs.TypeSums.{total_given-same, total_given-*ℤ}
+use Rattle.md_lp.proofs.WorstLaws.{worst-over}
 use Rattle.md_setting.specs.Meaning.{outcome_count, sizes_of, weight_of}
 use Rattle.md_setting.specs.Auction.{SymmetricAuction, value_count}
 use Rattle.md_setting.specs.AuctionShaped.{IsAuction}
@@ -163,7 +164,4 @@ pays-of_table a units y pays h = record { paid = λ i v b l. at i v b l }
 pub no_mechanism : (a : SymmetricAuction) (units : ℕ) (interim : Interim) (set : ℕ) (m : Mechanism) → IsInterim a interim → IsWorstUnitSet a units interim set → IsMechanism (units_of a units) m
     → HasUnitOdds a units m interim.den interim.odds → ⊥
 no_mechanism a units interim set m fits worst mechanism odds =
-    never (unit_excess_of a units interim set) worst.positive (border-units a units interim set m fits.den_positive mechanism odds)
-  where
-    never : (z : ℤ) → pos 0 <ℤ z → z ≤ℤ pos 0 → ⊥
-    never z p q = omega (arith, ints)
+    worst-over (value_count a) (unit_excess_of a units interim) set worst (border-units a units interim set m fits.den_positive mechanism odds)

@@ -13,8 +13,8 @@ use Rattle.md_mech.specs.Optimal.{IsOptimal}
 use Rattle.md_mech.specs.Value.{IsValueOf}
 use Rattle.md_border.specs.declared.interim.Interim.{Interim}
 use Rattle.md_reduced.specs.Points.{interim_in}
-use Rattle.md_cuts.specs.declared.optimum.Optimum.{Optimum}
-use Rattle.md_cuts.specs.CutRuns.{EndsSettled, IsShownBy}
+use Rattle.md_cut_runs.specs.declared.optimum.Optimum.{Optimum}
+use Rattle.md_cut_runs.specs.CutRuns.{EndsSettled, IsShownBy}
 use Rattle.md_unit_laws.specs.Odds.{HasUnitOdds, HasUnitPays}
 use Rattle.md_unit_laws.specs.Setting.{units_of}
 use Rattle.md_unit_laws.specs.Worth.{HasUnitWorth}

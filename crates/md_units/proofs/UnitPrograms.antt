@@ -10,10 +10,9 @@ use Rattle.md_reduced.specs.Points.{interim_in, MeetsReduced}
 use Rattle.md_reduced.specs.ProgramOf.{column_count}
 use Rattle.md_reduced.specs.Sides.{demands_of}
 use Rattle.md_reduced.proofs.BoundLaws.{bounded, zero-meets}
-use Rattle.md_cuts.specs.Cutting.{IsCutPoint, IsCutting}
-use Rattle.md_cuts.specs.Worst.{IsWorst, NoneOver}
+use Rattle.md_cut_runs.specs.Cutting.{IsCutPoint, IsCutting}
 use Rattle.md_cuts.proofs.AuctionPrograms.{cut-met, demands-at, empty-met, one-program}
-use Rattle.md_unit_laws.specs.Odds.{IsWorstUnitSet, MeetsUnitBorder, unit_excess_of}
+use Rattle.md_unit_laws.specs.Odds.{unit_excess_of}
 use Rattle.md_units.specs.UnitCuts.{unit_cutting}
 
 -- ---- the cutting
@@ -36,16 +35,10 @@ IsCutting-units a units shaped = record {
   bounded = λ cuts p den x ray singles is. bounded a units cuts p shaped is singles den x ray;
 }
 
--- ---- points and worst sets
+-- ---- points
 
 pub meets-reduced : (a : SymmetricAuction) (units : ℕ) (den : ℤ) (point : List ℤ) → IsCutPoint (unit_cutting a units) den point → MeetsReduced a den (number_at point)
 meets-reduced a units den point h = record { units = units; cuts = h.cuts; program = h.program; is_program = h.is_program; singles = h.singles; meets = h.meets }
 
 pub point-length : (a : SymmetricAuction) (units : ℕ) (den : ℤ) (point : List ℤ) → IsCutPoint (unit_cutting a units) den point → length point ≡ column_count a
 point-length a units den point h = h.point_fits.one_each ∙ h.is_program.columns
-
-pub worst-of : (a : SymmetricAuction) (units : ℕ) (den : ℤ) (x : ℕ → ℤ) (set : ℕ) → IsWorstUnitSet a units (interim_in a den x) set → IsWorst (unit_cutting a units) den x set
-worst-of a units den x set h = record { inside = h.inside; positive = h.positive; greatest = h.greatest; largest = h.largest }
-
-pub none-over : (a : SymmetricAuction) (units : ℕ) (den : ℤ) (x : ℕ → ℤ) → MeetsUnitBorder a units (interim_in a den x) → NoneOver (unit_cutting a units) den x
-none-over a units den x h = record { none_over = h.none_over }

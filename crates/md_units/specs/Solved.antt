@@ -4,8 +4,8 @@ use Rattle.md_math.specs.Lists.{number_at}
 use Rattle.md_setting.specs.Auction.{SymmetricAuction}
 use Rattle.md_mech.specs.declared.mechanism.Mechanism.{Mechanism}
 use Rattle.md_reduced.specs.Points.{interim_in}
-use Rattle.md_cuts.specs.declared.optimum.Optimum.{Optimum}
-use Rattle.md_cuts.specs.CutRuns.{EndsSettled, IsShownBy}
+use Rattle.md_cut_runs.specs.declared.optimum.Optimum.{Optimum}
+use Rattle.md_cut_runs.specs.CutRuns.{EndsSettled, IsShownBy}
 use Rattle.md_unit_tables.specs.Mechanisms.{unit_mechanism_of}
 use Rattle.md_unit_tables.specs.Tables.{table_of}
 use Rattle.md_units.specs.declared.units_answer.UnitsAnswer.{UnitsAnswer}

@@ -4,7 +4,7 @@ use Rattle.md_setting.specs.Auction.{SymmetricAuction, value_count}
 use Rattle.md_border.specs.Odds.{IsInterim}
 use Rattle.md_reduced.specs.Points.{interim_in}
 use Rattle.md_reduced.specs.ProgramOf.{IsReducedProgram}
-use Rattle.md_cuts.specs.Cutting.{Cutting}
+use Rattle.md_cut_runs.specs.Cutting.{Cutting}
 use Rattle.md_unit_laws.specs.Odds.{unit_excess_of}
 use Rattle.md_unit_tables.specs.Tables.{ImplementsUnits, IsUnitTable, table_of}
 use Rattle.md_units.specs.declared.unit_cuts.Realised.{Realised}

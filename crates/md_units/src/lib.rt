@@ -9,7 +9,7 @@ mod unit_cuts;
 mod units_answer;
 mod worth;
 
-pub use md_cuts::CutsError as UnitsError;
+pub use md_cut_runs::CutsError as UnitsError;
 pub use md_unit_tables::{UnitEnd, realise_units};
 pub use programs::program;
 pub use sides::right_side;

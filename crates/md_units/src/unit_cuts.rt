@@ -1,14 +1,14 @@
 //! The cut programs of sales of several units: reduced programs, whose cuts are Border's conditions.
 ghost use Rattle.std.specs.Prelude.{◌≡◌, IfOk};
 ghost use Rattle.md_math.specs.Lists.{number_at};
-ghost use Rattle.md_cuts.specs.Cutting.{IsCutPoint, IsCutting};
-ghost use Rattle.md_cuts.specs.Worst.{IsWorst, NoneOver, WhereTable, WhereViolated};
+ghost use Rattle.md_cut_runs.specs.Cutting.{IsCutPoint, IsCutting};
+ghost use Rattle.md_cut_runs.specs.Worst.{IsWorst, NoneOver, WhereTable, WhereViolated};
 ghost use Rattle.md_units.specs.Numbers.{IsUnitNumber};
 ghost use Rattle.md_units.specs.UnitCuts.{IsUnitRealised, unit_cutting};
 
 use crate::program;
 use md_border::Interim;
-use md_cuts::{CutProgram, Worst};
+use md_cut_runs::{CutProgram, Worst};
 use md_lp::{Lp, Sets};
 use md_num::{NoMemory, Nums};
 use md_reduced::interim_of;

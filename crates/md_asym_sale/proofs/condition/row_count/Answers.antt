@@ -1,7 +1,7 @@
 use Rattle.std.proofs.Common.{arith}
 use Rattle.md_asym_sale.specs.Values.{pairs_of}
 use Rattle.md_asym_sale.proofs.ConditionLaws.{conditions-length}
-use Rattle.md_asym_sale.proofs.CutLaws.{cuts-at_most}
+use Rattle.md_lp.proofs.CutLaws.{cuts-at_most}
 use Rattle.md_asym_sale.proofs.condition.row_count.Goals as goal
 
 pub overflow_cast-result : goal.overflow_cast-result

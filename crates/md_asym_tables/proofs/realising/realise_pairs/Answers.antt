@@ -71,7 +71,7 @@ returns-clause-violated c =
     let den = read_within number_limit c.args.den (den-within s c.args.den c.args.odds.now c.requires.odds) (lit< tt) in
     let net : IsNetOf s c.args.den c.args.odds.now c.in_ok-net.net = rw den at c.in_ok-net.ensures.net in
     let cut = subst (IsEndOf c.in_ok-net.net) c.in-Cut.is c.in_ok-amounts.ensures in
-    worst-of_net s c.args.den c.args.odds.now c.in_ok-net.net c.in-Cut.set net cut.inside cut.worst
+    worst-of_net s c.args.den c.args.odds.now c.in_ok-net.net c.in-Cut.set net cut.worst
 
 pub returns-clause-necessary : goal.returns-clause-necessary
 returns-clause-necessary c =
@@ -79,5 +79,5 @@ returns-clause-necessary c =
     let den = read_within number_limit c.args.den (den-within s c.args.den c.args.odds.now c.requires.odds) (lit< tt) in
     let net : IsNetOf s c.args.den c.args.odds.now c.in_ok-net.net = rw den at c.in_ok-net.ensures.net in
     let cut = subst (IsEndOf c.in_ok-net.net) c.in-Cut.is c.in_ok-amounts.ensures in
-    let worst = worst-of_net s c.args.den c.args.odds.now c.in_ok-net.net c.in-Cut.set net cut.inside cut.worst in
+    let worst = worst-of_net s c.args.den c.args.odds.now c.in_ok-net.net c.in-Cut.set net cut.worst in
     λ m mechanism has. no_mechanism s m c.args.den c.args.odds.now c.in-Cut.set c.requires.sale c.in_ok-net.ensures.shaped c.requires.odds.den_positive worst mechanism has

@@ -2,15 +2,18 @@ use Rattle.std.proofs.Common.{sym, subst}
 use Rattle.md_cert.specs.Fitting.{Fits}
 use Rattle.md_cert.specs.declared.certificate.Certificate.{Certificate}
 use Rattle.md_cert.specs.declared.certificate.Certificate.TheVariants as certificate
+use Rattle.md_setting.specs.Rows.{row_count}
+use Rattle.md_claims.proofs.FitLaws.{fits-rows, program-rows}
 use Rattle.md_claims.proofs.SettingClaims.{with_laws}
 use Rattle.md_check.specs.Certificates.{Judges}
-use Rattle.md_check.proofs.FitLaws.{fits-rows}
 use Rattle.md_check.proofs.VerdictLaws.{judged-on_all, infeasible-judged}
 use Rattle.md_check.proofs.checking.check_infeasible.Goals as goal
 
 pub judge-requires-clause-fits : goal.judge-requires-clause-fits
 judge-requires-clause-fits c =
-    subst (Fits c.in_ok-program.program) (sym c.in_ok-certificate.ensures) (fits-rows c.args.setting.now c.in_ok-program.program c.args.face.now c.in_ok-program.ensures.program c.requires)
+    let s = c.args.setting.now in
+    let p = c.in_ok-program.program in
+    subst (Fits p) (sym c.in_ok-certificate.ensures) (fits-rows p (row_count s) c.args.face.now (program-rows s p c.in_ok-program.ensures.program) c.requires)
 
 pub returns-clause-verdict : goal.returns-clause-verdict
 returns-clause-verdict c =

@@ -1,18 +1,21 @@
 use Rattle.std.proofs.Common.{sym, subst}
 use Rattle.md_cert.specs.Fitting.{Fits}
 use Rattle.md_cert.specs.declared.certificate.Certificate.{Certificate}
+use Rattle.md_setting.specs.Rows.{row_count}
+use Rattle.md_claims.proofs.FitLaws.{fits-optimal, program-rows}
 use Rattle.md_claims.proofs.SettingClaims.{with_laws}
 use Rattle.md_claims.specs.Certificates.{optimal_certificate}
 use Rattle.md_check.specs.Certificates.{HasMetPoint, Judges}
-use Rattle.md_check.proofs.FitLaws.{fits-optimal}
 use Rattle.md_check.proofs.VerdictLaws.{judged-on_all, optimal-judged}
 use Rattle.md_check.proofs.checking.judge_optimal.Goals as goal
 
 pub judge-requires-clause-fits : goal.judge-requires-clause-fits
 judge-requires-clause-fits c =
+    let s = c.args.setting.now in
     let p = c.in_ok-program.program in
+    let is = c.in_ok-program.ensures.program in
     subst (Fits p) (sym c.in_ok-certificate.ensures)
-    (fits-optimal c.args.setting.now p c.args.mechanism.now c.args.bound.now c.in_ok-program.ensures.program c.requires.accepted c.requires.bound)
+    (fits-optimal s p (row_count s) c.args.mechanism.now c.args.bound.now is.columns (program-rows s p is) c.requires.accepted c.requires.bound)
 
 pub judge-requires-clause-met : goal.judge-requires-clause-met
 judge-requires-clause-met c =

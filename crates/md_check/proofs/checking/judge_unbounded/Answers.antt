@@ -1,10 +1,10 @@
 use Rattle.std.proofs.Common.{sym, subst}
 use Rattle.md_cert.specs.Fitting.{Fits}
 use Rattle.md_cert.specs.declared.certificate.Certificate.{Certificate}
+use Rattle.md_claims.proofs.FitLaws.{fits-unbounded}
 use Rattle.md_claims.proofs.SettingClaims.{with_laws}
 use Rattle.md_claims.specs.Certificates.{unbounded_certificate}
 use Rattle.md_check.specs.Certificates.{HasMetPoint, Judges}
-use Rattle.md_check.proofs.FitLaws.{fits-unbounded}
 use Rattle.md_check.proofs.VerdictLaws.{judged-on_all, unbounded-judged}
 use Rattle.md_check.proofs.checking.judge_unbounded.Goals as goal
 
@@ -12,7 +12,7 @@ pub judge-requires-clause-fits : goal.judge-requires-clause-fits
 judge-requires-clause-fits c =
     let p = c.in_ok-program.program in
     subst (Fits p) (sym c.in_ok-certificate.ensures)
-    (fits-unbounded c.args.setting.now p c.args.mechanism.now c.args.ray.now c.in_ok-program.ensures.program c.requires.accepted c.requires.ray)
+    (fits-unbounded c.args.setting.now p c.args.mechanism.now c.args.ray.now c.in_ok-program.ensures.program.columns c.requires.accepted c.requires.ray)
 
 pub judge-requires-clause-met : goal.judge-requires-clause-met
 judge-requires-clause-met c =

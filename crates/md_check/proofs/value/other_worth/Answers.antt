@@ -6,7 +6,7 @@ use Rattle.md_math.proofs.Order.{positive-*ℤ, positive_pos}
 use Rattle.md_setting.specs.Auction.{total_weight}
 use Rattle.md_border.specs.Worth.{HasWorth, worth_of}
 use Rattle.md_border.proofs.DemandLaws.{total-positive}
-use Rattle.md_check.proofs.ValueLaws.{same_value, same_least, never_below}
+use Rattle.md_claims.proofs.ValueLaws.{same_value, same_least, never_below}
 use Rattle.md_check.proofs.value.other_worth.Goals as goal
 
 pub prove-unreachable-requires : goal.prove-unreachable-requires

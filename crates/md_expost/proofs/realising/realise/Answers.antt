@@ -43,7 +43,7 @@ returns-in-Full-clause-pays c = λ pays. pays-of_masses c.args.auction.now (tabl
 pub returns-clause-violated : goal.returns-clause-violated
 returns-clause-violated c =
     let cut = subst (IsEndOf c.in_ok-net.net) c.in-Cut.is c.in_ok-rows.ensures in
-    worst-of_net c.args.auction.now c.args.interim.now c.in_ok-net.net c.in-Cut.set c.in_ok-net.ensures cut.inside cut.worst
+    worst-of_net c.args.auction.now c.args.interim.now c.in_ok-net.net c.in-Cut.set c.in_ok-net.ensures cut.worst
 
 pub returns-clause-necessary : goal.returns-clause-necessary
 returns-clause-necessary c = λ m mechanism odds. no_mechanism c.args.auction.now c.args.interim.now c.in-Cut.set m c.requires.fits (returns-clause-violated c) mechanism odds

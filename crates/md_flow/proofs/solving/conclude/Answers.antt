@@ -23,8 +23,7 @@ returns c =
     let unreached : IsUnreached c.args.net.now c.args.labels.now.demands.items (member c.unreached.result) = record { is = c.unreached.ensures.members } in
     let inside : c.first_lacking.result < demand_count c.args.net.now = omega (arith, c.if-first_lacking-demands.false, c.demands.ensures.value) in
     record {
-      worst = IsWorst-end c.args.net.now (flow_of c.args.flow.now) c.args.labels.now.nodes.items c.args.labels.now.demands.items (member c.unreached.result) c.requires.part c.requires.labels c.requires.reached c.requires.full unreached c.first_lacking.result inside (c.first_lacking.ensures.lacks inside);
-      inside = c.unreached.ensures.size;
+      worst = IsWorst-end c.args.net.now (flow_of c.args.flow.now) c.args.labels.now.nodes.items c.args.labels.now.demands.items c.unreached.result c.unreached.ensures.size c.requires.part c.requires.labels c.requires.reached c.requires.full unreached c.first_lacking.result inside (c.first_lacking.ensures.lacks inside);
       one_each = listed-length c.args.net.now c.args.flow.now.nodes c.args.flow.now.demands c.in_ok-amounts.amounts c.requires.nodes c.requires.demands c.in_ok-amounts.ensures.length;
       part = IsPartFlow-same c.args.net.now (flow_of c.args.flow.now) (amount_in c.args.net.now c.in_ok-amounts.amounts) c.requires.part same;
       carries = carried-same c.args.net.now (flow_of c.args.flow.now) (amount_in c.args.net.now c.in_ok-amounts.amounts) same ∙ carried-end c.args.net.now (flow_of c.args.flow.now) c.args.labels.now.nodes.items c.args.labels.now.demands.items (member c.unreached.result) c.requires.part c.requires.labels c.requires.reached c.requires.full unreached;

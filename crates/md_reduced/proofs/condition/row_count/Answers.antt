@@ -1,7 +1,7 @@
 use Rattle.std.proofs.Common.{◌≡◌, ◌-◌, ◌*◌, ap, arith}
 use Rattle.md_setting.specs.Auction.{value_count}
 use Rattle.md_reduced.proofs.ConditionLaws.{conditions-length, conditions-few}
-use Rattle.md_reduced.proofs.CutLaws.{cuts-at_most}
+use Rattle.md_lp.proofs.CutLaws.{cuts-at_most}
 use Rattle.md_reduced.proofs.condition.row_count.Goals as goal
 
 total : (c : goal.After-len) → c.kinds-kinds.result * (c.kinds-kinds.result - 1) ≡ value_count c.args.auction.now * (value_count c.args.auction.now - 1)

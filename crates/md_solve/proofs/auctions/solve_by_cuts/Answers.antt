@@ -2,7 +2,7 @@ use Rattle.std.proofs.Common.{sym, ◌∙◌, subst}
 use Rattle.md_border.specs.Worth.{IsWorthOf}
 use Rattle.md_setting.specs.Auction.{value_count}
 use Rattle.md_lp.specs.Cuts.{AreCuts}
-use Rattle.md_cuts.specs.CutRuns.{HasSmallEntries, TellsWide, WhereWide}
+use Rattle.md_cut_runs.specs.CutRuns.{HasSmallEntries, TellsWide, WhereWide}
 use Rattle.md_solve.proofs.AuctionAnswers.{certified-with, fits-with, not-memory, only-wide, only-with, so-with, wide-told, wide-with}
 use Rattle.md_solve.proofs.auctions.solve_by_cuts.Goals as goal
 

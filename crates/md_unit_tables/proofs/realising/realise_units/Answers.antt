@@ -33,7 +33,7 @@ returns-in-Full-clause-pays c = λ pays. pays-of_table c.args.auction.now c.args
 pub returns-clause-violated : goal.returns-clause-violated
 returns-clause-violated c =
     let cut = subst (IsEndOf c.in_ok-net.net) c.in-Cut.is c.in_ok-rows.ensures in
-    worst-of_net c.args.auction.now c.args.units c.args.interim.now c.in_ok-net.net c.in-Cut.set c.requires.fits.den_positive c.in_ok-net.ensures cut.inside cut.worst
+    worst-of_net c.args.auction.now c.args.units c.args.interim.now c.in_ok-net.net c.in-Cut.set c.requires.fits.den_positive c.in_ok-net.ensures cut.worst
 
 pub returns-clause-necessary : goal.returns-clause-necessary
 returns-clause-necessary c = λ m mechanism odds.

@@ -1,6 +1,0 @@
-use Rattle.std.proofs.Common.{◌≡◌, ◌++◌, map, take}
-use Rattle.md_reduced.specs.Averages.{minus_part}
-use Rattle.md_check.proofs.points.push_minus_parts.Given as goal
-
-abbrev pub invariant-loop-pay : goal.invariant-loop-pay
-invariant-loop-pay l = l.point ≡ l.initial.point ++ map minus_part (take l.pay-index l.pays)

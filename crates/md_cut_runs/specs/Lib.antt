@@ -1,0 +1,4 @@
+pub mod Cutting
+pub mod Worst
+pub mod CutRuns
+pub mod Turns

@@ -1,4 +1,0 @@
-pub mod JudgeLaws
-pub mod TreesJudged
-pub mod AnswersJudged
-pub mod Fewer

@@ -1,5 +1,0 @@
-use Rattle.md_tree_check.proofs.JudgeLaws.{rule-judged}
-use Rattle.md_tree_check.proofs.rules.judge_rule.Goals as goal
-
-pub returns : goal.returns
-returns c known tree last h = rule-judged c.args.setting.now c.args.value.now c.args.mechanism.now tree last c.in_default.ensures c.in_default-other_value.ensures.value h

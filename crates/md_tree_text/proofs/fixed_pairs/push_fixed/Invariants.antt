@@ -1,6 +1,0 @@
-use Rattle.std.proofs.Common.{◌≡◌, ◌++◌, map, take}
-use Rattle.md_tree_text.specs.Rows.{fixed_row}
-use Rattle.md_tree_text.proofs.fixed_pairs.push_fixed.Given as goal
-
-abbrev pub invariant-loop-pair : goal.invariant-loop-pair
-invariant-loop-pair l = l.to.items ≡ l.fn.to.items ++ map fixed_row (take l.pair-index l.pair-items)
