@@ -3,7 +3,7 @@
 
     second-opinion/show_gallery.py [FOLDER]
 
-FOLDER is examples/pages where none is named. The picture of the README is written beside the pages. Files of other
+FOLDER is examples/pages where none is named. The pictures of the README are written beside the pages. Files of other
 names are left as they are. The same files of examples/ give the same pages, byte for byte.
 """
 
@@ -18,7 +18,7 @@ from show_parts import document, paragraph
 from show_text import html_number, remark
 
 EXAMPLES = Path(__file__).resolve().parent.parent / "examples"
-PICTURES = {"divorce"}  # the examples whose lotteries are stored as a picture too
+PICTURES = {"auction-ironed", "divorce", "two-goods"}  # the examples whose lotteries or odds are stored as a picture too
 ENDING = "-answer.csv"
 FRONTIER = ("auction-reserve", "compromise-2-1", "compromise-1-1", "compromise-1-3", "compromise-1-4")  # one auction, weighed anew
 FRONTIER_LEAD = "What can be had of revenue and welfare at once, in the auction of two bidders with a reserve price."
