@@ -1,5 +1,5 @@
 -- Flows from the profiles to the pairs are profile tables, and sets that are over their caps ask for more than there is.
-use Rattle.std.proofs.Common.{◌≡◌, ◌≢◌, ◌==◌, ℕ, zero, suc, ◌+◌, ◌*◌, ◌^◌, ◌<◌, ◌≤◌, ℤ, pos, ◌-ℤ◌, ◌*ℤ◌, ◌≤ℤ◌, ◌<ℤ◌, Bool, true, false, ◌&&◌, if◌then◌else◌, List, length, get_or, slice_index, refl, sym, ap, ap₂, ◌∙◌, subst, arith, eq-eqb, ne_eqb, inl, inr, mul-le-mul, le_refl}
+use Rattle.std.proofs.Common.{◌≡◌, ◌≢◌, ◌==◌, ℕ, zero, suc, ◌+◌, ◌*◌, ◌<◌, ◌≤◌, ℤ, pos, ◌-ℤ◌, ◌*ℤ◌, ◌≤ℤ◌, Bool, true, false, ◌&&◌, if◌then◌else◌, List, length, get_or, slice_index, refl, sym, ap, ap₂, ◌∙◌, subst, arith, eq-eqb, ne_eqb, inl, inr, mul-le-mul, le_refl}
 use Rattle.std.proofs.lemmas.Bool.{cases_eq}
 use Rattle.std.proofs.lemmas.Bool.Decides.{nat_tests}
 use Rattle.std.proofs.lemmas.Int.{ints}

@@ -11,7 +11,7 @@ use Rattle.md_math.proofs.SumLaws.{sum_to-same}
 use Rattle.md_space.specs.Profiles.{profile_count, profile_at}
 use Rattle.md_space.proofs.Ranks.{profile_at-IsProfile}
 use Rattle.md_setting.specs.Setting.{GeneralSetting}
-use Rattle.md_setting.specs.Meaning.{sizes_of, weight_of, marginal_of}
+use Rattle.md_setting.specs.Meaning.{sizes_of, weight_of}
 use Rattle.md_setting.specs.Shaped.{IsShaped}
 use Rattle.md_setting.proofs.MarginalLaws.{marginal-small}
 use Rattle.md_mech.proofs.CountLaws.{agents-length}

@@ -1,7 +1,9 @@
 pub mod SetLaws
 pub mod SideLaws
-pub mod Wins
+pub mod Served
 pub mod ByValues
+pub mod Sales
+pub mod Wins
 pub mod Necessity
 pub mod DemandLaws
 pub mod WorthLaws

@@ -1,10 +1,9 @@
 -- The right side of a set by profiles, by counts and by powers.
-use Rattle.std.proofs.Common.{◌≡◌, ℕ, ◌-◌, ◌^◌, ◌≤◌, ℤ, pos, ◌-ℤ◌, ◌*ℤ◌, Bool, true, false, if◌then◌else◌, List, length, sym, ap, ap₂, ◌∙◌, arith, min}
+use Rattle.std.proofs.Common.{◌≡◌, ℕ, ◌-◌, ℤ, pos, ◌-ℤ◌, ◌*ℤ◌, Bool, true, false, if◌then◌else◌, List, length, sym, ap, ap₂, ◌∙◌, arith, min}
 use Rattle.std.specs.Prelude.{slice_index}
 use Rattle.std.proofs.lemmas.Int.{ints}
 use Rattle.std.proofs.lemmas.List.{length-replicate}
 use Rattle.std.proofs.Math.ListN.{replicate}
-use Rattle.std.proofs.Math.Nat.{pow-le-pow_left}
 use Rattle.md_math.specs.Products.{product_by}
 use Rattle.md_math.specs.Sums.{sum_to, total_by}
 use Rattle.md_math.proofs.Ring.{*ℤ-one, *ℤ-zero}
@@ -76,7 +75,3 @@ right_of-power a set one_each =
     without : (s : Bool) (m : ℕ) → (if s then pos m else pos 0) ≡ pos m -ℤ pos (if s then 0 else m)
     without true m = omega (arith, ints)
     without false m = omega (arith, ints)
-
--- the profiles in which no bidder's value is in the set weigh no more than all
-pub others-power : (a : SymmetricAuction) (set : ℕ) → (total_weight a.weights - sum_in set a.weights) ^ a.bidders ≤ total_weight a.weights ^ a.bidders
-others-power a set = pow-le-pow_left (let e : total_weight a.weights - sum_in set a.weights ≤ total_weight a.weights = omega arith in e) a.bidders

@@ -14,5 +14,5 @@ mod worth;
 
 pub use demands::{demand, excess, weight_of_all};
 pub use interim::Interim;
-pub use sides::{has_kind, right_side};
+pub use sides::{has_kind, right_side, right_side_for};
 pub use worth::{auction_worth, surplus};

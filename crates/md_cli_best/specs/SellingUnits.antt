@@ -9,11 +9,11 @@ use Rattle.md_mech.specs.Value.{IsValueOf}
 use Rattle.md_border.specs.Odds.{IsInterim}
 use Rattle.md_cut_runs.specs.CutRuns.{EndsSettled, EndsWide}
 use Rattle.md_cut_runs.specs.declared.optimum.Optimum.{Optimum}
-use Rattle.md_unit_laws.specs.Odds.{HasUnitOdds, HasUnitPays}
-use Rattle.md_unit_laws.specs.Setting.{units_of}
+use Rattle.md_winners.specs.Odds.{HasUnitOdds, HasUnitPays}
+use Rattle.md_winners.specs.Setting.{units_of}
 use Rattle.md_unit_tables.specs.Tables.{ImplementsUnits, IsUnitTable, table_of}
 use Rattle.md_units.specs.Solved.{IsSolvedUnits, mechanism_in}
-use Rattle.md_units.specs.UnitCuts.{unit_cutting}
+use Rattle.md_cuts.specs.AuctionCuts.{unit_cutting}
 use Rattle.md_units.specs.declared.units_answer.UnitsAnswer.{UnitsAnswer}
 use Rattle.md_cli_driver.specs.Saying.{Saying}
 use Rattle.md_cli_best.specs.UnitTexts.{text_of_units}

@@ -1,5 +1,5 @@
 -- What is shown of a program is shown of each that is the same.
-use Rattle.std.proofs.Common.{ℕ, ◌<◌, ℤ, List, sym, ◌∙◌, subst}
+use Rattle.std.proofs.Common.{◌<◌, ℤ, List, sym, ◌∙◌, subst}
 use Rattle.md_lp.specs.Program.{Program}
 use Rattle.md_lp.proofs.SamePrograms.{IsSameProgram}
 use Rattle.md_cert.specs.Fitting.{Fits, FitsBound, FitsColumns, FitsRows}

@@ -3,7 +3,7 @@ use Rattle.std.specs.Prelude.{◌≡◌, ℕ, ℤ, List}
 use Rattle.md_math.specs.Lists.{number_at}
 use Rattle.md_setting.specs.Auction.{SymmetricAuction, value_count}
 use Rattle.md_mech.specs.declared.mechanism.Mechanism.{Mechanism}
-use Rattle.md_border.specs.Odds.{IsInterim, excess_of}
+use Rattle.md_border.specs.Odds.{IsInterim, unit_excess_of}
 use Rattle.md_expost.specs.Implementing.{Implements}
 use Rattle.md_expost.specs.Masses.{AreMasses}
 use Rattle.md_expost.specs.Mechanisms.{mechanism_of}
@@ -15,10 +15,14 @@ use Rattle.md_cut_runs.specs.declared.optimum.Optimum.{Optimum}
 use Rattle.md_cut_runs.specs.CutRuns.{EndsSettled, IsShownBy}
 use Rattle.md_cut_runs.specs.Cutting.{Cutting}
 
--- the places are the values, the programs the reduced ones of one item, and a set is over by its excess at the odds of the
+-- the places are the values, the programs the reduced ones of so many units, and a set is over by its excess at the odds of the
 -- point
+abbrev pub unit_cutting : SymmetricAuction → ℕ → Cutting
+unit_cutting a units = record { places = value_count a; is_program = IsReducedProgram a units; excess = λ den x set. unit_excess_of a units (interim_in a den x) set }
+
+-- the same for one item
 abbrev pub auction_cutting : SymmetricAuction → Cutting
-auction_cutting a = record { places = value_count a; is_program = IsReducedProgram a 1; excess = λ den x set. excess_of a (interim_in a den x) set }
+auction_cutting a = unit_cutting a 1
 
 -- the odds and payments of a point, and a mass table that has exactly the odds
 pub record IsRealised (a : SymmetricAuction) (den : ℤ) (x : ℕ → ℤ) (realised : Realised) : Type 0 where

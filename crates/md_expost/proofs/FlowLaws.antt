@@ -1,14 +1,12 @@
 -- Flows from the lists of counts to the kinds of values are mass tables, and sets that are over their caps break Border's condition.
-use Rattle.std.proofs.Common.{◌≡◌, ℕ, ◌+◌, ◌*◌, ◌^◌, ◌<◌, ℤ, pos, ◌-ℤ◌, ◌*ℤ◌, ◌≤ℤ◌, ◌<ℤ◌, Bool, true, false, ◌&&◌, if◌then◌else◌, List, length, min, nat_lt, refl, sym, ap, ap₂, ◌∙◌, subst, arith, inl, inr}
+use Rattle.std.proofs.Common.{◌≡◌, ℕ, ◌*◌, ◌<◌, ℤ, pos, ◌-ℤ◌, ◌*ℤ◌, ◌≤ℤ◌, ◌<ℤ◌, Bool, true, false, ◌&&◌, if◌then◌else◌, length, min, nat_lt, refl, sym, ap, ap₂, ◌∙◌, subst, arith, inl, inr}
 use Rattle.std.specs.Prelude.{slice_index}
 use Rattle.std.proofs.lemmas.Bool.{cases_Bool}
 use Rattle.std.proofs.lemmas.Bool.Decides.{nat_tests}
 use Rattle.std.proofs.lemmas.Int.{ints}
-use Rattle.md_math.specs.Lists.{number_at}
 use Rattle.md_math.specs.Sets.{member}
 use Rattle.md_math.specs.Sums.{sum_to}
 use Rattle.md_math.proofs.BoundedTests.{and-left, and-right}
-use Rattle.md_math.proofs.Builders.{length-list_to, get_or-list_to}
 use Rattle.md_math.proofs.Ring.{*ℤ-zero, *ℤ-one, *ℤ_assoc}
 use Rattle.md_math.proofs.SumLaws.{sum_to-same, sum_to-zero, sum_to-positive, sum_to-*ℤ}
 use Rattle.md_lp.proofs.WorstLaws.{worst-same, none_over-same, worst-over}
@@ -21,41 +19,25 @@ use Rattle.md_counts.specs.Weights.{weight_of_counts}
 use Rattle.md_counts.proofs.ListsOfValues.{total_by-count_lists}
 use Rattle.md_counts.proofs.RankLaws.{ranked}
 use Rattle.md_border.specs.declared.interim.Interim.{Interim}
-use Rattle.md_border.specs.Odds.{IsInterim, HasOdds, demand_of, excess_of}
+use Rattle.md_border.specs.Odds.{IsInterim, HasOdds, excess_of}
 use Rattle.md_border.specs.Sets.{sum_in}
 use Rattle.md_border.specs.Sides.{right_of}
 use Rattle.md_border.proofs.Necessity.{border}
 use Rattle.md_border.proofs.SetLaws.{pos-sum_in}
 use Rattle.md_border.proofs.SideLaws.{right_of-counts}
-use Rattle.md_flow.specs.Network.{Network, node_count, demand_count, cap_of, want_of}
-use Rattle.md_flow.specs.Flows.{given_by, Meets, amount_in}
+use Rattle.md_flow.specs.Network.{Network, node_count, demand_count, cap_of}
+use Rattle.md_flow.specs.Flows.{Meets, amount_in}
 use Rattle.md_flow.specs.Over.{any_below, over, NoneOver, IsWorst}
 use Rattle.md_flow.proofs.AnyBelow.{any_below-place, any_below-false}
 use Rattle.md_flow.proofs.Touching.{over-touching, untouched}
 use Rattle.md_expost.specs.declared.masses.Masses.{Masses}
-use Rattle.md_expost.specs.Masses.{AreMasses, rank_count, counts_in, cap_at, mass_in, mass_at}
+use Rattle.md_expost.specs.Masses.{AreMasses, rank_count, counts_in, cap_at, mass_at}
 use Rattle.md_expost.specs.Implementing.{Implements}
 use Rattle.md_expost.specs.CountNets.{IsNetOf}
+use Rattle.md_expost.proofs.CountNetLaws.{nodes-of, demands-of, node-in, demand-in, cap-of, asked-of, flow-nonneg, flow-given, flow-exact, flow-length, flow-amount}
 use Rattle.md_expost.specs.WorstSets.{IsWorstSet, MeetsBorder}
 
--- ---- the net's sizes and numbers
-
-nodes-of : (a : SymmetricAuction) (interim : Interim) (net : Network) → IsNetOf a interim net → node_count net ≡ rank_count a
-nodes-of a interim net h = ap length h.caps ∙ length-list_to (rank_count a) (cap_at a interim.den)
-
-demands-of : (a : SymmetricAuction) (interim : Interim) (net : Network) → IsNetOf a interim net → demand_count net ≡ value_count a
-demands-of a interim net h = ap length h.wants ∙ length-list_to (value_count a) (demand_of a interim)
-
-cap-of : (a : SymmetricAuction) (interim : Interim) (net : Network) (rank : ℕ) → IsNetOf a interim net → rank < rank_count a → cap_of net rank ≡ cap_at a interim.den rank
-cap-of a interim net rank h b = ap (λ caps. number_at caps rank) h.caps ∙ get_or-list_to (rank_count a) (cap_at a interim.den) rank (pos 0) b
-
-want-of : (a : SymmetricAuction) (interim : Interim) (net : Network) (v : ℕ) → IsNetOf a interim net → v < value_count a → want_of net v ≡ demand_of a interim v
-want-of a interim net v h b = ap (λ wants. number_at wants v) h.wants ∙ get_or-list_to (value_count a) (demand_of a interim) v (pos 0) b
-
 -- ---- flows
-
-amount-of : (a : SymmetricAuction) (interim : Interim) (net : Network) (rows : List ℤ) (rank v : ℕ) → IsNetOf a interim net → amount_in net rows rank v ≡ mass_in a rows rank v
-amount-of a interim net rows rank v h = ap (λ m. number_at rows (rank * m + v)) (demands-of a interim net h)
 
 -- a flow that gives each demand exactly is a mass table
 pub masses-of_flow : (a : SymmetricAuction) (interim : Interim) (net : Network) (y : Masses) → IsInterim a interim → IsNetOf a interim net → y.den ≡ interim.den
@@ -63,36 +45,21 @@ pub masses-of_flow : (a : SymmetricAuction) (interim : Interim) (net : Network) 
 masses-of_flow a interim net y fits h same long meets = record {
   den_positive = subst (λ d. pos 1 ≤ℤ d) (sym same) fits.den_positive;
   den_size = subst (λ d. d ≤ℤ pos number_limit) (sym same) fits.den_size;
-  whole = long ∙ ap₂ (λ m k. m * k) nodes kinds;
-  nonneg = λ rank v b l. subst (λ z. pos 0 ≤ℤ z) (amount-of a interim net y.rows rank v h) (meets.part.nonneg rank v (node rank b) (demand v l));
-  absent = λ rank v b l none. sym (amount-of a interim net y.rows rank v h)
-      ∙ untouched net (amount_in net y.rows) rank v meets.part (node rank b) (demand v l) (h.rooms rank v (node rank b) (demand v l) ∙ ap (λ n. if nat_lt 0 n then cap_of net rank else pos 0) none);
-  over = λ rank b.
-      subst (λ z. z ≤ℤ cap_at a y.den rank)
-      (ap (λ k. sum_to k (amount_in net y.rows rank)) kinds ∙ sum_to-same (value_count a) _ (mass_at a y rank) (λ v l. amount-of a interim net y.rows rank v h))
-      (subst (λ z. given_by (demand_count net) (amount_in net y.rows) rank ≤ℤ z) (cap-of a interim net rank h b ∙ ap (λ d. cap_at a d rank) (sym same)) (meets.part.caps rank (node rank b)));
+  whole = flow-length a interim cap net h.numbers y.rows long;
+  nonneg = flow-nonneg a interim cap net h.numbers y.rows meets;
+  absent = λ rank v b l none.
+      let node = node-in a interim cap net h.numbers rank b in
+      let demand = demand-in a interim cap net h.numbers v l in
+      sym (flow-amount a interim cap net h.numbers y.rows rank v)
+      ∙ untouched net (amount_in net y.rows) rank v meets.part node demand (h.rooms rank v node demand ∙ ap (λ n. if nat_lt 0 n then cap_of net rank else pos 0) none);
+  over = λ rank b. subst (λ d. sum_to (value_count a) (mass_at a y rank) ≤ℤ cap_at a d rank) (sym same) (flow-given a interim cap net h.numbers y.rows meets rank b);
 }
   where
-    nodes : node_count net ≡ rank_count a
-    nodes = nodes-of a interim net h
-
-    kinds : demand_count net ≡ value_count a
-    kinds = demands-of a interim net h
-
-    node : (rank : ℕ) → rank < rank_count a → rank < node_count net
-    node rank b = omega (arith, nodes, b)
-
-    demand : (v : ℕ) → v < value_count a → v < demand_count net
-    demand v l = omega (arith, kinds, l)
+    cap : ℕ → ℤ
+    cap = cap_at a interim.den
 
 pub implements-of_flow : (a : SymmetricAuction) (interim : Interim) (net : Network) (y : Masses) → IsNetOf a interim net → y.den ≡ interim.den → Meets net (amount_in net y.rows) → Implements a interim y
-implements-of_flow a interim net y h same meets = record {
-  same_den = same;
-  exact = λ v l.
-      sym (ap (λ n. sum_to n (λ rank. amount_in net y.rows rank v)) (nodes-of a interim net h) ∙ sum_to-same (rank_count a) _ (λ rank. mass_at a y rank v) (λ rank b. amount-of a interim net y.rows rank v h))
-      ∙ meets.exact v (omega (arith, demands-of a interim net h, l))
-      ∙ want-of a interim net v h l;
-}
+implements-of_flow a interim net y h same meets = record { same_den = same; exact = flow-exact a interim (cap_at a interim.den) net h.numbers y.rows meets }
 
 -- ---- sets
 
@@ -160,9 +127,9 @@ touched a rank set z b =
 caps-touched : (a : SymmetricAuction) (interim : Interim) (net : Network) (set : ℕ) → IsNetOf a interim net
     → sum_to (node_count net) (λ r. if any_below (demand_count net) (λ v. nat_lt 0 (slice_index (counts_in a r) v) && member set v) then cap_of net r else pos 0) ≡ interim.den *ℤ right_of a set
 caps-touched a interim net set h =
-    ap₂ (λ n k. sum_to n (λ r. if any_below k (λ v. nat_lt 0 (slice_index (counts_in a r) v) && member set v) then cap_of net r else pos 0)) (nodes-of a interim net h) (demands-of a interim net h)
+    ap₂ (λ n k. sum_to n (λ r. if any_below k (λ v. nat_lt 0 (slice_index (counts_in a r) v) && member set v) then cap_of net r else pos 0)) (nodes-of a interim (cap_at a interim.den) net h.numbers) (demands-of a interim (cap_at a interim.den) net h.numbers)
     ∙ sum_to-same (rank_count a) _ (λ r. interim.den *ℤ side r) (λ r b.
-    ap (λ z. if any_below (value_count a) (λ v. nat_lt 0 (slice_index (counts_in a r) v) && member set v) then z else pos 0) (cap-of a interim net r h b)
+    ap (λ z. if any_below (value_count a) (λ v. nat_lt 0 (slice_index (counts_in a r) v) && member set v) then z else pos 0) (cap-of a interim (cap_at a interim.den) net h.numbers r b)
     ∙ touched a r set (cap_at a interim.den r) b
     ∙ *ℤ_assoc interim.den (pos (weight_of_counts a.weights a.bidders (counts_in a r))) (pos (min 1 (sum_in set (counts_in a r)))))
     ∙ sum_to-*ℤ (rank_count a) interim.den side
@@ -177,16 +144,13 @@ caps-touched a interim net set h =
 pub over-excess : (a : SymmetricAuction) (interim : Interim) (net : Network) (set : ℕ) → IsNetOf a interim net → over net (member set) ≡ excess_of a interim set
 over-excess a interim net set h =
     over-touching net (λ r v. nat_lt 0 (slice_index (counts_in a r) v)) (member set) h.nonneg h.rooms
-    ∙ ap₂ (λ x y. x -ℤ y)
-    (ap (λ k. sum_to k (λ v. if member set v then want_of net v else pos 0)) (demands-of a interim net h)
-    ∙ sum_to-same (value_count a) _ _ (λ v l. ap (λ z. if member set v then z else pos 0) (want-of a interim net v h l)))
-    (caps-touched a interim net set h)
+    ∙ ap₂ (λ x y. x -ℤ y) (asked-of a interim (cap_at a interim.den) net h.numbers set) (caps-touched a interim net set h)
 
 pub border-met : (a : SymmetricAuction) (interim : Interim) (net : Network) → IsNetOf a interim net → NoneOver net → MeetsBorder a interim
-border-met a interim net h = none_over-same (demand_count net) (value_count a) (λ set. over net (member set)) (excess_of a interim) (demands-of a interim net h) (λ set. over-excess a interim net set h)
+border-met a interim net h = none_over-same (demand_count net) (value_count a) (λ set. over net (member set)) (excess_of a interim) (demands-of a interim (cap_at a interim.den) net h.numbers) (λ set. over-excess a interim net set h)
 
 pub worst-of_net : (a : SymmetricAuction) (interim : Interim) (net : Network) (set : ℕ) → IsNetOf a interim net → IsWorst net set → IsWorstSet a interim set
-worst-of_net a interim net set h = worst-same (demand_count net) (value_count a) (λ set. over net (member set)) (excess_of a interim) set (demands-of a interim net h) (λ other. over-excess a interim net other h)
+worst-of_net a interim net set h = worst-same (demand_count net) (value_count a) (λ set. over net (member set)) (excess_of a interim) set (demands-of a interim (cap_at a interim.den) net h.numbers) (λ other. over-excess a interim net other h)
 
 -- where a set breaks Border's condition, no mechanism has the odds
 pub no_mechanism : (a : SymmetricAuction) (interim : Interim) (set : ℕ) (m : Mechanism) → IsInterim a interim → IsWorstSet a interim set → IsMechanism (general_of a) m → HasOdds a m interim.den interim.odds → ⊥

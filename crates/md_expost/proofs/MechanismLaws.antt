@@ -28,7 +28,7 @@ use Rattle.md_counts.specs.Weights.{has_counts, value_lists}
 use Rattle.md_counts.proofs.RankLaws.{ranked}
 use Rattle.md_counts.proofs.Regrouping.{where_counts, weight_of_values, given-counts}
 use Rattle.md_border.specs.declared.interim.Interim.{Interim}
-use Rattle.md_border.specs.Odds.{HasOdds, HasPays, weight_given}
+use Rattle.md_border.specs.Odds.{HasOdds, HasPays, WinsAs, weight_given}
 use Rattle.md_border.proofs.SideLaws.{profile-weight}
 use Rattle.md_expost.specs.declared.masses.Masses.{Masses}
 use Rattle.md_expost.specs.Masses.{AreMasses, counts_in, mass_at, mass_of, rank_count}
@@ -142,20 +142,17 @@ pub won-of_table : (a : SymmetricAuction) (y : Masses) (i v : ℕ) → IsAuction
     → pos a.bidders *ℤ weighted_given (general_of a) i v (λ t. win_of a y t i) ≡ pos (all_orders a) *ℤ mass_of a y v
 won-of_table a y i v h absent b l = ap (λ z. pos a.bidders *ℤ z) (wins-weighted a y i v) ∙ wins-of_value a y i v h absent b l
 
--- the mechanism of the table lets a bidder win as often as the table says
-wins-in_mechanism : (a : SymmetricAuction) (y : Masses) (pays : List ℤ) (i v : ℕ) → i < a.bidders
-    → weighted_given (general_of a) i v (λ t. chance_of (general_of a) (mechanism_of a y pays) t (i + 1)) ≡ weighted_given (general_of a) i v (λ t. win_of a y t i)
-wins-in_mechanism a y pays i v b =
-    let s = general_of a in
-    total_given-same (sizes_of s) i v (λ t. weight_of s t *ℤ chance_of s (mechanism_of a y pays) t (i + 1)) (λ t. weight_of s t *ℤ win_of a y t i)
-    (λ t p e.
-    ap (λ z. weight_of s t *ℤ z)
-    (chance_of-mechanism_by s (whole_of a y) (lottery_of a y) (λ j u. number_at pays (slice_index u j) *ℤ pos (all_orders a)) t (i + 1) p (omega (arith, outcome_count-general a, b))
-    ∙ ap (lottery_of a y t) (let f : i + 1 ≡ suc i = omega arith in f)))
+-- ---- any sale whose bidders win as often as a table says, and pay by their values
 
-pub odds-of_masses : (a : SymmetricAuction) (interim : Interim) (y : Masses) (pays : List ℤ) → IsAuction a → AreMasses a y → Implements a interim y
-    → HasOdds a (mechanism_of a y pays) interim.den interim.odds
-odds-of_masses a interim y pays h masses exact = record { wins = λ i v b l. at i v b l }
+-- what such functions are over the profiles in which a bidder has a value
+given-as : (a : SymmetricAuction) (i v : ℕ) (f g : List ℕ → ℤ) → ((t : List ℕ) → IsProfile (sizes_of (general_of a)) t → f t ≡ g t) → weighted_given (general_of a) i v f ≡ weighted_given (general_of a) i v g
+given-as a i v f g same =
+    let s = general_of a in
+    total_given-same (sizes_of s) i v (λ t. weight_of s t *ℤ f t) (λ t. weight_of s t *ℤ g t) (λ t p e. ap (λ z. weight_of s t *ℤ z) (same t p))
+
+pub odds-of_wins : (a : SymmetricAuction) (interim : Interim) (y : Masses) (win : ℕ → List ℕ → ℤ) → IsAuction a → NoneAbsent a y → Implements a interim y
+    → ((i : ℕ) (t : List ℕ) → i < a.bidders → IsProfile (sizes_of (general_of a)) t → win i t ≡ win_of a y t i) → WinsAs a win (whole_of a y) interim.den interim.odds
+odds-of_wins a interim y win h absent exact wins = record { wins = λ i v b l. at i v b l }
   where
     some_bidder : (n : ℕ) → 1 ≤ n → pos 0 <ℤ pos n
     some_bidder n l = omega (arith, ints)
@@ -163,16 +160,15 @@ odds-of_masses a interim y pays h masses exact = record { wins = λ i v b l. at 
     parts : (o n g q : ℤ) → o *ℤ ((n *ℤ g) *ℤ q) ≡ n *ℤ (o *ℤ (g *ℤ q))
     parts o n g q = simp ring
 
-    at : (i v : ℕ) → i < a.bidders → v < value_count a
-        → interim.den *ℤ weighted_given (general_of a) i v (λ t. chance_of (general_of a) (mechanism_of a y pays) t (i + 1)) ≡ whole_of a y *ℤ (pos (weight_given a v) *ℤ number_at interim.odds v)
+    at : (i v : ℕ) → i < a.bidders → v < value_count a → interim.den *ℤ weighted_given (general_of a) i v (win i) ≡ whole_of a y *ℤ (pos (weight_given a v) *ℤ number_at interim.odds v)
     at i v b l =
         let n = a.bidders in
         let o = pos (all_orders a) in
         let q = number_at interim.odds v in
-        let won = weighted_given (general_of a) i v (λ t. chance_of (general_of a) (mechanism_of a y pays) t (i + 1)) in
+        let won = weighted_given (general_of a) i v (win i) in
         let all : pos n *ℤ won ≡ pos n *ℤ (o *ℤ (pos (weight_given a v) *ℤ q)) =
-        ap (λ z. pos n *ℤ z) (wins-in_mechanism a y pays i v b)
-        ∙ won-of_table a y i v h masses.absent b l
+        ap (λ z. pos n *ℤ z) (given-as a i v (win i) (λ t. win_of a y t i) (λ t p. wins i t b p))
+        ∙ won-of_table a y i v h absent b l
         ∙ ap (λ z. o *ℤ z) (exact.exact v l)
         ∙ ap (λ z. o *ℤ (z *ℤ q)) (sym (pos-*ℤ-pos n (weight_given a v)))
         ∙ parts o (pos n) (pos (weight_given a v)) q in
@@ -180,34 +176,49 @@ odds-of_masses a interim y pays h masses exact = record { wins = λ i v b l. at 
         ∙ sym (*ℤ_assoc interim.den o (pos (weight_given a v) *ℤ q))
         ∙ ap (λ d. (d *ℤ o) *ℤ (pos (weight_given a v) *ℤ q)) (sym exact.same_den)
 
--- ---- the payments
-
 -- each bidder with a value pays the same at each profile
-pub pays-of_masses : (a : SymmetricAuction) (y : Masses) (pays : List ℤ) → IsAuction a → HasPays a (mechanism_of a y pays) y.den pays
-pays-of_masses a y pays h = record { paid = λ i v b l. at i v b l }
+pub pays-of_kinds : (a : SymmetricAuction) (y : Masses) (pays : List ℤ) (pay : ℕ → List ℕ → ℤ) → IsAuction a
+    → ((i : ℕ) (t : List ℕ) → i < a.bidders → IsProfile (sizes_of (general_of a)) t → pay i t ≡ number_at pays (slice_index t i) *ℤ pos (all_orders a)) → WinsAs a pay (whole_of a y) y.den pays
+pays-of_kinds a y pays pay h paid = record { wins = λ i v b l. at i v b l }
   where
-    pay : ℕ → List ℕ → ℤ
-    pay i t = number_at pays (slice_index t i) *ℤ pos (all_orders a)
-
-    term : (i v : ℕ) (t : List ℕ) → i < a.bidders → IsProfile (sizes_of (general_of a)) t → slice_index t i ≡ v
-        → weight_of (general_of a) t *ℤ pay_of (general_of a) (mechanism_of a y pays) i t ≡ (number_at pays v *ℤ pos (all_orders a)) *ℤ weight_of (general_of a) t
-    term i v t b p e =
-        ap (λ z. weight_of (general_of a) t *ℤ z)
-        (pay_of-mechanism_by (general_of a) (whole_of a y) (lottery_of a y) pay t i p (omega (arith, agent_count-general a, b))
-        ∙ ap (λ u. number_at pays u *ℤ pos (all_orders a)) e)
-        ∙ *ℤ_comm (weight_of (general_of a) t) (number_at pays v *ℤ pos (all_orders a))
-
     less : (n : ℕ) → 1 ≤ n → n ≡ suc (n - 1)
     less n l = omega (arith, l)
 
     parts : (d o g q : ℤ) → d *ℤ ((q *ℤ o) *ℤ g) ≡ (d *ℤ o) *ℤ (g *ℤ q)
     parts d o g q = simp ring
 
-    at : (i v : ℕ) → i < a.bidders → v < value_count a
-        → y.den *ℤ weighted_given (general_of a) i v (λ t. pay_of (general_of a) (mechanism_of a y pays) i t) ≡ whole_of a y *ℤ (pos (weight_given a v) *ℤ number_at pays v)
+    at : (i v : ℕ) → i < a.bidders → v < value_count a → y.den *ℤ weighted_given (general_of a) i v (pay i) ≡ whole_of a y *ℤ (pos (weight_given a v) *ℤ number_at pays v)
     at i v b l =
+        let s = general_of a in
+        let each = number_at pays v *ℤ pos (all_orders a) in
         ap (λ z. y.den *ℤ z)
-        (total_given-same (sizes_of (general_of a)) i v _ (λ t. (number_at pays v *ℤ pos (all_orders a)) *ℤ weight_of (general_of a) t) (λ t p e. term i v t b p e)
-        ∙ total_given-*ℤ (sizes_of (general_of a)) i v (number_at pays v *ℤ pos (all_orders a)) (weight_of (general_of a))
-        ∙ ap (λ z. (number_at pays v *ℤ pos (all_orders a)) *ℤ z) (marginal_of-general a (a.bidders - 1) i v h.one_each (less a.bidders h.some_bidder) b l))
+        (total_given-same (sizes_of s) i v (λ t. weight_of s t *ℤ pay i t) (λ t. each *ℤ weight_of s t)
+        (λ t p e.
+        ap (λ z. weight_of s t *ℤ z) (paid i t b p ∙ ap (λ u. number_at pays u *ℤ pos (all_orders a)) e)
+        ∙ *ℤ_comm (weight_of s t) each)
+        ∙ total_given-*ℤ (sizes_of s) i v each (weight_of s)
+        ∙ ap (λ z. each *ℤ z) (marginal_of-general a (a.bidders - 1) i v h.one_each (less a.bidders h.some_bidder) b l))
         ∙ parts y.den (pos (all_orders a)) (pos (weight_given a v)) (number_at pays v)
+
+-- ---- one item
+
+pub odds-of_masses : (a : SymmetricAuction) (interim : Interim) (y : Masses) (pays : List ℤ) → IsAuction a → AreMasses a y → Implements a interim y
+    → HasOdds a (mechanism_of a y pays) interim.den interim.odds
+odds-of_masses a interim y pays h masses exact = record { wins = (odds-of_wins a interim y win h masses.absent exact at).wins }
+  where
+    win : ℕ → List ℕ → ℤ
+    win i t = chance_of (general_of a) (mechanism_of a y pays) t (i + 1)
+
+    at : (i : ℕ) (t : List ℕ) → i < a.bidders → IsProfile (sizes_of (general_of a)) t → win i t ≡ win_of a y t i
+    at i t b p =
+        chance_of-mechanism_by (general_of a) (whole_of a y) (lottery_of a y) (λ j u. number_at pays (slice_index u j) *ℤ pos (all_orders a)) t (i + 1) p (omega (arith, outcome_count-general a, b))
+        ∙ ap (lottery_of a y t) (let f : i + 1 ≡ suc i = omega arith in f)
+
+pub pays-of_masses : (a : SymmetricAuction) (y : Masses) (pays : List ℤ) → IsAuction a → HasPays a (mechanism_of a y pays) y.den pays
+pays-of_masses a y pays h = record { paid = (pays-of_kinds a y pays pay h at).wins }
+  where
+    pay : ℕ → List ℕ → ℤ
+    pay i t = pay_of (general_of a) (mechanism_of a y pays) i t
+
+    at : (i : ℕ) (t : List ℕ) → i < a.bidders → IsProfile (sizes_of (general_of a)) t → pay i t ≡ number_at pays (slice_index t i) *ℤ pos (all_orders a)
+    at i t b p = pay_of-mechanism_by (general_of a) (whole_of a y) (lottery_of a y) (λ j u. number_at pays (slice_index u j) *ℤ pos (all_orders a)) t i p (omega (arith, agent_count-general a, b))

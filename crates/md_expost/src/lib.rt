@@ -15,6 +15,7 @@ mod refusal;
 mod sums;
 
 pub use masses::Masses;
+pub use net::{cap, demands};
 pub use realise_end::RealiseEnd;
 pub use realising::realise;
 pub use refusal::MassRefusal;

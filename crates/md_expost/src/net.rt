@@ -36,13 +36,14 @@ pub(crate) fn net_of(
 
 /// What there is to give at the counts of a rank: the weight of all profiles with these counts, in units of one over the
 /// denominator.
-pub(crate) fn cap(auction: &Auction, counts: &Counts, den: i128, rank: u32) -> i128
+pub fn cap(auction: &Auction, counts: &Counts, den: i128, rank: u32) -> i128
     requires bidders { counts.now.bidders ≡ auction.now.bidders }
     requires kinds { counts.now.kinds ≡ value_count auction.now }
     requires den_small { (pos 1 ≤ℤ den) × (den ≤ℤ pos 4611686018427387903) }
     requires rank_in { rank < rank_count auction.now }
     ensures value { result ≡ cap_at auction.now den rank }
     ensures nonneg { pos 0 ≤ℤ result }
+    ensures shaped { IsAuction auction.now }
 {
     product(den, i128::from(counts.weight(rank, auction.weights())))
 }
@@ -61,8 +62,8 @@ fn caps(alloc: Global, auction: &Auction, counts: &Counts, den: i128) -> Result<
     Ok(caps)
 }
 
-// The demands of all kinds.
-fn demands(alloc: Global, auction: &Auction, interim: &Interim) -> Result<Nums, NoMemory>
+/// The demands of all kinds. Nothing but want of memory is an error.
+pub fn demands(alloc: Global, auction: &Auction, interim: &Interim) -> Result<Nums, NoMemory>
     requires fits { IsInterim auction.now interim.now }
     ensures value { IfOk result (λ demands. demands ≡ list_to (value_count auction.now) (demand_of auction.now interim.now)) }
     ensures shaped { IsAuction auction.now }

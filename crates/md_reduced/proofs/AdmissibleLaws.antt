@@ -1,48 +1,51 @@
--- What a reduced program says of the mechanisms of an auction: which are admissible, and where they stand in it.
-use Rattle.std.proofs.Common.{◌≡◌, ℕ, ◌+◌, ◌-◌, ◌*◌, ◌^◌, ◌<◌, ℤ, pos, ◌+ℤ◌, ◌-ℤ◌, ◌*ℤ◌, ◌≤ℤ◌, ◌<ℤ◌, neg_ℤ, Bool, true, false, List, ◌++◌, map, All, sym, ap, ap₂, ◌∙◌, subst, arith, inl, inr, ne_eqb}
+-- What a reduced program says of the mechanisms of a sale to the bidders of an auction: which are admissible, and where they stand
+-- in it.
+use Rattle.std.proofs.Common.{◌≡◌, ℕ, ◌+◌, ◌-◌, ◌*◌, ◌^◌, ◌<◌, ℤ, pos, ◌+ℤ◌, ◌-ℤ◌, ◌*ℤ◌, ◌≤ℤ◌, ◌<ℤ◌, neg_ℤ, Bool, true, false, if◌then◌else◌, List, ◌++◌, map, All, sym, ap, ap₂, ◌∙◌, subst, arith, inl, inr, ne_eqb}
 use Rattle.std.proofs.lemmas.Bool.{cases_eq}
 use Rattle.std.specs.Prelude.{slice_index}
 use Rattle.std.proofs.lemmas.Int.{ints}
 use Rattle.std.proofs.Math.IntN.{pos-*ℤ-pos}
 use Rattle.std.proofs.Math.Nat.{mul-pos}
-use lib.IntN.{*ℤ_comm}
 use Rattle.md_math.specs.Lists.{number_at, list_to}
 use Rattle.md_math.specs.Sums.{sum_to}
 use Rattle.md_math.proofs.Builders.{All-left, All-right, All-up_to_at, length-list_to, get_or-list_to}
-use Rattle.md_math.proofs.Order.{le_from_lt, *ℤ-le, le_from_*ℤ, nonneg_from_*ℤ, nonneg-*ℤ, *ℤ_cancel, positive_pos}
+use Rattle.md_math.proofs.Order.{le_from_lt, *ℤ-le, le_from_*ℤ, nonneg_from_*ℤ, nonneg-*ℤ, *ℤ_cancel, positive_pos, chosen-nonneg}
 use Rattle.md_math.proofs.Ring.{linear, ring, *ℤ-zero, zero-*ℤ}
-use Rattle.md_math.proofs.SumLaws.{sum_to-single}
+use Rattle.md_math.proofs.SumLaws.{sum_to-same, sum_to-*ℤ, sum_to-nonneg}
 use Rattle.md_space.specs.Profiles.{IsProfile, replaced}
 use Rattle.md_space.proofs.TypeSums.{total_given-same}
 use Rattle.md_setting.specs.declared.kinds.Truth.{Truth as TruthKind}
 use Rattle.md_setting.specs.declared.kinds.Rational.{Rational as RationalKind}
-use Rattle.md_setting.specs.Meaning.{agent_count, sizes_of, weight_of, outside_of, marginal_of, utility_of}
+use Rattle.md_setting.specs.Meaning.{agent_count, outcome_count, sizes_of, weight_of, outside_of, marginal_of, utility_of}
 use Rattle.md_setting.specs.Auction.{SymmetricAuction, value_count, total_weight}
 use Rattle.md_setting.specs.AuctionShaped.{IsAuction}
 use Rattle.md_setting.specs.General.{general_of}
 use Rattle.md_setting.specs.Setting.{GeneralSetting}
-use Rattle.md_setting.proofs.GeneralLaws.{general-truth, general-rational, general-no_deficit, agent_count-general, outcome_count-general, own_utility-general, other_utility-general, outside_of-general}
+use Rattle.md_setting.proofs.GeneralLaws.{HasValues}
 use Rattle.md_mech.specs.declared.mechanism.Mechanism.{Mechanism}
 use Rattle.md_mech.specs.Admissible.{IsAdmissible}
-use Rattle.md_mech.specs.Mechanism.{IsMechanism, chance_of, pay_of}
+use Rattle.md_mech.specs.Mechanism.{IsMechanism, chance_of}
+use Rattle.md_mech.specs.Optimal.{worth_of}
 use Rattle.md_mech.specs.Rationality.{IsInterimRational, IsRationalBy}
 use Rattle.md_mech.specs.Truth.{IsBayesTruth, IsTruthfulBy}
 use Rattle.md_mech.specs.Utility.{expected_utility, weighted_given}
 use Rattle.md_mech.proofs.RowLaws.{by_report-at}
+use Rattle.md_lp.specs.Affine.{StandsAt}
 use Rattle.md_lp.specs.Program.{Program}
 use Rattle.md_lp.specs.Point.{Meets, cost_sum}
 use Rattle.md_forms.specs.Forms.{Holds}
-use Rattle.md_border.specs.Odds.{HasOdds, HasPays, weight_given}
+use Rattle.md_border.specs.Odds.{HasOdds, HasPays, WinsAs, weight_given}
 use Rattle.md_border.specs.Worth.{surplus_of}
-use Rattle.md_border.proofs.ByValues.{kinds-general, given-sub}
-use Rattle.md_border.proofs.MechanismWorth.{has-values, worth-by_values, others}
-use Rattle.md_border.proofs.Necessity.{won-le}
-use Rattle.md_border.proofs.SideLaws.{right_of-counts}
+use Rattle.md_border.proofs.ByValues.{given-sub}
+use Rattle.md_border.proofs.MechanismWorth.{has-values, chosen-turned, worth-by_values, others}
+use Rattle.md_border.proofs.Sales.{Sale, IsSaleOf, paid_at, sale-kinds, sale-profile, sale-given, item_sale, item-sale, odds-as, pays-as}
+use Rattle.md_border.proofs.Wins.{won-le}
 use Rattle.md_reduced.specs.declared.condition.ReducedCondition.{ReducedCondition}
 use Rattle.md_reduced.specs.declared.condition.ReducedCondition.TheVariants.{Truth, Rational, Cut}
-use Rattle.md_reduced.specs.Averages.{all_weights, times_of, averages, gain_at, win_in, paid_in, won_in, WinsAs, IsAdmissibleOnAverage}
+use Rattle.md_reduced.specs.Averages.{all_weights, times_of, averages, gain_at, IsAdmissibleOnAverage}
 use Rattle.md_reduced.specs.Conditions.{truths_at, truths, rationals, conditions_of}
 use Rattle.md_reduced.specs.Mechanisms.{AdmitsPoints, HoldsAdmissible, scale_of}
+use Rattle.md_reduced.specs.Points.{interim_in}
 use Rattle.md_reduced.specs.ProgramOf.{form_of, IsReducedProgram}
 use Rattle.md_reduced.specs.Sides.{pay_in, utility_in}
 use Rattle.md_reduced.proofs.BuiltLaws.{meets-conditions, costs-points}
@@ -51,59 +54,69 @@ use Rattle.md_reduced.proofs.PointLaws.{others-positive}
 use Rattle.md_reduced.proofs.MeanLaws.{nonneg_pos, times-parts, averaged-cost}
 use Rattle.md_reduced.proofs.Replacing.{given-replaced}
 
--- ---- what a bidder has
+-- ---- what a bidder has in a mechanism of a sale
 
--- a bidder has its value as often as it wins, less what it pays
-utility-at : (a : SymmetricAuction) (m : Mechanism) (i : ℕ) (t r : List ℕ) → i < a.bidders → IsProfile (sizes_of (general_of a)) t
-    → expected_utility (general_of a) m i t r ≡ number_at a.values (slice_index t i) *ℤ chance_of (general_of a) m r (i + 1) -ℤ pay_of (general_of a) m i r
-utility-at a m i t r b p =
-    let s = general_of a in
-    let values = has-values a t p in
-    ap (λ k. sum_to k (λ o. chance_of s m r o *ℤ utility_of s i t o) -ℤ pay_of s m i r) (outcome_count-general a)
-    ∙ ap (λ z. z -ℤ pay_of s m i r)
-    (sum_to-single (a.bidders + 1) (i + 1) (λ o. chance_of s m r o *ℤ utility_of s i t o) (omega (arith, b))
-    (λ o c d. ap (λ z. chance_of s m r o *ℤ z) (other_utility-general a i t o b (values.value i b) c d) ∙ *ℤ-zero (chance_of s m r o))
-    ∙ ap (λ z. chance_of s m r (i + 1) *ℤ z) (own_utility-general a i t b (values.value i b))
-    ∙ *ℤ_comm (chance_of s m r (i + 1)) (number_at a.values (slice_index t i)))
+module _ (a : SymmetricAuction) (sale : Sale) (is : IsSaleOf a sale) (m : Mechanism) where
+  -- Where the bidders' true values are t and they report r, a bidder has its value as often as it wins, less what it pays.
+  utility-at : (i : ℕ) (t r : List ℕ) → i < a.bidders → HasValues a t
+      → expected_utility sale.setting m i t r ≡ number_at a.values (slice_index t i) *ℤ sale.win m i r -ℤ paid_at sale m i r
+  utility-at i t r b values =
+      let s = sale.setting in
+      let value = number_at a.values (slice_index t i) in
+      let chance = chance_of s m r in
+      ap (λ z. z -ℤ paid_at sale m i r)
+      (sum_to-same (outcome_count s) (λ o. chance o *ℤ utility_of s i t o) (λ o. value *ℤ (if sale.gets o i then chance o else pos 0))
+      (λ o c. ap (λ z. chance o *ℤ z) (is.utility i t o b (values.value i b) c) ∙ chosen-turned (sale.gets o i) (chance o) value)
+      ∙ sum_to-*ℤ (outcome_count s) value (λ o. if sale.gets o i then chance o else pos 0)
+      ∙ ap (λ z. value *ℤ z) (sym (is.wins m i r b)))
 
--- on average over its profiles with a value, where it reports as r says
-gains-given : (a : SymmetricAuction) (m : Mechanism) (i v : ℕ) (r : List ℕ → List ℕ) → i < a.bidders
-    → weighted_given (general_of a) i v (λ t. expected_utility (general_of a) m i t (r t)) ≡ weighted_given (general_of a) i v (λ t. gain_at a (win_in a m) (paid_in a m) v i (r t))
-gains-given a m i v r b =
-    let s = general_of a in
-    total_given-same (sizes_of s) i v (λ t. weight_of s t *ℤ expected_utility s m i t (r t)) (λ t. weight_of s t *ℤ gain_at a (win_in a m) (paid_in a m) v i (r t))
-    (λ t p e. ap (λ z. weight_of s t *ℤ z) (utility-at a m i t (r t) b p ∙ ap (λ u. number_at a.values u *ℤ chance_of s m (r t) (i + 1) -ℤ pay_of s m i (r t)) e))
+  -- on average over its profiles with a value, where it reports as r says
+  gains-given : (i v : ℕ) (r : List ℕ → List ℕ) → i < a.bidders
+      → weighted_given sale.setting i v (λ t. expected_utility sale.setting m i t (r t)) ≡ weighted_given (general_of a) i v (λ t. gain_at a (sale.win m) (paid_at sale m) v i (r t))
+  gains-given i v r b =
+      let s = sale.setting in
+      let g = general_of a in
+      sale-given a sale is i v (λ t. expected_utility s m i t (r t))
+      ∙ total_given-same (sizes_of g) i v (λ t. weight_of g t *ℤ expected_utility s m i t (r t)) (λ t. weight_of g t *ℤ gain_at a (sale.win m) (paid_at sale m) v i (r t))
+      (λ t p e. ap (λ z. weight_of g t *ℤ z)
+      (utility-at i t (r t) b (has-values a t p) ∙ ap (λ u. number_at a.values u *ℤ sale.win m i (r t) -ℤ paid_at sale m i (r t)) e))
 
--- ---- from mechanisms to points
+  -- without taking part no bidder has anything
+  nothing_outside : (i v : ℕ) → i < a.bidders → (m.den *ℤ outside_of sale.setting i v) *ℤ marginal_of sale.setting i v ≡ pos 0
+  nothing_outside i v b =
+      ap (λ z. (m.den *ℤ z) *ℤ marginal_of sale.setting i v) (is.outside i v b)
+      ∙ ap (λ z. z *ℤ marginal_of sale.setting i v) (*ℤ-zero m.den)
+      ∙ zero-*ℤ (marginal_of sale.setting i v)
 
-bayes : (a : SymmetricAuction) (m : Mechanism) → IsAdmissible (general_of a) m → IsBayesTruth (general_of a) m
-bayes a m admissible = subst (λ (k : TruthKind). IsTruthfulBy k (general_of a) m) (general-truth a) admissible.truthful
+  -- ---- from mechanisms to points
 
-interim : (a : SymmetricAuction) (m : Mechanism) → IsAdmissible (general_of a) m → IsInterimRational (general_of a) m
-interim a m admissible = subst (λ (k : RationalKind). IsRationalBy k (general_of a) m) (general-rational a) admissible.rational
+  win-nonneg : (i : ℕ) (t : List ℕ) → i < a.bidders → IsMechanism sale.setting m → IsProfile (sizes_of (general_of a)) t → pos 0 ≤ℤ sale.win m i t
+  win-nonneg i t b mechanism p =
+      let s = sale.setting in
+      subst (λ z. pos 0 ≤ℤ z) (sym (is.wins m i t b))
+      (sum_to-nonneg (outcome_count s) (λ o. if sale.gets o i then chance_of s m t o else pos 0)
+      (λ o c. chosen-nonneg (sale.gets o i) (chance_of s m t o) (mechanism.not_negative t o (sale-profile a sale is t p) c)))
 
-nothing_outside : (a : SymmetricAuction) (m : Mechanism) (i v : ℕ) → i < a.bidders → (m.den *ℤ outside_of (general_of a) i v) *ℤ marginal_of (general_of a) i v ≡ pos 0
-nothing_outside a m i v b =
-    ap (λ z. (m.den *ℤ z) *ℤ marginal_of (general_of a) i v) (outside_of-general a i v b)
-    ∙ ap (λ z. z *ℤ marginal_of (general_of a) i v) (*ℤ-zero m.den)
-    ∙ zero-*ℤ (marginal_of (general_of a) i v)
-
-pub mechanism-on_average : (a : SymmetricAuction) (m : Mechanism) → IsAuction a → IsAdmissible (general_of a) m → IsAdmissibleOnAverage a 1 m.den (win_in a m) (paid_in a m)
-mechanism-on_average a m shaped admissible =
-    let s = general_of a in
-    let agent = λ (i : ℕ) (b : i < a.bidders). subst (λ n. i < n) (sym (agent_count-general a)) b in
-    let inside = λ (i v : ℕ) (b : i < a.bidders) (l : v < value_count a). subst (λ k. v < k) (sym (kinds-general a i b)) l in
-    record {
-      den_positive = admissible.mechanism.den;
-      nonneg = λ i t b p. admissible.mechanism.not_negative t (i + 1) p (omega (arith, b, outcome_count-general a));
-      truthful = λ i v w b l k.
-          subst (λ z. z ≤ℤ weighted_given s i v (gain_at a (win_in a m) (paid_in a m) v i)) (gains-given a m i v (λ t. replaced t i w) b)
-          (subst (λ z. weighted_given s i v (λ t. expected_utility s m i t (replaced t i w)) ≤ℤ z) (gains-given a m i v (λ t. t) b) (bayes a m admissible i v w (agent i b) (inside i v b l) (inside i w b k)));
-      rational = λ i v b l.
-          subst (λ z. z ≤ℤ weighted_given s i v (gain_at a (win_in a m) (paid_in a m) v i)) (nothing_outside a m i v b)
-          (subst (λ z. ((m.den *ℤ outside_of s i v) *ℤ marginal_of s i v) ≤ℤ z) (gains-given a m i v (λ t. t) b) (interim a m admissible i v (agent i b) (inside i v b l)));
-      inside = λ set. subst (λ r. won_in a (win_in a m) set ≤ℤ (m.den *ℤ r)) (right_of-counts a set) (won-le a m set admissible.mechanism);
-    }
+  pub sale-on_average : IsAdmissible sale.setting m → IsAdmissibleOnAverage a sale.units m.den (sale.win m) (paid_at sale m)
+  sale-on_average admissible =
+      let s = sale.setting in
+      let g = general_of a in
+      let gain = gain_at a (sale.win m) (paid_at sale m) in
+      let bayes : IsBayesTruth s m = subst (λ (k : TruthKind). IsTruthfulBy k s m) is.truth admissible.truthful in
+      let interim : IsInterimRational s m = subst (λ (k : RationalKind). IsRationalBy k s m) is.rational admissible.rational in
+      let agent = λ (i : ℕ) (b : i < a.bidders). subst (λ n. i < n) (sym is.agents) b in
+      let inside = λ (i v : ℕ) (b : i < a.bidders) (l : v < value_count a). subst (λ k. v < k) (sym (sale-kinds a sale is i b)) l in
+      record {
+        den_positive = admissible.mechanism.den;
+        nonneg = λ i t b p. win-nonneg i t b admissible.mechanism p;
+        truthful = λ i v w b l k.
+            subst (λ z. z ≤ℤ weighted_given g i v (gain v i)) (gains-given i v (λ t. replaced t i w) b)
+            (subst (λ z. weighted_given s i v (λ t. expected_utility s m i t (replaced t i w)) ≤ℤ z) (gains-given i v (λ t. t) b) (bayes i v w (agent i b) (inside i v b l) (inside i w b k)));
+        rational = λ i v b l.
+            subst (λ z. z ≤ℤ weighted_given g i v (gain v i)) (nothing_outside i v b)
+            (subst (λ z. ((m.den *ℤ outside_of s i v) *ℤ marginal_of s i v) ≤ℤ z) (gains-given i v (λ t. t) b) (interim i v (agent i b) (inside i v b l)));
+        inside = λ set. won-le a sale m set is admissible.mechanism;
+      }
 
 -- so often a base at each profile, and what bidders add to the objective over all profiles, are so often the base and a multiple
 -- of the cost of the averages
@@ -140,11 +153,16 @@ costs-of_averages a units cuts p win pay base whole is =
     fourth : (c f z : ℤ) → c *ℤ (f *ℤ z) ≡ (c *ℤ f) *ℤ z
     fourth c f z = simp ring
 
-pub stands-in : (a : SymmetricAuction) (cuts : List ℕ) (p : Program) → IsAuction a → IsReducedProgram a 1 cuts p → HoldsAdmissible a p
-stands-in a cuts p shaped is m admissible = record {
-  meets = averages-meet a 1 cuts p m.den (win_in a m) (paid_in a m) shaped is (mechanism-on_average a m shaped admissible);
-  costs = ap (λ z. pos (times_of a) *ℤ z) (worth-by_values a m shaped admissible.mechanism) ∙ costs-of_averages a 1 cuts p (win_in a m) (paid_in a m) a.keep m.den is;
+pub sale-stands : (a : SymmetricAuction) (sale : Sale) (of : IsSaleOf a sale) (cuts : List ℕ) (p : Program) → IsAuction a → IsReducedProgram a sale.units cuts p → (m : Mechanism) → IsAdmissible sale.setting m
+    → StandsAt p (sale.kept *ℤ pos (total_weight a.weights ^ a.bidders)) (scale_of a p) (pos (times_of a)) m.den (averages a (sale.win m) (paid_at sale m)) (worth_of sale.setting m)
+sale-stands a sale of cuts p shaped is m admissible = record {
+  meets = averages-meet a sale.units cuts p m.den (sale.win m) (paid_at sale m) shaped is (sale-on_average a sale of m admissible);
+  costs = ap (λ z. pos (times_of a) *ℤ z) (worth-by_values a sale m shaped of admissible.mechanism)
+      ∙ costs-of_averages a sale.units cuts p (sale.win m) (paid_at sale m) sale.kept m.den is;
 }
+
+pub stands-in : (a : SymmetricAuction) (cuts : List ℕ) (p : Program) → IsAuction a → IsReducedProgram a 1 cuts p → HoldsAdmissible a p
+stands-in a = sale-stands a (item_sale a) (item-sale a)
 
 -- ---- from points to mechanisms
 
@@ -258,55 +276,52 @@ rational-by_odds a win pay whole den x i v positive some rows odds pays b l =
     (subst (λ z. pos 0 ≤ℤ z) (sym (gain-by_odds a win pay whole den x i v v odds pays b l))
     (nonneg-*ℤ whole _ (at_least_zero whole some) (nonneg-*ℤ (pos (weight_given a v)) _ (nonneg_pos (weight_given a v)) (rows.rational v l))))
 
--- the chances and the payments of a mechanism with odds and payments
-wins-as_odds : (a : SymmetricAuction) (m : Mechanism) (den : ℤ) (odds : List ℤ) → HasOdds a m den odds → WinsAs a (win_in a m) m.den den odds
-wins-as_odds a m den odds h = record { wins = h.wins }
-
-pays-as_said : (a : SymmetricAuction) (m : Mechanism) (den : ℤ) (pays : List ℤ) → HasPays a m den pays → WinsAs a (paid_in a m) m.den den pays
-pays-as_said a m den pays h = record { wins = h.paid }
-
--- a mechanism with the odds and the payments of a point that keeps the conditions on truth and on taking part is admissible
-pub admits-rows : (a : SymmetricAuction) (m : Mechanism) (den : ℤ) (x : ℕ → ℤ) → IsAuction a → pos 0 <ℤ den → KeepsRows a x → IsMechanism (general_of a) m
-    → HasOdds a m den (list_to (value_count a) x) → HasPays a m den (list_to (value_count a) (pay_in a x)) → IsAdmissible (general_of a) m
-admits-rows a m den x shaped positive rows mechanism odds pays = record {
+-- a mechanism whose bidders win and pay as a point says that keeps the conditions on truth and on taking part is admissible
+pub sale-admits-rows : (a : SymmetricAuction) (sale : Sale) (is : IsSaleOf a sale) (m : Mechanism) (den : ℤ) (x : ℕ → ℤ) → IsAuction a → pos 0 <ℤ den → KeepsRows a x → IsMechanism sale.setting m
+    → WinsAs a (sale.win m) m.den den (list_to (value_count a) x) → WinsAs a (paid_at sale m) m.den den (list_to (value_count a) (pay_in a x)) → IsAdmissible sale.setting m
+sale-admits-rows a sale is m den x shaped positive rows mechanism odds pays = record {
   mechanism = mechanism;
-  truthful = subst (λ (k : TruthKind). IsTruthfulBy k (general_of a) m) (sym (general-truth a)) truthful;
-  rational = subst (λ (k : RationalKind). IsRationalBy k (general_of a) m) (sym (general-rational a)) rational;
-  no_deficit = λ on. off_is_on (general-no_deficit a) on;
+  truthful = subst (λ (k : TruthKind). IsTruthfulBy k s m) (sym is.truth) truthful;
+  rational = subst (λ (k : RationalKind). IsRationalBy k s m) (sym is.rational) rational;
+  no_deficit = λ on. off_is_on is.no_deficit on;
 }
   where
+    s : GeneralSetting
+    s = sale.setting
+
     off_is_on : {P : Type 0} {b : Bool} → b ≡ false → b ≡ true → P
     off_is_on e f = cc
 
-    bidder : (i : ℕ) → i < agent_count (general_of a) → i < a.bidders
-    bidder i h = subst (λ n. i < n) (agent_count-general a) h
+    bidder : (i : ℕ) → i < agent_count s → i < a.bidders
+    bidder i h = subst (λ n. i < n) is.agents h
 
-    kind : (i v : ℕ) → i < a.bidders → v < slice_index (sizes_of (general_of a)) i → v < value_count a
-    kind i v b h = subst (λ k. v < k) (kinds-general a i b) h
+    kind : (i v : ℕ) → i < a.bidders → v < slice_index (sizes_of s) i → v < value_count a
+    kind i v b h = subst (λ k. v < k) (sale-kinds a sale is i b) h
 
-    odds_as : WinsAs a (win_in a m) m.den den (list_to (value_count a) x)
-    odds_as = wins-as_odds a m den (list_to (value_count a) x) odds
-
-    pays_as : WinsAs a (paid_in a m) m.den den (list_to (value_count a) (pay_in a x))
-    pays_as = pays-as_said a m den (list_to (value_count a) (pay_in a x)) pays
-
-    truthful : IsBayesTruth (general_of a) m
+    truthful : IsBayesTruth s m
     truthful i v w h l k =
-        let s = general_of a in
         let b = bidder i h in
-        let c = kind i v b l in
-        let g = gain_at a (win_in a m) (paid_in a m) v i in
-        subst (λ z. z ≤ℤ weighted_given s i v (λ t. expected_utility s m i t t)) (sym (gains-given a m i v (λ t. replaced t i w) b))
-        (subst (λ z. weighted_given s i v (λ t. g (replaced t i w)) ≤ℤ z) (sym (gains-given a m i v (λ t. t) b))
-        (truthful-by_odds a (win_in a m) (paid_in a m) m.den den x i v w shaped positive mechanism.den rows odds_as pays_as b c (kind i w b k)))
+        let gain = gain_at a (sale.win m) (paid_at sale m) v i in
+        subst (λ z. z ≤ℤ weighted_given s i v (λ t. expected_utility s m i t t)) (sym (gains-given a sale is m i v (λ t. replaced t i w) b))
+        (subst (λ z. weighted_given (general_of a) i v (λ t. gain (replaced t i w)) ≤ℤ z) (sym (gains-given a sale is m i v (λ t. t) b))
+        (truthful-by_odds a (sale.win m) (paid_at sale m) m.den den x i v w shaped positive mechanism.den rows odds pays b (kind i v b l) (kind i w b k)))
 
-    rational : IsInterimRational (general_of a) m
+    rational : IsInterimRational s m
     rational i v h l =
-        let s = general_of a in
         let b = bidder i h in
-        subst (λ z. z ≤ℤ weighted_given s i v (λ t. expected_utility s m i t t)) (sym (nothing_outside a m i v b))
-        (subst (λ z. pos 0 ≤ℤ z) (sym (gains-given a m i v (λ t. t) b))
-        (rational-by_odds a (win_in a m) (paid_in a m) m.den den x i v positive mechanism.den rows odds_as pays_as b (kind i v b l)))
+        subst (λ z. z ≤ℤ weighted_given s i v (λ t. expected_utility s m i t t)) (sym (nothing_outside a sale is m i v b))
+        (subst (λ z. pos 0 ≤ℤ z) (sym (gains-given a sale is m i v (λ t. t) b))
+        (rational-by_odds a (sale.win m) (paid_at sale m) m.den den x i v positive mechanism.den rows odds pays b (kind i v b l)))
+
+pub sale-admits : (a : SymmetricAuction) (sale : Sale) (of : IsSaleOf a sale) (cuts : List ℕ) (p : Program) → IsAuction a → IsReducedProgram a sale.units cuts p → (m : Mechanism) (den : ℤ) (x : ℕ → ℤ) → Meets p den x
+    → IsMechanism sale.setting m → WinsAs a (sale.win m) m.den den (interim_in a den x).odds → WinsAs a (paid_at sale m) m.den den (interim_in a den x).pays → IsAdmissible sale.setting m
+sale-admits a sale of cuts p shaped is m den x meets = sale-admits-rows a sale of m den x shaped meets.point.positive (keeps-rows a sale.units cuts p den x is meets)
+
+-- one item
+pub admits-rows : (a : SymmetricAuction) (m : Mechanism) (den : ℤ) (x : ℕ → ℤ) → IsAuction a → pos 0 <ℤ den → KeepsRows a x → IsMechanism (general_of a) m
+    → HasOdds a m den (list_to (value_count a) x) → HasPays a m den (list_to (value_count a) (pay_in a x)) → IsAdmissible (general_of a) m
+admits-rows a m den x shaped positive rows mechanism odds pays =
+    sale-admits-rows a (item_sale a) (item-sale a) m den x shaped positive rows mechanism (odds-as a m den (list_to (value_count a) x) odds) (pays-as a m den (list_to (value_count a) (pay_in a x)) pays)
 
 pub admits : (a : SymmetricAuction) (cuts : List ℕ) (p : Program) → IsAuction a → IsReducedProgram a 1 cuts p → AdmitsPoints a p
 admits a cuts p shaped is m den x meets mechanism odds pays = admits-rows a m den x shaped meets.point.positive (keeps-rows a 1 cuts p den x is meets) mechanism odds pays
@@ -354,5 +369,5 @@ keeps-by_odds a units win pay whole den x shaped positive odds pays averaged = r
 pub rows-kept : (a : SymmetricAuction) (m : Mechanism) (den : ℤ) (x : ℕ → ℤ) → IsAuction a → pos 0 <ℤ den
     → HasOdds a m den (list_to (value_count a) x) → HasPays a m den (list_to (value_count a) (pay_in a x)) → IsAdmissible (general_of a) m → KeepsRows a x
 rows-kept a m den x shaped positive odds pays admissible =
-    keeps-by_odds a 1 (win_in a m) (paid_in a m) m.den den x shaped positive (wins-as_odds a m den (list_to (value_count a) x) odds)
-    (pays-as_said a m den (list_to (value_count a) (pay_in a x)) pays) (mechanism-on_average a m shaped admissible)
+    keeps-by_odds a 1 ((item_sale a).win m) (paid_at (item_sale a) m) m.den den x shaped positive (odds-as a m den (list_to (value_count a) x) odds)
+    (pays-as a m den (list_to (value_count a) (pay_in a x)) pays) (sale-on_average a (item_sale a) (item-sale a) m admissible)

@@ -14,7 +14,7 @@ use Rattle.md_forms.proofs.PointLaws.{meets-hold, hold-meets}
 use Rattle.md_reduced.specs.declared.condition.ReducedCondition.{ReducedCondition}
 use Rattle.md_reduced.specs.Conditions.{conditions_of}
 use Rattle.md_lp.specs.Cuts.{AreCuts}
-use Rattle.md_reduced.specs.Sides.{AreSides, right_side, cost_of}
+use Rattle.md_reduced.specs.Sides.{right_side, cost_of}
 use Rattle.md_reduced.specs.ProgramOf.{column_count, form_of, form_with, forms_of, IsReducedProgram, GrowsByRows, HasEachRow, MeetsByConditions, CostsPoints}
 use Rattle.md_reduced.proofs.ConditionLaws.{conditions-few}
 
@@ -31,25 +31,23 @@ extends-next a units cs n c old mid new e p q =
 pub extends-all : (a : SymmetricAuction) (units : ℕ) (cs : List ReducedCondition) (n : ℕ) (old new : Program) → n ≡ length cs → Extends (forms_of a units (take n cs)) old new → Extends (forms_of a units cs) old new
 extends-all a units cs n old new e p = subst (λ ds. Extends (forms_of a units ds) old new) (take_all n cs (omega (arith, e))) p
 
--- no condition yet, one more, and all of them, with the right sides of their cuts
-pub grows-none : (a : SymmetricAuction) (cuts : List ℕ) (sides : List ℤ) (old : Program) → GrowsByRows a cuts sides 0 old old
-grows-none a cuts sides old = record { columns = refl; more = omega arith; extends = λ units are. forms.extends-none old }
+-- no condition yet, one more, and all of them
+pub grows-none : (a : SymmetricAuction) (units : ℕ) (cuts : List ℕ) (old : Program) → GrowsByRows a units cuts 0 old old
+grows-none a units cuts old = record { columns = refl; more = omega arith; extends = forms.extends-none old }
 
-pub grows-next : (a : SymmetricAuction) (cuts : List ℕ) (sides : List ℤ) (n : ℕ) (c : ReducedCondition) (right : ℤ) (old mid new : Program) → slice_get (conditions_of (value_count a) cuts) n ≡ Some c
-    → ((units : ℕ) → AreSides a units cuts sides → right ≡ right_side a units c) → GrowsByRows a cuts sides n old mid → Extends (form_with a right c ∷ []) mid new → GrowsByRows a cuts sides (n + 1) old new
-grows-next a cuts sides n c right old mid new e is p q = record {
+pub grows-next : (a : SymmetricAuction) (units : ℕ) (cuts : List ℕ) (n : ℕ) (c : ReducedCondition) (right : ℤ) (old mid new : Program) → slice_get (conditions_of (value_count a) cuts) n ≡ Some c → right ≡ right_side a units c
+    → GrowsByRows a units cuts n old mid → Extends (form_with a right c ∷ []) mid new → GrowsByRows a units cuts (n + 1) old new
+grows-next a units cuts n c right old mid new e is p q = record {
   columns = forms.same_columns (form_with a right c ∷ []) mid new q ∙ p.columns;
   more = omega (arith, forms.grown (form_with a right c ∷ []) mid new q, p.more);
-  extends = λ units are.
-      extends-next a units (conditions_of (value_count a) cuts) n c old mid new e (p.extends units are)
-      (subst (λ r. Extends (form_with a r c ∷ []) mid new) (is units are) q);
+  extends = extends-next a units (conditions_of (value_count a) cuts) n c old mid new e p.extends (subst (λ r. Extends (form_with a r c ∷ []) mid new) is q);
 }
 
-pub grows-all : (a : SymmetricAuction) (cuts : List ℕ) (sides : List ℤ) (units : ℕ) (old new : Program) → GrowsByRows a cuts sides (length (conditions_of (value_count a) cuts)) old new → AreSides a units cuts sides
+pub grows-all : (a : SymmetricAuction) (units : ℕ) (cuts : List ℕ) (old new : Program) → GrowsByRows a units cuts (length (conditions_of (value_count a) cuts)) old new
     → Extends (forms_of a units (conditions_of (value_count a) cuts)) old new
-grows-all a cuts sides units old new p are =
+grows-all a units cuts old new p =
     let cs = conditions_of (value_count a) cuts in
-    extends-all a units cs (length cs) old new refl (p.extends units are)
+    extends-all a units cs (length cs) old new refl p.extends
 
 -- a program with no row has room for all conditions
 pub whole-room : (a : SymmetricAuction) (cuts : List ℕ) (p : Program) → value_count a ≤ 12 → AreCuts (value_count a) cuts → p.rows ≡ [] → row_count p + length (conditions_of (value_count a) cuts) ≤ 8192

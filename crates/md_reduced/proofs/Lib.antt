@@ -3,7 +3,6 @@ pub mod BuiltLaws
 pub mod TermForms
 pub mod CostLaws
 pub mod PointLaws
-pub mod RightLaws
 pub mod SampleLaws
 pub mod Replacing
 pub mod MeanLaws

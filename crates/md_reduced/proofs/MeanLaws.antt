@@ -28,7 +28,8 @@ use Rattle.md_border.specs.Sides.{right_by_counts}
 use Rattle.md_border.specs.Worth.{surplus_of}
 use Rattle.md_border.proofs.ByValues.{count-general, kinds-general, given-sub}
 use Rattle.md_border.proofs.Necessity.{by_bidders}
-use Rattle.md_reduced.specs.Averages.{all_weights, other_weights, sum_given, times_of, mean, plus_part, minus_part, averages, gain_at, won_in, IsAdmissibleOnAverage}
+use Rattle.md_border.specs.Odds.{sum_given, won_in}
+use Rattle.md_reduced.specs.Averages.{all_weights, other_weights, times_of, mean, plus_part, minus_part, averages, gain_at, IsAdmissibleOnAverage}
 use Rattle.md_reduced.specs.Sides.{pay_in, utility_in, demands_of, cost_of}
 use Rattle.md_reduced.proofs.Replacing.{given-replaced}
 

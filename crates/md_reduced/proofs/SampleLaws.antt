@@ -1,10 +1,8 @@
--- The auction of one bidder with the value 1 or 3, which the tests use, a point that meets its reduced program, and right sides
--- of two units.
+-- The auction of one bidder with the value 1 or 3, which the tests use, and a point that meets its reduced program.
 use Rattle.std.proofs.Common.{◌≡◌, ℕ, zero, suc, ◌*◌, ◌-◌, ◌^◌, ◌<◌, ℤ, pos, ◌-ℤ◌, ◌*ℤ◌, ◌≤ℤ◌, List, [], ◌∷◌, refl, sym, ap, ◌∙◌, subst, arith}
 use Rattle.std.specs.Prelude.{slice_index, slice_index_or}
 use Rattle.std.proofs.lemmas.Int.{ints}
 use Rattle.md_math.specs.Lists.{number_at}
-use Rattle.md_math.specs.Sizes.{IsWithin, AllWithin}
 use Rattle.md_setting.specs.Auction.{SymmetricAuction, auction_of, written_auction}
 use Rattle.md_lp.specs.Program.{Program}
 use Rattle.md_forms.specs.Forms.{Holds}
@@ -67,16 +65,3 @@ sample-meets p is = record {
   singles = record { single = single };
   meets = (meets-conditions sample 1 (1 ∷ 2 ∷ []) p is (pos 1) (number_at sample_point) (record { positive = omega (arith, ints); nonneg = λ j b. nonneg j })).1 all-kept;
 }
-
--- ---- right sides of two units
-
-pub sides-small : AllWithin (2 ^ 44) (pos 4 ∷ pos 4 ∷ [])
-sides-small = record { at = at }
-  where
-    small : IsWithin (2 ^ 44) (pos 4)
-    small = record { within = omega arith }
-
-    at : (k : ℕ) → k < 2 → IsWithin (2 ^ 44) (number_at (pos 4 ∷ pos 4 ∷ []) k)
-    at zero b = small
-    at (suc zero) b = small
-    at (suc (suc k)) b = absurd (omega (arith, b))

@@ -1,19 +1,16 @@
 -- Averages over the bidders of an auction. What bidders win and pay are any functions of the bidder, counted from 0, and of the
 -- profile, so that one item, several units and other sales have the same averages.
-use Rattle.std.specs.Prelude.{◌≡◌, ℕ, ◌+◌, ◌-◌, ◌*◌, ◌^◌, ◌<◌, suc, ℤ, pos, negsuc, ◌-ℤ◌, ◌*ℤ◌, ◌≤ℤ◌, List, slice_index, nat_lt, ◌==◌, if◌then◌else◌}
+use Rattle.std.specs.Prelude.{ℕ, ◌+◌, ◌-◌, ◌*◌, ◌^◌, ◌<◌, suc, ℤ, pos, negsuc, ◌-ℤ◌, ◌*ℤ◌, ◌≤ℤ◌, List, slice_index, nat_lt, ◌==◌, if◌then◌else◌}
 use Rattle.md_math.specs.Lists.{number_at}
 use Rattle.md_math.specs.Products.{product_to}
-use Rattle.md_math.specs.Sets.{member}
-use Rattle.md_math.specs.Sums.{sum_to, total_by}
-use Rattle.md_space.specs.AllProfiles.{profiles_of}
 use Rattle.md_space.specs.Profiles.{IsProfile, replaced}
-use Rattle.md_setting.specs.Meaning.{sizes_of, weight_of}
+use Rattle.md_setting.specs.Meaning.{sizes_of}
 use Rattle.md_setting.specs.Auction.{SymmetricAuction, value_count, total_weight}
 use Rattle.md_setting.specs.General.{general_of}
 use Rattle.md_mech.specs.declared.mechanism.Mechanism.{Mechanism}
 use Rattle.md_mech.specs.Mechanism.{chance_of, pay_of}
 use Rattle.md_mech.specs.Utility.{weighted_given}
-use Rattle.md_border.specs.Odds.{weight_given}
+use Rattle.md_border.specs.Odds.{sum_given, won_in}
 use Rattle.md_border.specs.Sides.{right_by_counts}
 
 -- ---- the averages
@@ -24,10 +21,6 @@ all_weights a = product_to (value_count a) (slice_index a.weights)
 
 abbrev pub other_weights : SymmetricAuction → ℕ → ℕ
 other_weights a v = product_to (value_count a) (λ u. if u == v then 1 else slice_index a.weights u)
-
--- what all bidders together have of f with a value, over all profiles by weight
-abbrev pub sum_given : SymmetricAuction → (ℕ → List ℕ → ℤ) → ℕ → ℤ
-sum_given a f v = sum_to a.bidders (λ i. weighted_given (general_of a) i v (f i))
 
 -- how often each denominator counts: the bidders, times the weight of all profiles of the others, times the product of the
 -- weights of all values
@@ -61,18 +54,6 @@ averages a win pay column =
 -- what bidder i with the value v has at the report t
 abbrev pub gain_at : SymmetricAuction → (ℕ → List ℕ → ℤ) → (ℕ → List ℕ → ℤ) → ℕ → ℕ → List ℕ → ℤ
 gain_at a win pay v i t = number_at a.values v *ℤ win i t -ℤ pay i t
-
--- What each bidder with each value has of f, on average over the values of the others and in units of one over the whole, is
--- what the numbers over the denominator say: how often it wins by odds, or what it pays by payments.
-pub record WinsAs (a : SymmetricAuction) (f : ℕ → List ℕ → ℤ) (whole den : ℤ) (numbers : List ℤ) : Type 0 where
-  pub wins : (i v : ℕ) → i < a.bidders → v < value_count a
-      → den *ℤ weighted_given (general_of a) i v (f i) ≡ whole *ℤ (pos (weight_given a v) *ℤ number_at numbers v)
-
--- how often the bidders with values in a set win, over all profiles by weight
-abbrev pub won_in : SymmetricAuction → (ℕ → List ℕ → ℤ) → ℕ → ℤ
-won_in a win set =
-    total_by (λ t. sum_to a.bidders (λ i. if member set (slice_index t i) then weight_of (general_of a) t *ℤ win i t else pos 0))
-    (profiles_of (sizes_of (general_of a)))
 
 -- Bidders win never less than nothing, gain on average nothing by telling another value, and lose on average nothing by taking
 -- part, and those with values in a set win no more often than so many units can go to such bidders.

@@ -10,7 +10,7 @@ use Rattle.md_forms.specs.Built.{Extends}
 use Rattle.md_forms.specs.ProgramOf.{IsRowOf, IsProgramOf}
 use Rattle.md_reduced.specs.declared.condition.ReducedCondition.{ReducedCondition}
 use Rattle.md_reduced.specs.Conditions.{conditions_of}
-use Rattle.md_reduced.specs.Sides.{AreSides, left_side, right_side, cost_of}
+use Rattle.md_reduced.specs.Sides.{left_side, right_side, cost_of}
 
 -- the columns: for each value its odds and the two parts of its payment
 abbrev pub column_count : SymmetricAuction → ℕ
@@ -32,11 +32,11 @@ abbrev pub IsReducedProgram : SymmetricAuction → ℕ → List ℕ → Program 
 IsReducedProgram a units cuts p =
     IsProgramOf (column_count a) (forms_of a units (conditions_of (value_count a) cuts)) (cost_of a) p
 
--- the first so many conditions were added at the end of a program, the cuts among them with these right sides
-pub record GrowsByRows (a : SymmetricAuction) (cuts : List ℕ) (sides : List ℤ) (count : ℕ) (old new : Program) : Type 0 where
+-- the first so many conditions were added at the end of a program
+pub record GrowsByRows (a : SymmetricAuction) (units : ℕ) (cuts : List ℕ) (count : ℕ) (old new : Program) : Type 0 where
   pub columns : new.columns ≡ old.columns
   pub more : row_count new ≡ row_count old + count
-  pub extends : (units : ℕ) → AreSides a units cuts sides → Extends (forms_of a units (take count (conditions_of (value_count a) cuts))) old new
+  pub extends : Extends (forms_of a units (take count (conditions_of (value_count a) cuts))) old new
 
 -- the row of each number is the condition of this number
 abbrev pub HasEachRow : SymmetricAuction → ℕ → List ℕ → Program → Type 0

@@ -1,6 +1,6 @@
 -- The two sides of each condition on interim odds and payments, and the cost, at numbers for the columns of the reduced
 -- program: first the odds, then the plus parts of the payments, then their minus parts, each by value.
-use Rattle.std.specs.Prelude.{◌≡◌, ℕ, ◌+◌, ◌*◌, ◌<◌, ℤ, pos, ◌+ℤ◌, ◌-ℤ◌, ◌*ℤ◌, neg_ℤ, List, length, slice_index, if◌then◌else◌}
+use Rattle.std.specs.Prelude.{ℕ, ◌+◌, ◌*◌, ℤ, pos, ◌+ℤ◌, ◌-ℤ◌, ◌*ℤ◌, neg_ℤ, slice_index, if◌then◌else◌}
 use Rattle.md_math.specs.Lists.{number_at}
 use Rattle.md_math.specs.Sets.{member}
 use Rattle.md_math.specs.Sums.{sum_to}
@@ -35,10 +35,6 @@ abbrev pub right_side : SymmetricAuction → ℕ → ReducedCondition → ℤ
 right_side a units (Truth v w) = pos 0
 right_side a units (Rational v) = pos 0
 right_side a units (Cut set) = right_by_counts a units set
-
--- the right sides of some cuts, by their places, for so many units of an item
-pub record AreSides (a : SymmetricAuction) (units : ℕ) (cuts : List ℕ) (sides : List ℤ) : Type 0 where
-  pub at : (k : ℕ) → k < length cuts → number_at sides k ≡ right_by_counts a units (slice_index cuts k)
 
 -- what a bidder adds to the designer's objective over all its values, by their weights
 abbrev pub cost_of : SymmetricAuction → (ℕ → ℤ) → ℤ

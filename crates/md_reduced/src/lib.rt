@@ -13,4 +13,4 @@ mod terms;
 pub use condition::{ReducedCondition, condition_at, row_count};
 pub use interim::interim_of;
 pub use names::row_name;
-pub use reduced::{program, program_with};
+pub use reduced::{program, program_for};

@@ -1,5 +1,5 @@
 -- The caps, demands and rooms of the net of an auction of several units: how many there are, and how large.
-use Rattle.std.proofs.Common.{◌≡◌, ℕ, ◌+◌, ◌*◌, ◌^◌, ◌<◌, ◌≤◌, ℤ, pos, ◌*ℤ◌, ◌≤ℤ◌, ◌<ℤ◌, length, sym, ap, ap₂, ◌∙◌, subst, arith, mul-le-mul, le_refl, le_trans}
+use Rattle.std.proofs.Common.{◌≡◌, ℕ, ◌+◌, ◌*◌, ◌^◌, ◌<◌, ◌≤◌, ℤ, pos, ◌*ℤ◌, ◌≤ℤ◌, ◌<ℤ◌, sym, ap, ap₂, ◌∙◌, subst, arith, mul-le-mul, le_refl, le_trans}
 use Rattle.std.specs.Prelude.{slice_index, unsigned_abs}
 use Rattle.std.proofs.lemmas.Int.{ints}
 use Rattle.std.proofs.lemmas.List.Sums.{get_or-le-sum_by}
@@ -15,31 +15,16 @@ use Rattle.md_setting.specs.AuctionShaped.{IsAuction}
 use Rattle.md_mech.specs.Accepted.{number_limit}
 use Rattle.md_counts.proofs.RankLaws.{ranked}
 use Rattle.md_border.specs.declared.interim.Interim.{Interim}
-use Rattle.md_border.specs.Odds.{IsInterim, demand_of}
-use Rattle.md_flow.specs.declared.rooms.Rooms.TheVariants.{Listed}
-use Rattle.md_flow.specs.Network.{Network, IsNet, OneEach, node_count, demand_count, cap_of, want_of, room_in, room_of}
+use Rattle.md_border.specs.Odds.{IsInterim}
+use Rattle.md_flow.specs.Network.{Network, IsNet, OneEach, node_count, demand_count, cap_of, room_in, room_of}
 use Rattle.md_expost.specs.Masses.{rank_count, counts_in, cap_at}
 use Rattle.md_expost.proofs.MassLaws.{cap-nonneg, cap-within, caps-within}
+use Rattle.md_expost.proofs.CountNetLaws.{nodes-of, demands-of, cap-of}
 use Rattle.md_expost.proofs.NetLaws.{IsFit, demands-fit}
 use Rattle.md_unit_tables.specs.Tables.{room_at}
-use Rattle.md_unit_tables.specs.UnitNets.{IsUnitNetOf}
+use Rattle.md_unit_tables.specs.UnitNets.{IsUnitNetOf, unit_cap}
 
--- ---- the net's sizes and numbers
-
-pub nodes-of : (a : SymmetricAuction) (units : ℕ) (interim : Interim) (net : Network) → IsUnitNetOf a units interim net → node_count net ≡ rank_count a
-nodes-of a units interim net h = ap length h.caps ∙ length-list_to (rank_count a) (λ rank. pos units *ℤ cap_at a interim.den rank)
-
-pub demands-of : (a : SymmetricAuction) (units : ℕ) (interim : Interim) (net : Network) → IsUnitNetOf a units interim net → demand_count net ≡ value_count a
-demands-of a units interim net h = ap length h.wants ∙ length-list_to (value_count a) (demand_of a interim)
-
-pub cap-of : (a : SymmetricAuction) (units : ℕ) (interim : Interim) (net : Network) (rank : ℕ) → IsUnitNetOf a units interim net → rank < rank_count a
-    → cap_of net rank ≡ pos units *ℤ cap_at a interim.den rank
-cap-of a units interim net rank h b =
-    ap (λ caps. number_at caps rank) h.caps ∙ get_or-list_to (rank_count a) (λ rank. pos units *ℤ cap_at a interim.den rank) rank (pos 0) b
-
-pub want-of : (a : SymmetricAuction) (units : ℕ) (interim : Interim) (net : Network) (v : ℕ) → IsUnitNetOf a units interim net → v < value_count a
-    → want_of net v ≡ demand_of a interim v
-want-of a units interim net v h b = ap (λ wants. number_at wants v) h.wants ∙ get_or-list_to (value_count a) (demand_of a interim) v (pos 0) b
+-- ---- rooms
 
 pub room-of : (a : SymmetricAuction) (units : ℕ) (interim : Interim) (net : Network) (rank v : ℕ) → IsUnitNetOf a units interim net → rank < rank_count a → v < value_count a
     → room_of net rank v ≡ room_at a interim.den rank v
@@ -47,7 +32,7 @@ unfolding room_in
 room-of a units interim net rank v h b l =
     let rooms = λ (r : ℕ). list_to (value_count a) (room_at a interim.den r) in
     ap (λ kept. room_in net.caps net.wants kept rank v) h.rooms
-    ∙ ap (λ m. number_at (up_to (rank_count a) rooms) (rank * m + v)) (demands-of a units interim net h)
+    ∙ ap (λ m. number_at (up_to (rank_count a) rooms) (rank * m + v)) (demands-of a interim (unit_cap a units interim.den) net h.numbers)
     ∙ get_or-up_to (rank_count a) (value_count a) rank v rooms (pos 0) (λ r c. length-list_to (value_count a) (room_at a interim.den r)) b l
     ∙ get_or-list_to (value_count a) (room_at a interim.den rank) v (pos 0) l
 
@@ -102,12 +87,12 @@ net-fits a units interim net shaped fits few h = record {
       (length-up_to (rank_count a) (value_count a) (λ r. list_to (value_count a) (room_at a interim.den r)) (λ r c. length-list_to (value_count a) (room_at a interim.den r)) ∙ sym (ap₂ (λ m k. m * k) nodes demands));
   few_nodes = omega (arith, nodes, shaped.few_counts);
   few_demands = wants.few;
-  caps = λ u b. subst (λ z. pos 0 ≤ℤ z) (sym (cap-of a units interim net u h (node u b))) (nonneg-*ℤ (pos units) _ (nonneg units) (cap-nonneg a interim.den u fits.den_positive));
+  caps = λ u b. subst (λ z. pos 0 ≤ℤ z) (sym (cap-of a interim (unit_cap a units interim.den) net h.numbers u (node u b))) (nonneg-*ℤ (pos units) _ (nonneg units) (cap-nonneg a interim.den u fits.den_positive));
   wants = wants.nonneg;
   rooms = λ u d b l. subst (λ z. pos 0 ≤ℤ z) (sym (room-of a units interim net u d h (node u b) (demand d l))) (room-nonneg a interim.den u d fits.den_positive);
   cap_size =
       subst (λ z. z <ℤ pos (2 ^ 126))
-      (sym (ap (λ n. sum_to n (cap_of net)) nodes ∙ sum_to-same (rank_count a) (cap_of net) (λ rank. pos units *ℤ cap_at a interim.den rank) (λ r b. cap-of a units interim net r h b)))
+      (sym (ap (λ n. sum_to n (cap_of net)) nodes ∙ sum_to-same (rank_count a) (cap_of net) (unit_cap a units interim.den) (λ r b. cap-of a interim (unit_cap a units interim.den) net h.numbers r b)))
       (caps-small a units interim.den shaped fits.den_positive fits.den_size few);
   want_size = wants.size;
   room_size = λ u d b l.
@@ -116,13 +101,13 @@ net-fits a units interim net shaped fits few h = record {
 }
   where
     nodes : node_count net ≡ rank_count a
-    nodes = nodes-of a units interim net h
+    nodes = nodes-of a interim (unit_cap a units interim.den) net h.numbers
 
     demands : demand_count net ≡ value_count a
-    demands = demands-of a units interim net h
+    demands = demands-of a interim (unit_cap a units interim.den) net h.numbers
 
     wants : IsFit 12 net.wants
-    wants = demands-fit a interim net.wants shaped fits h.wants
+    wants = demands-fit a interim net.wants shaped fits h.numbers.wants
 
     node : (u : ℕ) → u < node_count net → u < rank_count a
     node u b = omega (arith, nodes, b)

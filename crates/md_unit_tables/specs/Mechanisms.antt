@@ -10,7 +10,7 @@ use Rattle.md_expost.specs.declared.masses.Masses.{Masses}
 use Rattle.md_expost.specs.Mechanisms.{all_orders, whole_of, win_of}
 use Rattle.md_winners.specs.Sets.{set_at}
 use Rattle.md_winners.specs.Draws.{draws}
-use Rattle.md_unit_laws.specs.Setting.{units_of}
+use Rattle.md_winners.specs.Setting.{units_of}
 
 -- the part of bidder i, counted from 0, at the profile t
 abbrev pub part_of : SymmetricAuction → Masses → List ℕ → ℕ → ℕ

@@ -2,14 +2,14 @@
 ghost use Rattle.std.specs.Prelude.{◌≡◌, ◌≤◌, ◌<◌, ◌++◌, pos, ◌*ℤ◌, ◌≤ℤ◌, IfOk};
 ghost use Rattle.md_math.specs.Lists.{list_to, up_to};
 ghost use Rattle.md_setting.specs.Auction.{value_count};
-ghost use Rattle.md_setting.specs.AuctionShaped.{IsAuction};
-ghost use Rattle.md_border.specs.Odds.{IsInterim, demand_of};
+ghost use Rattle.md_border.specs.Odds.{IsInterim};
 ghost use Rattle.md_expost.specs.Masses.{rank_count, cap_at};
 ghost use Rattle.md_unit_tables.specs.Tables.{room_at};
 ghost use Rattle.md_unit_tables.specs.UnitNets.{IsUnitNetOf};
 
-use md_border::{Interim, demand};
+use md_border::Interim;
 use md_counts::Counts;
+use md_expost::{cap, demands};
 use md_flow::Net;
 use md_num::{NoMemory, Nums, product};
 use md_setting::Auction;
@@ -56,19 +56,6 @@ fn caps(
     Ok(caps)
 }
 
-// The demands of all kinds.
-fn demands(alloc: Global, auction: &Auction, interim: &Interim) -> Result<Nums, NoMemory>
-    requires fits { IsInterim auction.now interim.now }
-    ensures value { IfOk result (λ demands. demands ≡ list_to (value_count auction.now) (demand_of auction.now interim.now)) }
-    ensures shaped { IsAuction auction.now }
-{
-    let mut demands = Nums::new(alloc);
-    for kind in 0..auction.kinds() {
-        demands.push(demand(auction, interim, kind))?;
-    }
-    Ok(demands)
-}
-
 // The rooms of all lists of counts, one list after another.
 fn rooms(alloc: Global, auction: &Auction, counts: &Counts, den: i128) -> Result<Nums, NoMemory>
     requires bidders { counts.now.bidders ≡ auction.now.bidders }
@@ -113,17 +100,5 @@ fn units_at(auction: &Auction, counts: &Counts, den: i128, rank: u32, units: u32
     requires units { units ≤ 12 }
     ensures { result ≡ pos units *ℤ cap_at auction.now den rank }
 {
-    product(i128::from(units), unit_at(auction, counts, den, rank))
-}
-
-// As much as one unit is at the counts of a rank: the denominator, as often as the profiles with these counts weigh.
-fn unit_at(auction: &Auction, counts: &Counts, den: i128, rank: u32) -> i128
-    requires bidders { counts.now.bidders ≡ auction.now.bidders }
-    requires kinds { counts.now.kinds ≡ value_count auction.now }
-    requires den_small { (pos 1 ≤ℤ den) × (den ≤ℤ pos 4611686018427387903) }
-    requires rank_in { rank < rank_count auction.now }
-    ensures value { result ≡ cap_at auction.now den rank }
-    ensures shaped { IsAuction auction.now }
-{
-    product(den, i128::from(counts.weight(rank, auction.weights())))
+    product(i128::from(units), cap(auction, counts, den, rank))
 }

@@ -1,4 +1,3 @@
-mod SideLaws
+pub mod UnitLaws
 mod FurtherUnits
-mod UnitPrograms
 mod UnitEnds

@@ -15,18 +15,18 @@ use Rattle.md_border.specs.declared.interim.Interim.{Interim}
 use Rattle.md_reduced.specs.Points.{interim_in}
 use Rattle.md_cut_runs.specs.declared.optimum.Optimum.{Optimum}
 use Rattle.md_cut_runs.specs.CutRuns.{EndsSettled, IsShownBy}
-use Rattle.md_unit_laws.specs.Odds.{HasUnitOdds, HasUnitPays}
-use Rattle.md_unit_laws.specs.Setting.{units_of}
-use Rattle.md_unit_laws.specs.Worth.{HasUnitWorth}
-use Rattle.md_unit_laws.proofs.MechanismWorth.{value-of_odds}
-use Rattle.md_unit_laws.proofs.OptimalLaws.{makes-optimal}
+use Rattle.md_winners.specs.Odds.{HasUnitOdds, HasUnitPays}
+use Rattle.md_winners.specs.Setting.{units_of}
+use Rattle.md_units.specs.Worth.{HasUnitWorth}
+use Rattle.md_units.proofs.UnitLaws.{makes-optimal, value-of_odds}
 use Rattle.md_unit_tables.specs.Mechanisms.{unit_mechanism_of}
 use Rattle.md_unit_tables.specs.Tables.{table_of}
 use Rattle.md_unit_tables.proofs.MechanismLaws.{mechanism-of_table, odds-of_table, pays-of_table}
 use Rattle.md_units.specs.declared.unit_cuts.Realised.{Realised}
 use Rattle.md_units.specs.declared.units_answer.UnitsAnswer.{UnitsAnswer}
 use Rattle.md_units.specs.Solved.{IsSolvedUnits, TellsUnits}
-use Rattle.md_units.specs.UnitCuts.{IsUnitRealised, unit_cutting}
+use Rattle.md_cuts.specs.AuctionCuts.{unit_cutting}
+use Rattle.md_units.specs.UnitCuts.{IsUnitRealised}
 
 -- the answer that an end gives
 abbrev answer : Frac → List ℕ → Optimum → Realised → UnitsAnswer

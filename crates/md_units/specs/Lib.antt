@@ -1,3 +1,5 @@
 pub mod Numbers
+pub mod Worth
+pub mod Mechanisms
 pub mod UnitCuts
 pub mod Solved

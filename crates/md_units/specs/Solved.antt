@@ -9,7 +9,7 @@ use Rattle.md_cut_runs.specs.CutRuns.{EndsSettled, IsShownBy}
 use Rattle.md_unit_tables.specs.Mechanisms.{unit_mechanism_of}
 use Rattle.md_unit_tables.specs.Tables.{table_of}
 use Rattle.md_units.specs.declared.units_answer.UnitsAnswer.{UnitsAnswer}
-use Rattle.md_units.specs.UnitCuts.{unit_cutting}
+use Rattle.md_cuts.specs.AuctionCuts.{unit_cutting}
 
 -- the mechanism of the masses, in which each bidder pays what the interim payments say
 abbrev pub mechanism_in : SymmetricAuction → ℕ → UnitsAnswer → Mechanism

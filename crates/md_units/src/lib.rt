@@ -3,15 +3,14 @@
 #![tactic(auto)]
 
 mod programs;
-mod sides;
 mod solving;
 mod unit_cuts;
 mod units_answer;
 mod worth;
 
+pub use md_border::right_side_for as right_side;
 pub use md_cut_runs::CutsError as UnitsError;
 pub use md_unit_tables::{UnitEnd, realise_units};
 pub use programs::program;
-pub use sides::right_side;
 pub use solving::solve_units;
 pub use units_answer::UnitsAnswer;

@@ -1,6 +1,5 @@
 //! The reduced programs of sales of several units.
-ghost use Rattle.std.specs.Prelude.{◌≡◌, ℕ, ◌^◌, ◌<◌, pos, length, IfOk};
-ghost use Rattle.md_math.specs.Sizes.{AllWithin};
+ghost use Rattle.std.specs.Prelude.{◌≡◌, pos, length, IfOk};
 ghost use Rattle.md_setting.specs.Auction.{value_count};
 ghost use Rattle.md_lp.specs.Program.{row_count};
 ghost use Rattle.md_lp.specs.Point.{Meets};
@@ -8,14 +7,12 @@ ghost use Rattle.md_lp.specs.Cuts.{AreCuts, HasSingles};
 ghost use Rattle.md_reduced.specs.Conditions.{conditions_of};
 ghost use Rattle.md_reduced.specs.Mechanisms.{IsBounded};
 ghost use Rattle.md_reduced.specs.ProgramOf.{IsReducedProgram, HasEachRow, MeetsByConditions, CostsPoints};
-ghost use Rattle.md_reduced.specs.Sides.{AreSides};
-ghost use Rattle.md_unit_laws.specs.Mechanisms.{AdmitsUnitPoints, HoldsUnitAdmissible, MakesUnitOptimal};
+ghost use Rattle.md_units.specs.Mechanisms.{AdmitsUnitPoints, HoldsUnitAdmissible, MakesUnitOptimal};
 ghost use Rattle.md_units.specs.Numbers.{IsUnitNumber};
 
-use crate::right_side;
 use md_lp::{Lp, Sets};
-use md_num::{NoMemory, Nums};
-use md_reduced::program_with;
+use md_num::NoMemory;
+use md_reduced::program_for;
 use md_setting::Auction;
 use std::alloc::Global;
 
@@ -41,22 +38,6 @@ pub fn program(alloc: Global, auction: &Auction, units: u32, cuts: &Sets) -> Res
     ensures zero { IfOk result (λ lp. Meets lp (pos 1) (λ _. pos 0)) }
     ensures bounded { IfOk result (λ lp. HasSingles (value_count auction.now) cuts.now → IsBounded lp) }
 {
-    let sides = right_sides(alloc, auction, units, cuts)?;
-    let lp = program_with(alloc, auction, cuts, &sides)?;
+    let lp = program_for(alloc, auction, units, cuts)?;
     Ok(lp)
-}
-
-// The right sides of cuts.
-fn right_sides(alloc: Global, auction: &Auction, units: u32, cuts: &Sets) -> Result<Nums, NoMemory>
-    requires units { IsUnitNumber units }
-    requires cuts { AreCuts (value_count auction.now) cuts.now }
-    ensures one_each { IfOk result (λ sides. length sides ≡ length cuts.now) }
-    ensures sizes { IfOk result (AllWithin (2 ^ 44)) }
-    ensures sides { IfOk result (AreSides auction.now units cuts.now) }
-{
-    let mut sides = Nums::new(alloc);
-    for place in 0..cuts.len() {
-        sides.push(right_side(auction, units, cuts.get(place)))?;
-    }
-    Ok(sides)
 }

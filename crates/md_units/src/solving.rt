@@ -9,12 +9,12 @@ ghost use Rattle.md_border.specs.Odds.{IsInterim};
 ghost use Rattle.md_cut_runs.specs.declared.cuts_error.CutsError.TheVariants.{Memory};
 ghost use Rattle.md_cut_runs.specs.declared.optimum.Optimum.{Optimum};
 ghost use Rattle.md_cut_runs.specs.CutRuns.{EndsSettled, EndsWide, HasSmallEntries, IsLeftAt, TellsWide, WhereWide};
-ghost use Rattle.md_unit_laws.specs.Odds.{HasUnitOdds, HasUnitPays};
-ghost use Rattle.md_unit_laws.specs.Setting.{units_of};
+ghost use Rattle.md_winners.specs.Odds.{HasUnitOdds, HasUnitPays};
+ghost use Rattle.md_winners.specs.Setting.{units_of};
 ghost use Rattle.md_unit_tables.specs.Tables.{ImplementsUnits, IsUnitTable, table_of};
 ghost use Rattle.md_units.specs.Numbers.{IsUnitNumber};
 ghost use Rattle.md_units.specs.Solved.{IsSolvedUnits, TellsUnits, mechanism_in};
-ghost use Rattle.md_units.specs.UnitCuts.{unit_cutting};
+ghost use Rattle.md_cuts.specs.AuctionCuts.{unit_cutting};
 
 use crate::unit_cuts::UnitSale;
 use crate::worth::unit_worth;

@@ -4,7 +4,8 @@ ghost use Rattle.md_math.specs.Lists.{number_at};
 ghost use Rattle.md_cut_runs.specs.Cutting.{IsCutPoint, IsCutting};
 ghost use Rattle.md_cut_runs.specs.Worst.{IsWorst, NoneOver, WhereTable, WhereViolated};
 ghost use Rattle.md_units.specs.Numbers.{IsUnitNumber};
-ghost use Rattle.md_units.specs.UnitCuts.{IsUnitRealised, unit_cutting};
+ghost use Rattle.md_cuts.specs.AuctionCuts.{unit_cutting};
+ghost use Rattle.md_units.specs.UnitCuts.{IsUnitRealised};
 
 use crate::program;
 use md_border::Interim;

@@ -3,7 +3,7 @@ ghost use Rattle.std.specs.Prelude.{◌≡◌, ◌-◌, pos, ◌*ℤ◌};
 ghost use Rattle.md_math.specs.Divisors.{IsLeastTerms};
 ghost use Rattle.md_math.specs.Sizes.{IsWithin};
 ghost use Rattle.md_border.specs.Odds.{IsInterim};
-ghost use Rattle.md_unit_laws.specs.Worth.{HasUnitWorth};
+ghost use Rattle.md_units.specs.Worth.{HasUnitWorth};
 ghost use Rattle.md_units.specs.Numbers.{IsUnitNumber};
 
 use md_border::{Interim, auction_worth};

@@ -1,3 +1,5 @@
 pub mod SetLaws
 pub mod Stretches
 pub mod DrawLaws
+pub mod SettingLaws
+pub mod UnitSales

@@ -1,2 +1,4 @@
 pub mod Sets
 pub mod Draws
+pub mod Setting
+pub mod Odds

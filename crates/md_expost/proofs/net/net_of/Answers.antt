@@ -52,8 +52,7 @@ pub returns : goal.returns
 returns c =
     rw c.new.ensures.net
     (record {
-      caps = caps_are c.before;
-      wants = c.in_ok-demands.ensures.value;
+      numbers = record { caps = caps_are c.before; wants = c.in_ok-demands.ensures.value };
       nonneg = (caps c.before).nonneg;
       rooms = λ u v b l.
           room-touched c.in_ok-caps.caps c.in_ok-demands.demands c.in_ok-touches.touches u v

@@ -9,8 +9,10 @@ use Rattle.md_unit_tables.proofs.unit_net.net_of.Goals as goal
 
 net : (c : goal.In_ok-rooms) → IsUnitNetOf c.args.auction.now c.args.units c.args.interim.now (record { caps = c.in_ok-caps.caps; wants = c.in_ok-demands.demands; rooms = Listed c.in_ok-rooms.rooms })
 net c = record {
-  caps = rw (read_within number_limit c.args.interim.now.den (den-within c.args.auction.now c.args.interim.now c.requires.fits) (lit< tt)) at c.in_ok-caps.ensures;
-  wants = c.in_ok-demands.ensures.value;
+  numbers = record {
+    caps = rw (read_within number_limit c.args.interim.now.den (den-within c.args.auction.now c.args.interim.now c.requires.fits) (lit< tt)) at c.in_ok-caps.ensures;
+    wants = c.in_ok-demands.ensures.value;
+  };
   rooms = ap Listed (rw (read_within number_limit c.args.interim.now.den (den-within c.args.auction.now c.args.interim.now c.requires.fits) (lit< tt)) at c.in_ok-rooms.ensures);
 }
 

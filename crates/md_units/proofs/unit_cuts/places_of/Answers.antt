@@ -1,4 +1,4 @@
-use Rattle.md_units.proofs.UnitPrograms.{IsCutting-units}
+use Rattle.md_cuts.proofs.AuctionPrograms.{IsCutting-units}
 use Rattle.md_units.proofs.unit_cuts.places_of.Goals as goal
 
 pub returns-clause-cutting : goal.returns-clause-cutting

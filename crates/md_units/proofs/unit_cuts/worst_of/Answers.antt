@@ -1,6 +1,6 @@
 use mir.Syntax.{w128}
 use Rattle.std.proofs.lemmas.Int.{to_z-of_z}
-use Rattle.md_units.proofs.UnitPrograms.{meets-reduced, point-length}
+use Rattle.md_cuts.proofs.AuctionPrograms.{meets-reduced, point-length}
 use Rattle.md_units.proofs.unit_cuts.worst_of.Goals as goal
 
 pub interim_of-requires-clause-one_each : goal.interim_of-requires-clause-one_each

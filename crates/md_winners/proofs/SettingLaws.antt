@@ -1,26 +1,26 @@
 -- The general setting of an auction of several units: its sizes, weights, utilities and values. Nothing above opens the setting.
-use Rattle.std.proofs.Common.{◌≡◌, ℕ, zero, suc, ◌+◌, ◌-◌, ◌<◌, ℤ, pos, ◌+ℤ◌, ◌*ℤ◌, true, false, if◌then◌else◌, List, [], ◌∷◌, map, length, get_or, sym, ap, ap₂, ◌∙◌, refl, arith}
+use Rattle.std.proofs.Common.{◌≡◌, ℕ, zero, suc, ◌+◌, ◌-◌, ◌<◌, ◌≤◌, ℤ, pos, ◌+ℤ◌, ◌-ℤ◌, ◌*ℤ◌, Bool, true, false, if◌then◌else◌, List, [], ◌∷◌, map, length, get_or, sym, ap, ap₂, ◌∙◌, refl, arith}
 use Rattle.std.specs.Prelude.{slice_index, replicate}
+use Rattle.std.proofs.lemmas.Int.{ints}
+use lib.IntN.{*ℤ_comm}
 use Rattle.std.proofs.lemmas.List.{length-map, get_or-map}
 use Rattle.md_math.specs.Lists.{number_at}
-use Rattle.md_math.specs.Sums.{sum_to, total_by}
-use Rattle.md_math.proofs.SumLaws.{sum_to-same}
-use Rattle.md_space.specs.AllProfiles.{profiles_of}
-use Rattle.md_space.specs.ByType.{where_type}
+use Rattle.md_math.specs.Sums.{sum_to}
+use Rattle.md_math.proofs.Ring.{linear, ring, *ℤ-zero}
+use Rattle.md_math.proofs.SumLaws.{sum_to-same, sum_to-sub, sum_to-*ℤ}
 use Rattle.md_space.specs.Profiles.{rank_of}
-use Rattle.md_space.proofs.TypeSums.{total-same, total_given-same}
 use Rattle.md_setting.specs.declared.kinds.Truth.TheVariants.{Bayes}
 use Rattle.md_setting.specs.declared.kinds.Rational.TheVariants.{Interim}
 use Rattle.md_setting.specs.Setting.{Agent}
-use Rattle.md_setting.specs.Meaning.{nobody, agent_at, agent_count, outcome_count, sizes_of, type_weights, weight_of, total_of, marginal_of, utilities_by, utility_of, outside_of, value_of}
+use Rattle.md_setting.specs.Meaning.{nobody, agent_at, agent_count, outcome_count, sizes_of, type_weights, weight_of, utilities_by, utility_of, outside_of, value_of}
 use Rattle.md_setting.specs.Auction.{SymmetricAuction, value_count}
 use Rattle.md_setting.specs.General.{bidders_from, general_of}
 use Rattle.md_setting.proofs.GeneralLaws.{HasValues, sizes_of-general, agent_at-general, outside_of-general}
 use Rattle.md_setting.proofs.IndependentLaws.{types_of}
-use Rattle.md_mech.specs.Utility.{weighted_given}
-use Rattle.md_border.proofs.ByValues.{kinds-general}
+use Rattle.md_border.specs.Worth.{surplus_of}
 use Rattle.md_winners.specs.Sets.{holds, size, sets_of, set_count, set_at}
-use Rattle.md_unit_laws.specs.Setting.{winner_utilities, winner_of, winners_from, set_name, kept_value, units_of}
+use Rattle.md_winners.proofs.SetLaws.{length-set_at, size-set_at, size-sum_to}
+use Rattle.md_winners.specs.Setting.{winner_utilities, winner_of, winners_from, set_name, kept_value, units_of}
 
 -- ---- what the setting asks for
 
@@ -79,10 +79,6 @@ sizes-replicate a units = types_of-winners_from a units 0 a.bidders
 pub sizes_of-units : (a : SymmetricAuction) (units : ℕ) → sizes_of (units_of a units) ≡ sizes_of (general_of a)
 sizes_of-units a units = sizes-replicate a units ∙ sym (sizes_of-general a)
 
--- the number of values of a bidder
-pub kinds-units : (a : SymmetricAuction) (units i : ℕ) → i < a.bidders → get_or (sizes_of (units_of a units)) i 0 ≡ value_count a
-kinds-units a units i b = ap (λ sizes. get_or sizes i 0) (sizes_of-units a units) ∙ kinds-general a i b
-
 agent_at-units : (a : SymmetricAuction) (units i : ℕ) → i < a.bidders → agent_at (units_of a units) i ≡ winner_of a units i
 unfolding units_of
 agent_at-units a units i h = get_or-winners_from a units 0 a.bidders i h ∙ ap (winner_of a units) (let e : 0 + i ≡ i = omega arith in e)
@@ -98,23 +94,6 @@ type_weights-winners a units i (suc n) (v ∷ t) = ap (λ z. number_at (map pos 
 pub weight_of-units : (a : SymmetricAuction) (units : ℕ) (t : List ℕ) → weight_of (units_of a units) t ≡ weight_of (general_of a) t
 unfolding units_of general_of
 weight_of-units a units t = type_weights-winners a units 0 a.bidders t
-
-pub total_of-units : (a : SymmetricAuction) (units : ℕ) → total_of (units_of a units) ≡ total_of (general_of a)
-total_of-units a units =
-    ap (λ sizes. total_by (weight_of (units_of a units)) (profiles_of sizes)) (sizes_of-units a units)
-    ∙ total-same (sizes_of (general_of a)) (weight_of (units_of a units)) (weight_of (general_of a)) (λ t p. weight_of-units a units t)
-
-pub marginal_of-units : (a : SymmetricAuction) (units i v : ℕ) → marginal_of (units_of a units) i v ≡ marginal_of (general_of a) i v
-marginal_of-units a units i v =
-    ap (λ sizes. total_by (where_type i v (weight_of (units_of a units))) (profiles_of sizes)) (sizes_of-units a units)
-    ∙ total_given-same (sizes_of (general_of a)) i v (weight_of (units_of a units)) (weight_of (general_of a)) (λ t p e. weight_of-units a units t)
-
--- what f is over the profiles in which a bidder has a value, it is in the sale of one item
-pub given-units : (a : SymmetricAuction) (units i v : ℕ) (f : List ℕ → ℤ) → weighted_given (units_of a units) i v f ≡ weighted_given (general_of a) i v f
-given-units a units i v f =
-    ap (λ sizes. total_by (where_type i v (λ t. weight_of (units_of a units) t *ℤ f t)) (profiles_of sizes)) (sizes_of-units a units)
-    ∙ total_given-same (sizes_of (general_of a)) i v (λ t. weight_of (units_of a units) t *ℤ f t) (λ t. weight_of (general_of a) t *ℤ f t)
-    (λ t p e. ap (λ z. z *ℤ f t) (weight_of-units a units t))
 
 -- ---- utilities
 
@@ -147,3 +126,33 @@ value_of-units a units t o h l =
     let s = units_of a units in
     ap₂ (λ w n. number_at s.values o +ℤ w *ℤ sum_to n (λ i. utility_of s i t o)) (units-welfare a units) (agent_count-units a units)
     ∙ ap₂ (λ x y. x +ℤ a.welfare *ℤ y) (values-units a units o l) (sum_to-same a.bidders _ _ (λ i b. utility_of-units a units i t o b (h.value i b) l))
+
+-- all units kept, and what each winner adds to that
+pub value-by_surplus : (a : SymmetricAuction) (units : ℕ) (t : List ℕ) (o : ℕ) → HasValues a t → o < set_count a.bidders units
+    → value_of (units_of a units) t o ≡ a.keep *ℤ pos units +ℤ sum_to a.bidders (λ i. if holds (set_at a.bidders units o) i then surplus_of a (slice_index t i) else pos 0)
+value-by_surplus a units t o values l =
+    let n = a.bidders in
+    let set = set_at n units o in
+    let have = sum_to n (λ i. if holds set i then number_at a.values (slice_index t i) else pos 0) in
+    let given = sum_to n (λ i. if holds set i then pos 1 else pos 0) in
+    let left : pos (units - size set) ≡ pos units -ℤ given =
+    less units (size set) (size-set_at n units o l) ∙ ap (λ z. pos units -ℤ z) (size-sum_to n set (length-set_at n units o l)) in
+    let more : sum_to n (λ i. if holds set i then surplus_of a (slice_index t i) else pos 0) ≡ a.welfare *ℤ have -ℤ a.keep *ℤ given =
+    sum_to-same n _ (λ i. a.welfare *ℤ (if holds set i then number_at a.values (slice_index t i) else pos 0) -ℤ a.keep *ℤ (if holds set i then pos 1 else pos 0))
+    (λ i b. one (holds set i) a.welfare (number_at a.values (slice_index t i)) a.keep)
+    ∙ sum_to-sub n (λ i. a.welfare *ℤ (if holds set i then number_at a.values (slice_index t i) else pos 0)) (λ i. a.keep *ℤ (if holds set i then pos 1 else pos 0))
+    ∙ ap₂ (λ x y. x -ℤ y) (sum_to-*ℤ n a.welfare (λ i. if holds set i then number_at a.values (slice_index t i) else pos 0)) (sum_to-*ℤ n a.keep (λ i. if holds set i then pos 1 else pos 0)) in
+    value_of-units a units t o values l
+    ∙ ap (λ z. a.keep *ℤ z +ℤ a.welfare *ℤ have) left
+    ∙ parts a.keep (pos units) given (a.welfare *ℤ have)
+    ∙ ap (λ z. a.keep *ℤ pos units +ℤ z) (sym more)
+  where
+    less : (m k : ℕ) → k ≤ m → pos (m - k) ≡ pos m -ℤ pos k
+    less m k h = omega (arith, ints, h)
+
+    one : (h : Bool) (w v k : ℤ) → (if h then w *ℤ v -ℤ k else pos 0) ≡ w *ℤ (if h then v else pos 0) -ℤ k *ℤ (if h then pos 1 else pos 0)
+    one true w v k = (let e : k *ℤ pos 1 ≡ k = *ℤ_comm k (pos 1) ∙ simp ring in omega (arith, linear, e))
+    one false w v k = omega (arith, linear, *ℤ-zero w, *ℤ-zero k)
+
+    parts : (k u g w : ℤ) → k *ℤ (u -ℤ g) +ℤ w ≡ k *ℤ u +ℤ (w -ℤ k *ℤ g)
+    parts k u g w = simp ring (omega (arith, linear))

@@ -1,8 +1,8 @@
 use Rattle.std.proofs.Common.{ℕ, ◌+◌, ◌-◌, ◌*◌, ◌^◌, ◌≤◌, sym, ap, ◌∙◌, arith, mul-le-mul}
 use Rattle.md_border.specs.Sides.{right_by_counts}
-use Rattle.md_units.proofs.SideLaws.{base-small, fewer-small, right-next, right-no_bidders, right-no_units, taken-few, taken-first}
-use Rattle.md_units.proofs.sides.+served.Goals.{then-bidders-eq0-via-then-bidders-eq0, then-bidders-eq0-via-else-bidders-eq0+then-units-eq0}
-use Rattle.md_units.proofs.sides.+served.Goals as goal
+use Rattle.md_border.proofs.Served.{base-small, fewer-small, right-next, right-no_bidders, right-no_units, taken-few, taken-first}
+use Rattle.md_border.proofs.sides.+served.Goals.{then-bidders-eq0-via-then-bidders-eq0, then-bidders-eq0-via-else-bidders-eq0+then-units-eq0}
+use Rattle.md_border.proofs.sides.+served.Goals as goal
 
 pub returns-then-bidders-eq0-clause-value : goal.returns-then-bidders-eq0-clause-value
 returns-then-bidders-eq0-clause-value t c = λ a set one_each inside total.

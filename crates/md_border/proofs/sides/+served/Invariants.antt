@@ -1,4 +1,4 @@
-use Rattle.md_units.proofs.sides.+served.Given as goal
+use Rattle.md_border.proofs.sides.+served.Given as goal
 
 abbrev pub decreases-served : goal.decreases-served
 decreases-served l = l.bidders

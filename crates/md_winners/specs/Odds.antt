@@ -1,6 +1,6 @@
 -- Which mechanisms of a sale of several units have some interim odds and payments, and by how much sets of values ask for units
 -- more often than there are some (Border 1991).
-use Rattle.std.specs.Prelude.{◌≡◌, ℕ, ◌<◌, ℤ, pos, ◌-ℤ◌, ◌*ℤ◌, List, if◌then◌else◌}
+use Rattle.std.specs.Prelude.{◌≡◌, ℕ, ◌<◌, ℤ, pos, ◌*ℤ◌, List, if◌then◌else◌}
 use Rattle.md_math.specs.Lists.{number_at}
 use Rattle.md_math.specs.Sums.{sum_to}
 use Rattle.md_lp.specs.Worst.{IsWorstBy, NoneOverBy}
@@ -10,10 +10,9 @@ use Rattle.md_mech.specs.declared.mechanism.Mechanism.{Mechanism}
 use Rattle.md_mech.specs.Mechanism.{chance_of, pay_of}
 use Rattle.md_mech.specs.Utility.{weighted_given}
 use Rattle.md_border.specs.declared.interim.Interim.{Interim}
-use Rattle.md_border.specs.Odds.{demands_in, weight_given}
-use Rattle.md_border.specs.Sides.{right_by_counts}
+use Rattle.md_border.specs.Odds.{unit_excess_of, weight_given}
 use Rattle.md_winners.specs.Sets.{holds, set_at}
-use Rattle.md_unit_laws.specs.Setting.{units_of}
+use Rattle.md_winners.specs.Setting.{units_of}
 
 -- how often bidder i, counted from 0, wins a unit at the report t: the chances of all sets that hold it
 abbrev pub win_in : SymmetricAuction → ℕ → Mechanism → ℕ → List ℕ → ℤ
@@ -36,10 +35,6 @@ pub record HasUnitOdds (a : SymmetricAuction) (units : ℕ) (m : Mechanism) (den
 pub record HasUnitPays (a : SymmetricAuction) (units : ℕ) (m : Mechanism) (den : ℤ) (pays : List ℤ) : Type 0 where
   pub paid : (i v : ℕ) → i < a.bidders → v < value_count a
       → den *ℤ weighted_given (units_of a units) i v (paid_in a units m i) ≡ m.den *ℤ (pos (weight_given a v) *ℤ number_at pays v)
-
--- by how much the demands of a set are above its right side
-abbrev pub unit_excess_of : SymmetricAuction → ℕ → Interim → ℕ → ℤ
-unit_excess_of a units interim set = demands_in a interim set -ℤ interim.den *ℤ right_by_counts a units set
 
 -- the largest of the sets with the greatest excess, which is positive
 abbrev pub IsWorstUnitSet : SymmetricAuction → ℕ → Interim → ℕ → Type 0

@@ -12,8 +12,8 @@ use Rattle.md_cert.specs.Claims.{IsOptimalPoint}
 use Rattle.md_reduced.specs.Averages.{averages, times_of}
 use Rattle.md_reduced.specs.Mechanisms.{scale_of}
 use Rattle.md_reduced.specs.Points.{interim_in}
-use Rattle.md_unit_laws.specs.Setting.{units_of}
-use Rattle.md_unit_laws.specs.Odds.{HasUnitOdds, HasUnitPays, paid_in, win_in}
+use Rattle.md_winners.specs.Setting.{units_of}
+use Rattle.md_winners.specs.Odds.{HasUnitOdds, HasUnitPays, paid_in, win_in}
 
 -- a mechanism with the odds and the payments of a point that meets the program is admissible
 abbrev pub AdmitsUnitPoints : SymmetricAuction → ℕ → Program → Type 0

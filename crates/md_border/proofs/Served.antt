@@ -1,5 +1,5 @@
--- The right side of a set for several units, by one bidder more.
-use Rattle.std.proofs.Common.{◌≡◌, ℕ, zero, suc, ◌+◌, ◌-◌, ◌*◌, ◌^◌, ◌≤◌, ℤ, pos, ◌+ℤ◌, ◌*ℤ◌, ◌≤ℤ◌, true, false, if◌then◌else◌, List, ◌∷◌, length, refl, sym, ap, ap₂, ◌∙◌, subst, arith, inl, inr, min, mul-le-mul, le_refl}
+-- The right side of a set for some units, by one bidder more.
+use Rattle.std.proofs.Common.{◌≡◌, ℕ, zero, suc, ◌+◌, ◌-◌, ◌*◌, ◌^◌, ◌≤◌, ℤ, pos, ◌+ℤ◌, ◌*ℤ◌, true, false, if◌then◌else◌, List, ◌∷◌, length, refl, sym, ap, ap₂, ◌∙◌, subst, arith, inl, inr, min, mul-le-mul, le_refl}
 use Rattle.std.specs.Prelude.{slice_index}
 use Rattle.std.proofs.lemmas.Bool.{cases_Bool}
 use Rattle.std.proofs.lemmas.Int.{ints}
@@ -7,12 +7,9 @@ use Rattle.std.proofs.Math.IntN.{pos-*ℤ-pos}
 use Rattle.std.proofs.Math.Nat.{pow-zero, pow-suc, pow-le-pow_right}
 use Rattle.std.proofs.Math.ListN.{replicate}
 use lib.IntN.{*ℤ_comm}
-use Rattle.md_math.specs.Lists.{list_to, number_at}
 use Rattle.md_math.specs.Products.{product_by}
-use Rattle.md_math.specs.Sizes.{IsWithin}
 use Rattle.md_math.specs.Sums.{sum_to, total_by}
 use Rattle.md_math.proofs.Ring.{linear, ring, *ℤ-zero, *ℤ_assoc}
-use Rattle.md_math.proofs.Builders.{get_or-list_to}
 use Rattle.md_math.proofs.ProductLaws.{sum-places}
 use Rattle.md_math.proofs.SumLaws.{sum_to-same, sum_to-+ℤ, sum_to-*ℤ}
 use Rattle.md_math.proofs.TotalLaws.{total_by-zero, total_by-+ℤ, total_by-*ℤ}
@@ -23,7 +20,6 @@ use Rattle.md_counts.proofs.Regrouping.{weight_of_values, by_counts}
 use Rattle.md_counts.proofs.WeightLaws.{all-lists}
 use Rattle.md_border.specs.Sets.{sum_in}
 use Rattle.md_border.specs.Sides.{right_by_counts}
-use Rattle.md_reduced.specs.Sides.{AreSides}
 use Rattle.md_border.proofs.SetLaws.{bidders_in, outside, pos-sum_in, sum-outside, sum_in-counts}
 use Rattle.md_math.specs.Sets.{member}
 
@@ -205,14 +201,3 @@ taken-few i o b u p r s lb lu power first second =
   where
     together : (i o u q : ℕ) → i * (u * q) + o * (u * q) ≡ u * (q * (i + o))
     together i o u q = omega arith
-
--- ---- the right sides of a program
-
-pub sides-of_list : (a : SymmetricAuction) (units n : ℕ) (cuts : List ℕ) (sides : List ℤ) → n ≡ length cuts → sides ≡ list_to n (λ k. right_by_counts a units (slice_index cuts k)) → AreSides a units cuts sides
-sides-of_list a units n cuts sides whole is = record {
-  at = λ k b. ap (λ xs. number_at xs k) is ∙ get_or-list_to n (λ k. right_by_counts a units (slice_index cuts k)) k (pos 0) (omega (arith, b, whole));
-}
-
--- each is small enough
-pub side-within : (z : ℤ) → pos 0 ≤ℤ z → z ≤ℤ pos (12 * 10 ^ 12) → IsWithin (2 ^ 44) z
-side-within z l m = record { within = omega (arith, ints, l, m) }

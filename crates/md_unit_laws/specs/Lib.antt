@@ -1,4 +1,0 @@
-pub mod Setting
-pub mod Odds
-pub mod Mechanisms
-pub mod Worth
