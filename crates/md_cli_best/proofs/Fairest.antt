@@ -12,41 +12,41 @@ use Rattle.md_simplex.specs.declared.simplex_error.SimplexError.TheVariants as e
 use Rattle.md_simplex.specs.declared.step.Step.{Step}
 use Rattle.md_simplex.specs.declared.step.Step.TheVariants as steps
 use Rattle.md_simplex.specs.Runs.{IsLeft, IsTaken, MeetsWideBasis}
-use Rattle.md_fair.specs.declared.fair_answer.FairAnswer.{FairAnswer}
-use Rattle.md_fair.specs.declared.fair_answer.FairAnswer.TheVariants.{Optimal, Infeasible, Unbounded}
-use Rattle.md_fair.specs.Answered.{ClaimsEnd, ClaimsInfeasible, WhereInfeasible, WhereOptimal, WhereUnbounded}
-use Rattle.md_fair.specs.Certifies.{IsCertifiedAnswer}
+use Rattle.md_question.specs.Findings.{ClaimsInfeasible, WhereInfeasible, WhereOptimal, WhereUnbounded}
+use Rattle.md_question.specs.Shown.{IsShown, IsSo}
+use Rattle.md_question.specs.declared.finding.Finding.{Finding}
+use Rattle.md_question.specs.declared.finding.Finding.TheVariants.{Optimal, Infeasible, Unbounded}
+use Rattle.md_question_solve.specs.Found.{ClaimsEnd, IsFound, IsWideFor}
 use Rattle.md_fair.specs.FairProgram.{IsFairProgram}
 use Rattle.md_fair.specs.Fairest.{GrowsFair, IsOptimalFair}
+use Rattle.md_fair.specs.FairQuestion.{fair_question}
 use Rattle.md_fair.specs.Least.{IsLeastValueOf}
-use Rattle.md_fair.specs.Shown.{IsSo}
-use Rattle.md_fair.specs.Solved.{IsFairlySolved, IsFairlyWide}
 use Rattle.md_cli_best.specs.Fair.{IsFairSaying, status_of_fair, text_of_fair, text_of_wide}
 use Rattle.md_cli_best.specs.Headline.{IsEndStatus}
 use Rattle.md_cli_driver.specs.Saying.{Saying}
 
 -- what is known of an answer: what it claims is so, and it tells what the paths come to
-pub record IsShownFair (s : GeneralSetting) (width : ℕ) (answer : FairAnswer) : Type 0 where
-  pub solved : IsFairlySolved s width answer
-  pub only : (other : FairAnswer) → IsFairlySolved s width other → answer ≡ other
+pub record IsShownFair (s : GeneralSetting) (width : ℕ) (answer : Finding) : Type 0 where
+  pub solved : IsFound (fair_question s) width answer
+  pub only : (other : Finding) → IsFound (fair_question s) width other → answer ≡ other
   pub optimal : WhereOptimal (λ value mechanism bound. IsOptimalFair s mechanism) answer
   pub value : WhereOptimal (λ value mechanism bound. IsLeastValueOf s mechanism value) answer
   pub infeasible : WhereInfeasible (λ face. IsInfeasible s) answer
   pub unbounded : WhereUnbounded (GrowsFair s) answer
   pub admissible : WhereUnbounded (λ mechanism ray. IsAdmissible s mechanism) answer
-  pub certified : (p : Program) → IsFairProgram s p → IsCertifiedAnswer s p answer
+  pub certified : (p : Program) → IsFairProgram s p → IsShown (fair_question s) p answer
   pub wide : (p : Program) → IsFairProgram s p → MeetsWideBasis Forward p width → MeetsWideBasis Backward p width → ⊥
   pub taken : (p : Program) (order : Order) (pivots : List Pivot) (step : Step) → IsFairProgram s p → IsTaken order p width pivots step → ClaimsEnd step answer
   pub none : ClaimsInfeasible answer ↔ IsInfeasible s
 
 -- the claim is so
-so : (s : GeneralSetting) (width : ℕ) (answer : FairAnswer) → IsShownFair s width answer → IsSo s answer
+so : (s : GeneralSetting) (width : ℕ) (answer : Finding) → IsShownFair s width answer → IsSo (fair_question s) answer
 so s width (Optimal value m bound) h = (h.optimal, h.value)
 so s width (Infeasible face) h = h.infeasible
 so s width (Unbounded m ray) h = h.unbounded
 
 -- the status tells the end of the path
-end-status : (status : ℕ) (answer : FairAnswer) → status ≡ status_of_fair answer → (step : Step) → ClaimsEnd step answer → IsEndStatus step status
+end-status : (status : ℕ) (answer : Finding) → status ≡ status_of_fair answer → (step : Step) → ClaimsEnd step answer → IsEndStatus step status
 end-status status (Optimal value m bound) is steps.Optimal h = is
 end-status status (Optimal value m bound) is steps.Infeasible h = absurd h
 end-status status (Optimal value m bound) is (steps.Unbounded column) h = absurd h
@@ -61,14 +61,14 @@ end-status status (Unbounded m ray) is (steps.Unbounded column) h = is
 end-status status (Unbounded m ray) is (steps.Pivot pivot) h = absurd h
 
 -- it is 10 exactly where no mechanism is admissible
-none-status : (s : GeneralSetting) (status : ℕ) (answer : FairAnswer) → status ≡ status_of_fair answer → ClaimsInfeasible answer ↔ IsInfeasible s
+none-status : (s : GeneralSetting) (status : ℕ) (answer : Finding) → status ≡ status_of_fair answer → ClaimsInfeasible answer ↔ IsInfeasible s
     → (status ≡ 10) ↔ IsInfeasible s
 none-status s status (Optimal value m bound) is h = (λ other. absurd (omega (arith, is, other)), λ none. absurd (h.1 none))
 none-status s status (Infeasible face) is h = (λ _. h.0 tt, λ _. is)
 none-status s status (Unbounded m ray) is h = (λ other. absurd (omega (arith, is, other)), λ none. absurd (h.1 none))
 
 -- an answer
-pub of_answer : (s : GeneralSetting) (width : ℕ) (saying : Saying) (answer : FairAnswer) → IsShownFair s width answer
+pub of_answer : (s : GeneralSetting) (width : ℕ) (saying : Saying) (answer : Finding) → IsShownFair s width answer
     → saying.status ≡ status_of_fair answer → saying.text ≡ text_of_fair s answer → IsFairSaying s width saying
 of_answer s width saying answer h is text =
     record {
@@ -93,7 +93,7 @@ not_memory first second same = let e = same in cc
 
 -- both paths have a wide basis, so that none is taken
 pub of_wide : (s : GeneralSetting) (width : ℕ) (saying : Saying) (first second : Wide)
-    → IsFairlyWide s width first second
+    → IsWideFor (fair_question s) width first second
     → ((p : Program) → IsFairProgram s p → IsLeft p width (errors.TooWide first second))
     → ((p : Program) (order : Order) (pivots : List Pivot) (step : Step) → IsFairProgram s p → IsTaken order p width pivots step → errors.TooWide first second ≡ errors.Memory)
     → saying.status ≡ 12 → saying.text ≡ text_of_wide first second → IsFairSaying s width saying

@@ -15,14 +15,13 @@ use Rattle.md_simplex.specs.declared.step.Step.{Step}
 use Rattle.md_simplex.specs.Runs.{IsFirstWideOf, IsTaken, MeetsWideBasis}
 use Rattle.md_parts.specs.declared.version.Version.TheVariants.{One}
 use Rattle.md_parts.specs.Rows.{first_row, value_row, mechanism_rows, ray_rows, face_rows, bound_rows, wide_rows, again_row, end_row}
-use Rattle.md_fair.specs.declared.fair_answer.FairAnswer.{FairAnswer}
-use Rattle.md_fair.specs.declared.fair_answer.FairAnswer.TheVariants.{Optimal, Infeasible, Unbounded}
-use Rattle.md_fair.specs.AnswerTo.{fair_rows}
-use Rattle.md_fair.specs.Answered.{WhereUnbounded}
-use Rattle.md_fair.specs.Certifies.{IsCertifiedAnswer}
+use Rattle.md_question.specs.Findings.{WhereUnbounded}
+use Rattle.md_question.specs.Shown.{IsShown, IsSo}
+use Rattle.md_question.specs.declared.finding.Finding.{Finding}
+use Rattle.md_question.specs.declared.finding.Finding.TheVariants.{Optimal, Infeasible, Unbounded}
+use Rattle.md_question_solve.specs.Found.{IsFound, IsWideFor}
 use Rattle.md_fair.specs.FairProgram.{IsFairProgram}
-use Rattle.md_fair.specs.Shown.{IsSo}
-use Rattle.md_fair.specs.Solved.{IsFairlySolved, IsFairlyWide}
+use Rattle.md_fair.specs.FairQuestion.{fair_question, fair_rows}
 use Rattle.md_cli_best.specs.Headline.{IsEndStatus}
 use Rattle.md_cli_driver.specs.Saying.{Saying}
 
@@ -33,18 +32,18 @@ abbrev pub records_about : List ℕ → List (List (List ℕ)) → List (List (L
 records_about word inner = first_row One (codes "fair") word ∷ (inner ++ end_row ∷ [])
 
 -- the word of each kind of answer
-abbrev pub word_of : FairAnswer → List ℕ
+abbrev pub word_of : Finding → List ℕ
 word_of (Optimal value mechanism bound) = codes "optimal"
 word_of (Infeasible face) = codes "infeasible"
 word_of (Unbounded mechanism ray) = codes "unbounded"
 
 -- what stands between the first record and the last: multipliers are by the number of a row of the fair program
-abbrev pub inner_rows : GeneralSetting → FairAnswer → List (List (List ℕ))
+abbrev pub inner_rows : GeneralSetting → Finding → List (List (List ℕ))
 inner_rows s (Optimal value mechanism bound) = value_row value ∷ (mechanism_rows s mechanism ++ bound_rows (fair_rows s) bound)
 inner_rows s (Infeasible face) = face_rows (fair_rows s) face
 inner_rows s (Unbounded mechanism ray) = mechanism_rows s mechanism ++ ray_rows s ray
 
-abbrev pub text_of_fair : GeneralSetting → FairAnswer → List ℕ
+abbrev pub text_of_fair : GeneralSetting → Finding → List ℕ
 text_of_fair s answer = text_of_records (records_about (word_of answer) (inner_rows s answer))
 
 -- where both paths have a wide basis: the part about the forward path, and then that about the backward one
@@ -54,7 +53,7 @@ text_of_wide first second = text_of_records (records_about (codes "toowide") (wi
 -- ---- an answer
 
 -- the status of each kind of answer
-abbrev pub status_of_fair : FairAnswer → ℕ
+abbrev pub status_of_fair : Finding → ℕ
 status_of_fair (Optimal value mechanism bound) = 0
 status_of_fair (Infeasible face) = 10
 status_of_fair (Unbounded mechanism ray) = 11
@@ -63,12 +62,12 @@ status_of_fair (Unbounded mechanism ray) = 11
 -- denominator: that its mechanism is the fairest and has this value, that none is admissible, or that the least which an
 -- agent gets on average has no bound. Its multipliers show it, in whatever terms the fair program is written.
 pub record IsFairestSaying (s : GeneralSetting) (width : ℕ) (saying : Saying) : Type 0 where
-  pub answer : FairAnswer
-  pub solved : IsFairlySolved s width answer
-  pub only : (other : FairAnswer) → IsFairlySolved s width other → answer ≡ other
-  pub shows : IsSo s answer
+  pub answer : Finding
+  pub solved : IsFound (fair_question s) width answer
+  pub only : (other : Finding) → IsFound (fair_question s) width other → answer ≡ other
+  pub shows : IsSo (fair_question s) answer
   pub admissible : WhereUnbounded (λ mechanism ray. IsAdmissible s mechanism) answer
-  pub certified : (p : Program) → IsFairProgram s p → IsCertifiedAnswer s p answer
+  pub certified : (p : Program) → IsFairProgram s p → IsShown (fair_question s) p answer
   pub status : saying.status ≡ status_of_fair answer
   pub text : saying.text ≡ text_of_fair s answer
 
@@ -79,7 +78,7 @@ pub record IsFairestSaying (s : GeneralSetting) (width : ℕ) (saying : Saying) 
 pub record IsFairTooWide (s : GeneralSetting) (width : ℕ) (saying : Saying) : Type 0 where
   pub first : Wide
   pub second : Wide
-  pub wide : IsFairlyWide s width first second
+  pub wide : IsWideFor (fair_question s) width first second
   pub forward : (p : Program) → IsFairProgram s p → IsFirstWideOf Forward p width first
   pub backward : (p : Program) → IsFairProgram s p → IsFirstWideOf Backward p width second
   pub status : saying.status ≡ 12

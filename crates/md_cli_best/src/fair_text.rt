@@ -1,7 +1,8 @@
 //! The records that tell the fairest mechanism of a setting, or why there is none.
 ghost use Rattle.std.specs.Prelude.{◌≡◌, ◌++◌, IfOk, OnOk};
 ghost use Rattle.md_records.specs.Written.{text_of_records};
-ghost use Rattle.md_fair.specs.AnswerTo.{IsFairAnswerTo, fair_rows};
+ghost use Rattle.md_question.specs.Shown.{IsFindingTo};
+ghost use Rattle.md_fair.specs.FairQuestion.{fair_question, fair_rows};
 ghost use Rattle.md_cli_best.specs.Fair.{inner_rows, records_about, text_of_fair, text_of_wide, word_of};
 
 use md_fair::FairAnswer;
@@ -21,7 +22,7 @@ pub(crate) fn answer_text(
     setting: &Setting,
     answer: &FairAnswer,
 ) -> Result<Vec<u8>, NoMemory>
-    requires { IsFairAnswerTo setting.now answer.now }
+    requires { IsFindingTo (fair_question setting.now) answer.now }
     ensures { IfOk result (λ text. text.items ≡ text_of_fair setting.now answer.now) }
 {
     let mut rows = Vec::new(alloc);
@@ -69,7 +70,7 @@ fn push_inner(
     setting: &Setting,
     answer: &FairAnswer,
 ) -> Result<(), NoMemory>
-    requires { IsFairAnswerTo setting.now answer.now }
+    requires { IsFindingTo (fair_question setting.now) answer.now }
     ensures { OnOk result (rows.new.items ≡ rows.old.items ++ inner_rows setting.now answer.now) }
 {
     match answer {

@@ -1,4 +1,3 @@
-pub mod RunCertified
 pub mod ReadingLaws
 pub mod SoundLaws
 pub mod OneSearch

@@ -11,7 +11,7 @@ use Rattle.md_mech.specs.Value.{IsValueOf}
 use Rattle.md_lp.specs.declared.pivot.Pivot.{Pivot}
 use Rattle.md_lp.specs.declared.wide.Wide.{Wide}
 use Rattle.md_cert.specs.declared.bound.Bound.{Bound}
-use Rattle.md_solve.proofs.OneFraction.{one_fraction}
+use Rattle.md_question.proofs.OneFraction.{one_fraction}
 use Rattle.md_determ_branching.specs.Fixed.{IsFirstFree, children_of}
 use Rattle.md_determ_node.specs.Deterministic.{IsDeterministic}
 use Rattle.md_tree.specs.Trees.{root_of}
@@ -21,8 +21,8 @@ use Rattle.md_tree.specs.declared.node.Node.{Node}
 use Rattle.md_tree.specs.declared.node.Node.TheVariants as nodes
 use Rattle.md_determ.specs.Readings.{IsReadAt}
 use Rattle.md_determ.specs.Search.{IsFinished, IsNoBetter, IsSearched, IsSearchFrom, IsStoppedAt, LeavesOpen}
-use Rattle.md_determ.specs.declared.reading.Reading.{Reading}
-use Rattle.md_determ.specs.declared.reading.Reading.TheVariants.{Optimal, Infeasible, Unbounded}
+use Rattle.md_question_solve.specs.declared.reading.Reading.{Reading}
+use Rattle.md_question_solve.specs.declared.reading.Reading.TheVariants.{Optimal, Infeasible, Unbounded}
 use Rattle.md_determ.proofs.ReadingLaws.{one-reading, one-wide, read-not_wide, read-positive}
 
 -- ---- kinds of readings

@@ -26,7 +26,7 @@ use Rattle.md_simplex.proofs.OneRun.{one_run}
 use Rattle.md_simplex.proofs.RunLaws.{one_first_wide, taken_not_left}
 use Rattle.md_simplex.proofs.SamePaths.{first_wide-same}
 use Rattle.md_simplex.proofs.SameRuns.{run-same}
-use Rattle.md_solve.proofs.Certificates.{unbounded-there}
+use Rattle.md_question.proofs.PointCertificates.{unbounded-there}
 use Rattle.md_determ_node.specs.Law.{IsNodeProgramWithLaws}
 use Rattle.md_determ_node.specs.NodeProgram.{HasFixed, IsNode, IsNodeProgram}
 use Rattle.md_determ_node.proofs.Laws.{root-certified, same_program}
@@ -34,10 +34,11 @@ use Rattle.md_determ_node.proofs.OwnProgram.{own}
 use Rattle.md_determ_node.proofs.PointLaws.{with_laws}
 use Rattle.md_tree.specs.Leaves.{IsCertified}
 use Rattle.md_tree.specs.Verdicts.{HasGrowth}
-use Rattle.md_determ.specs.Readings.{IsReadAt, IsWideAt, TellsCertificate}
-use Rattle.md_determ.specs.declared.reading.Reading.{Reading}
-use Rattle.md_determ.specs.declared.reading.Reading.TheVariants.{Optimal, Infeasible, Unbounded}
-use Rattle.md_determ.proofs.RunCertified.{run-certified}
+use Rattle.md_question_solve.specs.Readings.{TellsCertificate}
+use Rattle.md_determ.specs.Readings.{IsReadAt, IsWideAt}
+use Rattle.md_question_solve.specs.declared.reading.Reading.{Reading}
+use Rattle.md_question_solve.specs.declared.reading.Reading.TheVariants.{Optimal, Infeasible, Unbounded}
+use Rattle.md_question_solve.proofs.RunCertified.{run-certified}
 
 -- ---- what tells a certificate
 

@@ -25,7 +25,7 @@ use Rattle.md_tree.specs.declared.verdict.DetVerdict.TheVariants.{Valid}
 use Rattle.md_tree.proofs.ClaimLaws.{root-node}
 use Rattle.md_tree.proofs.WorthLaws.{at_most-chain}
 use Rattle.md_determ.specs.Search.{IsFinished, IsNoBetter, IsSearched, IsSearchFrom, IsStoppedAt}
-use Rattle.md_determ.specs.declared.reading.Reading.TheVariants.{Optimal, Infeasible, Unbounded}
+use Rattle.md_question_solve.specs.declared.reading.Reading.TheVariants.{Optimal, Infeasible, Unbounded}
 use Rattle.md_determ.proofs.ReadingLaws.{IsShownAt, read-shown}
 
 -- ---- nodes

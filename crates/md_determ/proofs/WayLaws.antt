@@ -22,13 +22,13 @@ use Rattle.md_tree.specs.declared.answer.DetAnswer.{DetAnswer}
 use Rattle.md_tree.specs.declared.answer.DetAnswer.TheVariants as answers
 use Rattle.md_tree.specs.declared.node.Node.{Node}
 use Rattle.md_tree.specs.declared.node.Node.TheVariants as nodes
-use Rattle.md_determ.specs.Fitting.{FitsReading}
+use Rattle.md_question_solve.specs.Readings.{FitsReading}
 use Rattle.md_determ.specs.Pairs.{ArePairsOf}
 use Rattle.md_determ.specs.Readings.{IsReadAt, IsWideAt}
 use Rattle.md_determ.specs.Search.{IsFinished, IsNoBetter, IsSearched, IsSearchFrom, IsStoppedAt, LeavesOpen}
 use Rattle.md_determ.specs.Way.{IsAcceptedBest, IsAtNode, IsClosed, IsSplit, IsTold, IsTurn, IsUnderWay}
-use Rattle.md_determ.specs.declared.reading.Reading.{Reading}
-use Rattle.md_determ.specs.declared.reading.Reading.TheVariants.{Optimal, Infeasible, Unbounded}
+use Rattle.md_question_solve.specs.declared.reading.Reading.{Reading}
+use Rattle.md_question_solve.specs.declared.reading.Reading.TheVariants.{Optimal, Infeasible, Unbounded}
 use Rattle.md_determ.specs.declared.search.Search.{Search}
 use Rattle.md_determ.proofs.FixedPairs.{pairs-fixed}
 use Rattle.md_determ.proofs.ReadingLaws.{IsShownAt, read-shown}

@@ -22,8 +22,8 @@ use Rattle.md_tree.specs.declared.node.Node.{Node}
 use Rattle.md_tree.specs.declared.node.Node.TheVariants as nodes
 use Rattle.md_tree.specs.declared.answer.DetAnswer.{DetAnswer}
 use Rattle.md_tree.specs.declared.answer.DetAnswer.TheVariants as answers
-use Rattle.md_determ.specs.declared.reading.Reading.{Reading}
-use Rattle.md_determ.specs.declared.reading.Reading.TheVariants.{Optimal, Infeasible, Unbounded}
+use Rattle.md_question_solve.specs.declared.reading.Reading.{Reading}
+use Rattle.md_question_solve.specs.declared.reading.Reading.TheVariants.{Optimal, Infeasible, Unbounded}
 use Rattle.md_determ.specs.Pairs.{ArePairsOf}
 use Rattle.md_determ.specs.Readings.{IsReadAt, IsWideAt}
 

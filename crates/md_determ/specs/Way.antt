@@ -13,10 +13,10 @@ use Rattle.md_tree.specs.Trees.{AreTrees, IsTree, root_of}
 use Rattle.md_tree.specs.declared.answer.DetAnswer.{DetAnswer}
 use Rattle.md_tree.specs.declared.node.Node.{Node}
 use Rattle.md_tree.specs.declared.node.Node.TheVariants.{Branch}
-use Rattle.md_determ.specs.Fitting.{FitsReading}
+use Rattle.md_question_solve.specs.Readings.{FitsReading}
 use Rattle.md_determ.specs.Readings.{IsReadAt}
 use Rattle.md_determ.specs.Search.{IsSearched, IsSearchFrom}
-use Rattle.md_determ.specs.declared.reading.Reading.{Reading}
+use Rattle.md_question_solve.specs.declared.reading.Reading.{Reading}
 use Rattle.md_determ.specs.declared.search.Search.{Search}
 
 -- the best mechanism so far has the setting's sizes, and its numbers are in their ranges

@@ -4,11 +4,9 @@
 
 mod pairs;
 mod read;
-mod reading;
 mod rules;
 mod search;
 mod solving;
 mod visiting;
 
-pub use reading::Reading;
 pub use solving::solve_determ;

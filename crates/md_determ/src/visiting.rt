@@ -1,16 +1,16 @@
 //! The visit of a node.
 ghost use Rattle.std.specs.Prelude.{◌≢◌, [], IfOk, MatchOption, OnOk};
 ghost use Rattle.md_determ.specs.Way.{IsAtNode, IsTold, IsTurn, IsUnderWay};
-ghost use Rattle.md_determ.specs.declared.reading.Reading.{Reading};
+ghost use Rattle.md_question_solve.specs.declared.reading.Reading.{Reading};
 
 use crate::pairs::pairs_of;
 use crate::read::read_node;
-use crate::reading::Reading;
 use crate::rules::{copy, is_deterministic, is_no_better};
 use crate::search::Search;
 use md_cert::Bound;
 use md_mech::Mechanism;
 use md_num::{NoMemory, Nums};
+use md_question_solve::Reading;
 use md_setting::Setting;
 use md_simplex::SimplexError;
 use md_tree::{DetAnswer, Node};

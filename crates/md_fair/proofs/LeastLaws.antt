@@ -1,15 +1,13 @@
 -- The least of what agents get.
 use Rattle.std.proofs.Common.{◌≡◌, ◌⊎◌, ◌^◌, ℕ, zero, suc, ◌+◌, ◌<◌, ℤ, pos, ◌*ℤ◌, ◌≤ℤ◌, ◌<ℤ◌, refl, sym, ap, ◌∙◌, subst, arith, inl, inr}
-use lib.IntN.{*ℤ_comm}
 use Rattle.std.proofs.lemmas.Bool.{cases_lt}
 use Rattle.md_math.specs.Sizes.{IsWithin}
-use Rattle.md_math.proofs.Fractions.{same_from_IsLeastTerms}
-use Rattle.md_math.proofs.Order.{lt_or_le, le_from_lt, le_from_same, ≤ℤ_trans, ≤ℤ_antisymm, *ℤ_cancel}
-use Rattle.md_math.proofs.Ring.{*ℤ_assoc}
+use Rattle.md_math.proofs.Order.{lt_or_le, le_from_lt, le_from_same, ≤ℤ_trans, ≤ℤ_antisymm}
 use Rattle.md_num.specs.declared.frac.Frac.{Frac}
 use Rattle.md_setting.specs.Setting.{GeneralSetting}
 use Rattle.md_setting.specs.Meaning.{agent_count, total_of}
 use Rattle.md_mech.specs.declared.mechanism.Mechanism.{Mechanism}
+use Rattle.md_question.proofs.OneFraction.{one_fraction}
 use Rattle.md_fair.specs.Least.{IsLeast, HasLeast, IsLeastValueOf}
 use Rattle.md_fair.specs.Mean.{mean_of}
 
@@ -103,12 +101,5 @@ below-least s m level least h k = subst (λ z. level ≤ℤ z) (sym k.reached) (
 -- it has one value
 pub one-value : (s : GeneralSetting) (m : Mechanism) (v w : Frac) → pos 0 <ℤ (m.den *ℤ total_of s) → IsLeastValueOf s m v → IsLeastValueOf s m w → v ≡ w
 one-value s m v w above a b =
-    let whole = m.den *ℤ total_of s in
-    let left : whole *ℤ (v.num *ℤ w.den) ≡ a.least *ℤ (v.den *ℤ w.den) =
-    sym (*ℤ_assoc whole v.num w.den) ∙ ap (λ z. z *ℤ w.den) (*ℤ_comm whole v.num ∙ a.is_value) ∙ *ℤ_assoc a.least v.den w.den in
-    let right : whole *ℤ (w.num *ℤ v.den) ≡ b.least *ℤ (w.den *ℤ v.den) =
-    sym (*ℤ_assoc whole w.num v.den) ∙ ap (λ z. z *ℤ v.den) (*ℤ_comm whole w.num ∙ b.is_value) ∙ *ℤ_assoc b.least w.den v.den in
-    let turned : a.least *ℤ (v.den *ℤ w.den) ≡ b.least *ℤ (w.den *ℤ v.den) =
-    ap (λ z. z *ℤ (v.den *ℤ w.den)) (one-least s m a.least b.least a.is b.is) ∙ ap (λ z. b.least *ℤ z) (*ℤ_comm v.den w.den) in
-    let same = same_from_IsLeastTerms v.num v.den w.num w.den a.least_terms b.least_terms (*ℤ_cancel whole (v.num *ℤ w.den) (w.num *ℤ v.den) above (left ∙ turned ∙ sym right)) in
-    ap (λ n. record { num = n; den = v.den }) same.0 ∙ ap (λ d. record { num = w.num; den = d }) same.1
+    let same : v.num *ℤ (m.den *ℤ total_of s) ≡ b.least *ℤ v.den = a.is_value ∙ ap (λ z. z *ℤ v.den) (one-least s m a.least b.least a.is b.is) in
+    one_fraction b.least (m.den *ℤ total_of s) v w above (record { same = same; least = a.least_terms }) (record { same = b.is_value; least = b.least_terms })

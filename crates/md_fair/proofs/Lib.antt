@@ -3,8 +3,7 @@ pub mod SameNumbers
 pub mod PointLaws
 pub mod LeastLaws
 pub mod Claims
-pub mod OneAnswer
 pub mod TermForms
 pub mod CostLaws
 pub mod Sizes
-pub mod Fits
+pub mod QuestionLaws

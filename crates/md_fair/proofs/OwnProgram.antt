@@ -37,7 +37,8 @@ use Rattle.md_rows.specs.Sides.{utility_in, gain_in, lack_in, left_side}
 use Rattle.md_rows.proofs.CostLaws.{cost-length, has-cost}
 use Rattle.md_rows.proofs.FormLaws.{payment-on, payment-off}
 use Rattle.md_rows.proofs.Law.{IsPlaced, conditions-placed}
-use Rattle.md_rows.proofs.PointLaws.{columns-on, place-below}
+use Rattle.md_rows.proofs.PointLaws.{place-below}
+use Rattle.md_question.proofs.RayFits.{parts-inside}
 use Rattle.md_fair.specs.FairProgram.{agent_forms, IsFairProgram}
 
 -- ---- conditions at numbers that are 0 in the setting's columns
@@ -46,12 +47,6 @@ pub chance-inside : (s : GeneralSetting) (t : List ℕ) (o : ℕ) → IsProfile 
 chance-inside s t o p l =
     let inside : chance_column s t o < first_plus s = place-below (rank_of (sizes_of s) t) (profile_count (sizes_of s)) (outcome_count s) o (rank_of-below (sizes_of s) t p) l in
     omega (arith, inside)
-
-pub parts-inside : (s : GeneralSetting) (i : ℕ) (t : List ℕ) → s.payments ≡ true → i < agent_count s → IsProfile (sizes_of s) t → (plus_column s i t < column_count s) × (minus_column s i t < column_count s)
-parts-inside s i t on l p =
-    let inside : i * profile_count (sizes_of s) + rank_of (sizes_of s) t < agent_count s * profile_count (sizes_of s) = place-below i (agent_count s) (profile_count (sizes_of s)) (rank_of (sizes_of s) t) l (rank_of-below (sizes_of s) t p) in
-    let columns = columns-on s on in
-    (omega (arith, inside, columns), omega (arith, inside, columns))
 
 module _ (s : GeneralSetting) (x : ℕ → ℤ) (none : (j : ℕ) → j < column_count s → x j ≡ pos 0) where
   no-payment : (i : ℕ) (t : List ℕ) → i < agent_count s → IsProfile (sizes_of s) t → payment_in s x i t ≡ pos 0

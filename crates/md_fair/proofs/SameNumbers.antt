@@ -14,7 +14,7 @@ use Rattle.md_lp.specs.Point.{Meets, row_sum}
 use Rattle.md_rows.specs.Columns.{plus_column, minus_column, first_plus, payment_in}
 use Rattle.md_rows.specs.Points.{mechanism_of, payments_in}
 use Rattle.md_rows.proofs.FormLaws.{payment-on, payment-off}
-use Rattle.md_fair.proofs.OwnProgram.{parts-inside}
+use Rattle.md_question.proofs.RayFits.{parts-inside}
 
 -- the numbers are the same at the places below n
 abbrev pub SameBelow : ℕ → (ℕ → ℤ) → (ℕ → ℤ) → Type 0

@@ -75,8 +75,8 @@ agents-room s old mid shaped none p = record {
   );
 }
 
+pub forms-count : (s : GeneralSetting) → length (fair_forms s) ≡ setting_rows s + agent_count s
+forms-count s = length-append (forms_of s (conditions_of s)) (agent_forms s) ∙ rw (forms-length s, length-list_to (agent_count s) (agent_form s)) refl
+
 pub fair-count : (s : GeneralSetting) (p : Program) → IsFairProgram s p → row_count p ≡ setting_rows s + agent_count s
-fair-count s p is =
-    rows-count (column_count s + 2) (fair_forms s) (level_in s) p is
-    ∙ length-append (forms_of s (conditions_of s)) (agent_forms s)
-    ∙ rw (forms-length s, length-list_to (agent_count s) (agent_form s)) refl
+fair-count s p is = rows-count (column_count s + 2) (fair_forms s) (level_in s) p is ∙ forms-count s

@@ -6,8 +6,5 @@ pub mod FairPoints
 pub mod Law
 pub mod Terms
 pub mod Costs
-pub mod Answered
 pub mod Certifies
-pub mod Shown
-pub mod Solved
-pub mod AnswerTo
+pub mod FairQuestion

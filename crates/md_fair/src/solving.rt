@@ -1,4 +1,4 @@
-//! The paths of the fair program, and what is told of their ends.
+//! The fairest mechanism, found.
 ghost use Rattle.std.specs.Prelude.{◌≡◌, ◌↔◌, List, IfErr, IfOk, MatchResult};
 ghost use Rattle.md_lp.specs.Program.{Program};
 ghost use Rattle.md_lp.specs.declared.pivot.Pivot.{Pivot};
@@ -6,28 +6,26 @@ ghost use Rattle.md_lp.specs.declared.wide.Wide.{Wide};
 ghost use Rattle.md_mech.specs.Admissible.{IsAdmissible};
 ghost use Rattle.md_mech.specs.declared.mechanism.Mechanism.{Mechanism};
 ghost use Rattle.md_mech.specs.Optimal.{IsInfeasible};
-ghost use Rattle.md_setting.specs.Shaped.{IsShaped};
 ghost use Rattle.md_simplex.specs.declared.order.Order.{Order};
 ghost use Rattle.md_simplex.specs.declared.simplex_error.SimplexError.{SimplexError};
 ghost use Rattle.md_simplex.specs.declared.step.Step.{Step};
 ghost use Rattle.md_simplex.specs.Runs.{IsFirstWideOf, IsLeft, IsTaken, MeetsWideBasis, TellsOf};
-ghost use Rattle.md_fair.specs.AnswerTo.{HasFractions, IsFairAnswerTo};
-ghost use Rattle.md_fair.specs.Answered.{ClaimsEnd, ClaimsInfeasible, WhereInfeasible, WhereOptimal, WhereUnbounded};
-ghost use Rattle.md_fair.specs.Certifies.{IsCertifiedAnswer};
+ghost use Rattle.md_question.specs.Findings.{ClaimsInfeasible, WhereInfeasible, WhereOptimal, WhereUnbounded};
+ghost use Rattle.md_question.specs.Shown.{IsFindingTo, IsShown};
+ghost use Rattle.md_question.specs.declared.finding.Finding.{Finding};
+ghost use Rattle.md_question_solve.specs.Found.{ClaimsEnd, IsFound, IsFoundBy, IsLeftFor};
+ghost use Rattle.md_question_solve.specs.Readings.{HasFractions};
 ghost use Rattle.md_fair.specs.FairProgram.{IsFairProgram};
+ghost use Rattle.md_fair.specs.FairQuestion.{fair_question};
 ghost use Rattle.md_fair.specs.Fairest.{GrowsFair, IsOptimalFair};
 ghost use Rattle.md_fair.specs.Least.{HasLeast, IsLeastValueOf};
-ghost use Rattle.md_fair.specs.Shown.{IsSo};
-ghost use Rattle.md_fair.specs.Solved.{IsFairlyLeft, IsFairlySolved, TellsRun};
-ghost use Rattle.md_fair.specs.declared.fair_answer.FairAnswer.{FairAnswer};
 
-use crate::answers::told;
-use crate::fair_answer::FairAnswer;
-use crate::program::fair_program;
-use md_lp::Lp;
-use md_num::{NoMemory, Width};
+use crate::question::Fairest;
+use md_num::Width;
+use md_question::Finding;
+use md_question_solve::solve_question;
 use md_setting::Setting;
-use md_simplex::{SimplexError, run};
+use md_simplex::SimplexError;
 use std::alloc::Global;
 
 /// Finds the fairest mechanism of a setting, whatever the designer's own objective: a path of its fair program is followed
@@ -39,15 +37,11 @@ use std::alloc::Global;
 /// # Errors
 /// Where a basis of each of the two paths of the fair program is too wide, the pivots to the first such one and its first
 /// such entry, for each; or want of memory.
-pub fn solve_fair(
-    alloc: Global,
-    setting: &Setting,
-    width: Width,
-) -> Result<FairAnswer, SimplexError>
-    ensures solved { IfOk result (IsFairlySolved setting.now width) }
+pub fn solve_fair(alloc: Global, setting: &Setting, width: Width) -> Result<Finding, SimplexError>
+    ensures solved { IfOk result (IsFound (fair_question setting.now) width) }
 
     // A setting and a width have one answer.
-    ensures only { (other : FairAnswer) → IsFairlySolved setting.now width other → IfOk result (λ answer. answer ≡ other) }
+    ensures only { (other : Finding) → IsFound (fair_question setting.now) width other → IfOk result (λ answer. answer ≡ other) }
 
     // What is claimed is so, over mechanisms of any denominator, with numbers of any size. Each mechanism has a least.
     ensures optimal { IfOk result (WhereOptimal (λ value mechanism bound. IsOptimalFair setting.now mechanism)) }
@@ -64,51 +58,19 @@ pub fn solve_fair(
     // Where a basis of each path is wide there is no answer. The first one of each is told, and nothing else, and it is told
     // nowhere else.
     ensures wide { (p : Program) → IsFairProgram setting.now p → MeetsWideBasis Order.Forward p width → MeetsWideBasis Order.Backward p width → IfOk result (λ _. ⊥) }
-    ensures left { IfErr result (IsFairlyLeft setting.now width) }
+    ensures left { IfErr result (IsLeftFor (fair_question setting.now) width) }
     ensures every_left { (p : Program) → IsFairProgram setting.now p → IfErr result (IsLeft p width) }
     ensures first_wide { (p : Program) (first second : Wide) → IsFairProgram setting.now p → IsFirstWideOf Order.Forward p width first → IsFirstWideOf Order.Backward p width second → IfErr result (TellsOf first second) }
 
     // In whatever terms the fair program is written, its paths give this answer, which is a certificate of its claim.
-    ensures every_program { (p : Program) → IsFairProgram setting.now p → IfOk result (TellsRun setting.now p width) }
-    ensures certified { (p : Program) → IsFairProgram setting.now p → IfOk result (IsCertifiedAnswer setting.now p) }
+    ensures every_program { (p : Program) → IsFairProgram setting.now p → IfOk result (IsFoundBy (fair_question setting.now) p width) }
+    ensures certified { (p : Program) → IsFairProgram setting.now p → IfOk result (IsShown (fair_question setting.now) p) }
 
     // The answer, or the first wide entry of each path, can be written.
-    ensures writable { IfOk result (IsFairAnswerTo setting.now) }
+    ensures writable { IfOk result (IsFindingTo (fair_question setting.now)) }
     ensures wide_writable { IfErr result HasFractions }
 {
     let _shaped = setting.space();
-    let Ok(lp) = fair_program(alloc, setting) else {
-        return Err(SimplexError::Memory);
-    };
-    answer(alloc, setting, &lp, width)
-}
-
-// What is told of the paths of the setting's fair program.
-fn answer(
-    alloc: Global,
-    setting: &Setting,
-    lp: &Lp,
-    width: Width,
-) -> Result<FairAnswer, SimplexError>
-    requires { IsFairProgram setting.now lp.now }
-    ensures tells { IfOk result (TellsRun setting.now lp.now width) }
-    ensures so { IfOk result (IsSo setting.now) }
-    ensures certified { IfOk result (IsCertifiedAnswer setting.now lp.now) }
-    ensures taken { (order : Order) (pivots : List Pivot) (step : Step) → IsTaken order lp.now width pivots step → MatchResult result (ClaimsEnd step) (λ error. error ≡ SimplexError.Memory) }
-    ensures wide { MeetsWideBasis Order.Forward lp.now width → MeetsWideBasis Order.Backward lp.now width → IfOk result (λ _. ⊥) }
-    ensures left { IfErr result (IsLeft lp.now width) }
-    ensures first_wide { (first second : Wide) → IsFirstWideOf Order.Forward lp.now width first → IsFirstWideOf Order.Backward lp.now width second → IfErr result (TellsOf first second) }
-    ensures writable { IfOk result (IsFairAnswerTo setting.now) }
-    ensures wide_writable { IfErr result HasFractions }
-{
-    let _shaped = lp.rows();
-    let _few = setting.space();
-    let _range = width.limit();
-    match run(alloc, lp, width) {
-        Ok(end) => match told(alloc, setting, lp, end.certificate) {
-            Ok(answer) => Ok(answer),
-            Err(NoMemory) => Err(SimplexError::Memory),
-        },
-        Err(error) => Err(error),
-    }
+    let fairest = Fairest { setting };
+    solve_question(alloc, &fairest, width)
 }

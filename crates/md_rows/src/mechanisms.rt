@@ -1,5 +1,5 @@
 //! The mechanism of a point.
-ghost use Rattle.std.specs.Prelude.{◌≡◌, ◌<◌, ◌++◌, length, IfOk, OnOk};
+ghost use Rattle.std.specs.Prelude.{◌≡◌, ◌<◌, ◌≤◌, ◌++◌, length, IfOk, OnOk};
 ghost use Rattle.md_math.specs.Lists.{number_at, list_to};
 ghost use Rattle.md_math.specs.Sizes.{IsWithin, AllWithin};
 ghost use Rattle.md_space.specs.Profiles.{profile_count, profile_at};
@@ -16,14 +16,15 @@ use md_num::{NoMemory, Nums};
 use md_setting::Setting;
 use std::alloc::Global;
 
-/// The mechanism of a point over its denominator: its chances, and for each payment its plus part less its minus part.
+/// The mechanism of a point over its denominator: its chances, and for each payment its plus part less its minus part. What the
+/// point has behind the setting's columns says nothing of it.
 pub fn mechanism_of(
     alloc: Global,
     setting: &Setting,
     den: i128,
     point: &Nums,
 ) -> Result<Mechanism, NoMemory>
-    requires one_each { length point.now ≡ column_count setting.now }
+    requires one_each { column_count setting.now ≤ length point.now }
     requires meets { MeetsProgramOf setting.now den (number_at point.now) }
     requires sizes { AllWithin number_limit point.now }
     requires den_size { IsWithin number_limit den }
@@ -39,7 +40,7 @@ pub fn mechanism_of(
 }
 
 fn chances(alloc: Global, setting: &Setting, point: &Nums) -> Result<Nums, NoMemory>
-    requires one_each { length point.now ≡ column_count setting.now }
+    requires one_each { column_count setting.now ≤ length point.now }
     ensures { IfOk result (λ chances. chances ≡ list_to (first_plus setting.now) (number_at point.now)) }
 {
     let mut chances = Nums::new(alloc);
@@ -52,7 +53,7 @@ fn chances(alloc: Global, setting: &Setting, point: &Nums) -> Result<Nums, NoMem
 /// What agents pay at a point, or by what a ray changes it, by the rank of the profile, then by agent: for each payment its
 /// plus part less its minus part.
 pub fn payments_of(alloc: Global, setting: &Setting, point: &Nums) -> Result<Nums, NoMemory>
-    requires one_each { length point.now ≡ column_count setting.now }
+    requires one_each { column_count setting.now ≤ length point.now }
     requires sizes { AllWithin number_limit point.now }
     ensures { IfOk result (λ pays. pays ≡ payments_in setting.now (number_at point.now)) }
 {
@@ -65,7 +66,7 @@ pub fn payments_of(alloc: Global, setting: &Setting, point: &Nums) -> Result<Num
 
 // What all agents pay at the profile of a rank.
 fn push_pays(setting: &Setting, point: &Nums, rank: u32, pays: &mut Nums) -> Result<(), NoMemory>
-    requires one_each { length point.now ≡ column_count setting.now }
+    requires one_each { column_count setting.now ≤ length point.now }
     requires sizes { AllWithin number_limit point.now }
     requires rank_in { rank < profile_count (sizes_of setting.now) }
     ensures { OnOk result (pays.new ≡ pays.old ++ list_to (agent_count setting.now) (λ i. payment_in setting.now (number_at point.now) i (profile_at (sizes_of setting.now) rank))) }
@@ -78,7 +79,7 @@ fn push_pays(setting: &Setting, point: &Nums, rank: u32, pays: &mut Nums) -> Res
 
 // What an agent pays at the profile of a rank.
 fn pay(setting: &Setting, point: &Nums, agent: u8, rank: u32) -> i128
-    requires one_each { length point.now ≡ column_count setting.now }
+    requires one_each { column_count setting.now ≤ length point.now }
     requires sizes { AllWithin number_limit point.now }
     requires agent_in { agent < agent_count setting.now }
     requires rank_in { rank < profile_count (sizes_of setting.now) }

@@ -42,7 +42,7 @@ use Rattle.md_answer.proofs.ReducedRows.{bound-fits}
 use Rattle.md_answer.specs.declared.answer.Answer.{Answer}
 use Rattle.md_answer.specs.declared.answer.Answer.TheVariants.{Table, Optimal, Infeasible, Unbounded, AuctionOptimal, TooWide}
 use Rattle.md_solve.specs.AuctionSolved.{IsAuctionSo, IsAuctionSolved, IsCertifiedAuction, IsSameButMasses}
-use Rattle.md_solve.proofs.OneFraction.{one_fraction, small_fraction}
+use Rattle.md_question.proofs.OneFraction.{one_fraction, small_fraction}
 
 -- what is told of an end with its value
 abbrev pub told : AuctionEnd → Frac → Answer

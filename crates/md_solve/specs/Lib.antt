@@ -1,6 +1,5 @@
 pub mod Answered
 pub mod Bounds
 pub mod Certifies
-pub mod Shown
 pub mod Solved
 pub mod AuctionSolved

@@ -1,4 +1,4 @@
-//! The paths of a setting's program, and what is told of their ends.
+//! What a setting's own question finds, as an answer.
 ghost use Rattle.std.specs.Prelude.{◌≡◌, ◌↔◌, List, IfOk};
 ghost use Rattle.md_lp.specs.Program.{Program};
 ghost use Rattle.md_lp.specs.declared.pivot.Pivot.{Pivot};
@@ -14,16 +14,15 @@ ghost use Rattle.md_answer.specs.declared.answer.Answer.{Answer};
 ghost use Rattle.md_solve.specs.Answered.{ClaimsEnd, ClaimsInfeasible, ClaimsUnbounded, IsMechanismAlone, IsTooWide, WhereInfeasible, WhereOptimal, WhereUnbounded};
 ghost use Rattle.md_solve.specs.Bounds.{HasNoBound};
 ghost use Rattle.md_solve.specs.Certifies.{IsCertifiedAnswer};
-ghost use Rattle.md_solve.specs.Shown.{IsSo};
-ghost use Rattle.md_solve.specs.Solved.{IsSolved, IsSolvedBy};
+ghost use Rattle.md_solve.specs.Solved.{IsSolved, IsSolvedBy, answer_of};
 
-use crate::answers::told;
 use md_answer::Answer;
-use md_lp::{Lp, Sets};
+use md_lp::Sets;
 use md_num::{NoMemory, Width};
-use md_rows::rows_of;
+use md_question::Finding;
+use md_question_solve::solve_question;
 use md_setting::Setting;
-use md_simplex::{SimplexError, run};
+use md_simplex::SimplexError;
 use std::alloc::Global;
 
 /// The answer to a general setting.
@@ -49,29 +48,32 @@ pub(crate) fn solve_general(
     ensures writable { IfOk result (IsAnswerTo setting.now) }
 {
     let _shaped = setting.space();
-    let lp = rows_of(alloc, setting)?;
-    answer(alloc, setting, &lp, width)
-}
-
-// What is told of the paths of the setting's program.
-fn answer(alloc: Global, setting: &Setting, lp: &Lp, width: Width) -> Result<Answer, NoMemory>
-    requires { IsProgramOf setting.now lp.now }
-    ensures solved { IfOk result (IsSolvedBy setting.now lp.now width) }
-    ensures so { IfOk result (IsSo setting.now) }
-    ensures taken { (order : Order) (pivots : List Pivot) (step : Step) → IsTaken order lp.now width pivots step → IfOk result (ClaimsEnd step) }
-    ensures wide { MeetsWideBasis Order.Forward lp.now width → MeetsWideBasis Order.Backward lp.now width → IfOk result IsTooWide }
-    ensures certified { IfOk result (IsCertifiedAnswer setting.now lp.now) }
-    ensures writable { IfOk result (IsAnswerTo setting.now) }
-{
-    let _shaped = lp.rows();
-    let _range = width.limit();
-    match run(alloc, lp, width) {
-        Ok(end) => told(alloc, setting, lp, end.certificate),
+    match solve_question(alloc, setting, width) {
+        Ok(finding) => Ok(answer_of(finding)),
         Err(SimplexError::TooWide { first, second }) => Ok(Answer::TooWide {
             cuts: Sets::new(alloc),
             first,
             second: Some(second),
         }),
         Err(SimplexError::Memory) => Err(NoMemory),
+    }
+}
+
+// The answer that says what was found.
+fn answer_of(finding: Finding) -> Answer
+    ensures { result ≡ answer_of finding }
+{
+    match finding {
+        Finding::Optimal {
+            value,
+            mechanism,
+            bound,
+        } => Answer::Optimal {
+            value,
+            mechanism,
+            bound,
+        },
+        Finding::Infeasible { face } => Answer::Infeasible { face },
+        Finding::Unbounded { mechanism, ray } => Answer::Unbounded { mechanism, ray },
     }
 }

@@ -1,7 +1,6 @@
 //! General settings and auctions solved: an optimal mechanism with its value and bound, or why there is none.
 #![tactic(auto)]
 
-mod answers;
 mod auctions;
 mod general;
 mod solving;

@@ -4,7 +4,7 @@ use mathlib.Core.Bool.{false≢true}
 use Rattle.md_mech.specs.declared.mechanism.Mechanism.{Mechanism}
 use Rattle.md_tree.specs.declared.node.Node.TheVariants as nodes
 use Rattle.md_determ.specs.Way.{IsClosed}
-use Rattle.md_determ.specs.declared.reading.Reading.TheVariants.{Optimal}
+use Rattle.md_question_solve.specs.declared.reading.Reading.TheVariants.{Optimal}
 use Rattle.md_determ.proofs.WayLaws.{found-turn, kept-turn, open-not_whole, split-turn}
 use Rattle.md_determ.proofs.visiting.take_optimal.Goals as goal
 

@@ -1,6 +1,6 @@
 use Rattle.std.proofs.Common.{sym, ◌∙◌}
 use mathlib.Core.Bool.{false≢true}
-use Rattle.md_determ.specs.declared.reading.Reading.TheVariants.{Unbounded}
+use Rattle.md_question_solve.specs.declared.reading.Reading.TheVariants.{Unbounded}
 use Rattle.md_determ.proofs.WayLaws.{open-not_whole, split-turn, unbounded-told}
 use Rattle.md_determ.proofs.visiting.take_unbounded.Goals as goal
 

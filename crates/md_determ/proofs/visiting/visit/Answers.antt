@@ -1,6 +1,7 @@
 use Rattle.std.proofs.Common.{◌≡◌, ℕ, List, Option, sym, ◌∙◌, subst}
 use Rattle.md_simplex.specs.declared.simplex_error.SimplexError.TheVariants.{TooWide}
-use Rattle.md_determ.specs.Fitting.{HasFractions, IsLeftAt}
+use Rattle.md_question_solve.specs.Readings.{HasFractions}
+use Rattle.md_determ.specs.Readings.{IsLeftAt}
 use Rattle.md_determ.specs.Pairs.{ArePairsOf}
 use Rattle.md_determ.proofs.WayLaws.{visited-node, wide-told}
 use Rattle.md_determ.proofs.visiting.visit.Goals as goal

@@ -1,0 +1,30 @@
+-- The question which mechanism of a setting is the fairest.
+use Rattle.std.specs.Prelude.{ℕ, ◌+◌}
+use Rattle.md_setting.specs.Setting.{GeneralSetting}
+use Rattle.md_setting.specs.Meaning.{agent_count}
+use Rattle.md_setting.specs.Rows.{column_count, row_count}
+use Rattle.md_question.specs.Question.{Question}
+use Rattle.md_fair.specs.Certifies.{IsCertifiedFair}
+use Rattle.md_fair.specs.Fairest.{GrowsFair, IsOptimalFair}
+use Rattle.md_fair.specs.FairProgram.{fair_forms, level_in}
+use Rattle.md_fair.specs.Least.{IsLeastValueOf}
+
+-- how many rows the fair program has
+abbrev pub fair_rows : GeneralSetting → ℕ
+fair_rows s = row_count s + agent_count s
+
+-- its program is the fair one, and the value of a mechanism is its least; a ray has no level: what is told of it is not a
+-- certificate by itself
+abbrev pub fair_question : GeneralSetting → Question
+fair_question s = record {
+  setting = s;
+  columns = column_count s + 2;
+  forms = fair_forms s;
+  cost = level_in s;
+  rows = fair_rows s;
+  is_value = IsLeastValueOf s;
+  is_optimal = IsOptimalFair s;
+  grows = GrowsFair s;
+  shows = IsCertifiedFair s;
+  shows_ray = λ p m pays. Unit {0};
+}

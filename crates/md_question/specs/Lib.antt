@@ -1,0 +1,4 @@
+pub mod Question
+pub mod Best
+pub mod Findings
+pub mod Shown

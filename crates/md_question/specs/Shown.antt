@@ -1,0 +1,28 @@
+-- What a finding claims, what shows it, and what it must be to be written.
+use Rattle.md_mech.specs.Accepted.{IsAccepted}
+use Rattle.md_mech.specs.Optimal.{IsInfeasible}
+use Rattle.md_lp.specs.Program.{Program}
+use Rattle.md_cert.specs.Certified.{Certified}
+use Rattle.md_cert.specs.declared.certificate.Certificate.TheVariants as certificates
+use Rattle.md_parts.specs.Fitting.{AreMultipliers, IsBoundOver, IsFraction, IsRayFor}
+use Rattle.md_question.specs.Question.{Question}
+use Rattle.md_question.specs.declared.finding.Finding.{Finding}
+use Rattle.md_question.specs.declared.finding.Finding.TheVariants.{Optimal, Infeasible, Unbounded}
+
+-- what it claims is so, over mechanisms of any denominator
+abbrev pub IsSo : Question → Finding → Type 0
+IsSo q (Optimal value m bound) = q.is_optimal m × q.is_value m value
+IsSo q (Infeasible face) = IsInfeasible q.setting
+IsSo q (Unbounded m ray) = q.grows m ray
+
+-- its numbers show this by a program of the question
+abbrev pub IsShown : Question → Program → Finding → Type 0
+IsShown q p (Optimal value m bound) = q.shows p m bound
+IsShown q p (Infeasible face) = Certified p (certificates.Infeasible face)
+IsShown q p (Unbounded m ray) = q.shows_ray p m ray
+
+-- it has the question's sizes, and its numbers are in their ranges
+abbrev pub IsFindingTo : Question → Finding → Type 0
+IsFindingTo q (Optimal value m bound) = IsFraction value.num value.den × IsAccepted q.setting m × IsBoundOver q.rows bound
+IsFindingTo q (Infeasible face) = AreMultipliers q.rows face
+IsFindingTo q (Unbounded m ray) = IsAccepted q.setting m × IsRayFor q.setting ray

@@ -1,0 +1,3 @@
+pub mod WideFits
+pub mod RunCertified
+pub mod FoundLaws
