@@ -1,0 +1,73 @@
+"""What the commands of this folder share: their words, the files they read, and how they end.
+
+The statuses are those of mechdes: 64 for words that are no command, 65 and 66 for a refused file, 70 for one that cannot
+be read, 71 where the answer cannot be written, 72 for want of memory.
+"""
+
+import os
+import sys
+from collections.abc import Callable
+from typing import NoReturn
+
+from second_opinion.setting import Refused
+
+Command = Callable[[list[str]], tuple[int, str]]  # from words to a status and a text
+
+
+def file_names(words: list[str], count: int) -> list[str]:
+    """The names of files among the words of a command, as many as it needs. There are no options, so that a word that
+    begins with `-` is wrong where no `--` stands before it; but `-` alone is a name. Words that are not UTF-8 end a
+    command without a line."""
+    if not all(map(is_unicode, words)):
+        raise Refused(64, None)
+    names, only_names = [], False
+    for word in words:
+        if word == "--" and not only_names:
+            only_names = True
+        elif word.startswith("-") and word != "-" and not only_names:
+            raise Refused(64, "usage")
+        else:
+            names.append(word)
+    if len(names) != count:
+        raise Refused(64, "usage")
+    return names
+
+
+def is_unicode(word: str) -> bool:
+    """Whether a word was given in UTF-8: Python keeps other bytes as lone surrogates."""
+    return not any("\ud800" <= letter <= "\udfff" for letter in word)
+
+
+def read_file(name: str, limit: int) -> bytes:
+    """The bytes of a file, or one more than the limit where it is longer."""
+    try:
+        with open(name, "rb") as file:
+            return file.read(limit + 1)
+    except (OSError, ValueError):
+        raise Refused(70, "read fault") from None
+
+
+def outcome(command: Command, words: list[str]) -> tuple[int, str, str | None]:
+    """What a command comes to: its status, what it prints, and its line on standard error, or None."""
+    try:
+        status, text = command(words)
+        return status, text, None
+    except Refused as refused:
+        return refused.status, "", refused.line
+    except MemoryError:
+        return 72, "", "want of memory"
+
+
+def run(command: Command, name: str = "mechdes") -> NoReturn:
+    """Runs a command as a program, by the words of the call. The name begins the line on standard error: that of mechdes
+    where the two are alike."""
+    status, text, line = outcome(command, sys.argv[1:])
+    try:
+        sys.stdout.buffer.write(text.encode("utf-8", "replace"))
+        sys.stdout.flush()
+        if line is not None:
+            sys.stderr.write(f"{name}: {line}\n")
+    except OSError:
+        os.dup2(os.open(os.devnull, os.O_WRONLY), sys.stdout.fileno())  # Python writes the rest once more at its end
+        status = 71
+    sys.exit(status)

@@ -1,0 +1,187 @@
+"""Tells what the mechanism of an answer does, and how far it is from truthful: docs/FORMATS.md, "What `report` prints".
+
+Of a general setting all is computed from the lotteries and payments, profile by profile; of an auction from its odds and pays.
+"""
+
+from collections.abc import Callable, Iterable, Iterator
+from fractions import Fraction
+
+from second_opinion import answer, auction, auction_answer, command, program, setting
+from second_opinion.answer import Mechanism
+from second_opinion.auction_answer import AuctionAnswer
+from second_opinion.setting import Agent, AuctionSetting, GeneralSetting, Profile, Refused
+
+Field = str | int
+NO_TABLE = "answer refused: no table"
+
+
+def report(words: list[str]) -> tuple[int, str]:
+    """The command `report SETTING ANSWER`. The setting is read and refused before the answer is opened."""
+    setting_name, answer_name = command.file_names(words, 2)
+    its = setting.read_setting(command.read_file(setting_name, setting.FILE_LIMIT))
+    data = command.read_file(answer_name, answer.FILE_LIMIT)
+    if isinstance(its, AuctionSetting):
+        said = auction_answer.read_answer(data, its)
+        if not isinstance(said, AuctionAnswer):
+            raise Refused(66, NO_TABLE)
+        records = auction_records(its, said.interim, said.cuts)
+    else:
+        mechanism = getattr(answer.read_answer(data, its), "mechanism", None)
+        if mechanism is None:
+            raise Refused(66, NO_TABLE)
+        records = general_records(its, mechanism)
+    return 0, "".join(",".join(map(str, record)) + "\n" for record in records)
+
+
+def number(value: Fraction) -> list[int]:
+    """A fraction as two fields."""
+    return [value.numerator, value.denominator]
+
+
+def first_greatest(parts: Iterable[tuple[list[Field], Fraction]]) -> list[Field]:
+    """The fields and the number of the first part with the greatest number."""
+    fields, greatest = max(parts, key=lambda part: part[1])  # of several, Python's max gives the first
+    return [*fields, *number(greatest)]
+
+
+# ---- a general setting
+
+
+def general_records(its: GeneralSetting, mechanism: Mechanism) -> Iterator[list[Field]]:
+    amount, total = program.value_of(its, mechanism)
+    yield ["value", *number(Fraction(amount, total * mechanism.den))]
+    yield ["revenue", *number(expected(its, mechanism, lambda profile: sum(mechanism.pays.get(profile, []))))]
+    yield ["welfare", *number(expected(its, mechanism, lambda profile: enjoyed(its, mechanism, profile)))]
+    for place, agent in enumerate(its.agents):
+        for kind, name in enumerate(agent.types):
+            gets = given(its, mechanism, place, kind, lambda profile: has(its, mechanism, place, profile, profile[place]))
+            pays = given(its, mechanism, place, kind, lambda profile: paid(mechanism, place, profile))
+            yield ["type", agent.name, name, *number(gets), *number(pays)]
+    for place, agent in enumerate(its.agents):
+        if len(agent.types) > 1:
+            yield ["gain", agent.name, *first_greatest(gains(its, mechanism, place, agent))]
+    if its.rational != "none":
+        for place, agent in enumerate(its.agents):
+            yield ["loss", agent.name, *first_greatest(losses(its, mechanism, place, agent))]
+    if its.no_deficit:
+        profile = min(its.profiles(), key=lambda profile: sum(mechanism.pays.get(profile, [])))
+        yield ["deficit", its.profile_name(profile), *number(Fraction(sum(mechanism.pays.get(profile, [])), mechanism.den))]
+    for condition in program.conditions_of(its):
+        if room(its, mechanism, condition) == 0:
+            yield ["tight", condition.name]
+    yield ["end"]
+
+
+def expected(its: GeneralSetting, mechanism: Mechanism, amount: Callable[[Profile], int]) -> Fraction:
+    """What is expected of an amount by profile, in units of one over the denominator."""
+    profiles = list(its.profiles())
+    whole = mechanism.den * sum(map(its.weight, profiles))
+    return Fraction(sum(its.weight(profile) * amount(profile) for profile in profiles), whole)
+
+
+def given(its: GeneralSetting, mechanism: Mechanism, place: int, kind: int, amount: Callable[[Profile], int]) -> Fraction:
+    """The same over the profiles in which an agent has a type."""
+    profiles = [profile for profile in its.profiles() if profile[place] == kind]
+    whole = mechanism.den * sum(map(its.weight, profiles))
+    return Fraction(sum(its.weight(profile) * amount(profile) for profile in profiles), whole)
+
+
+def paid(mechanism: Mechanism, place: int, profile: Profile) -> int:
+    """What an agent pays at a report."""
+    pays = mechanism.pays.get(profile)
+    return pays[place] if pays else 0
+
+
+def has(its: GeneralSetting, mechanism: Mechanism, place: int, profile: Profile, told: int) -> int:
+    """What an agent has at a true profile where it tells a type."""
+    reported = (*profile[:place], told, *profile[place + 1:])
+    worth = sum(chance * its.utility(place, profile, outcome) for outcome, chance in enumerate(mechanism.lotteries[reported]))
+    return worth - paid(mechanism, place, reported)
+
+
+def enjoyed(its: GeneralSetting, mechanism: Mechanism, profile: Profile) -> int:
+    """What all agents have at a profile, with what they pay given back."""
+    agents = range(len(its.agents))
+    return sum(has(its, mechanism, place, profile, profile[place]) + paid(mechanism, place, profile) for place in agents)
+
+
+def gains(its: GeneralSetting, mechanism: Mechanism, place: int, agent: Agent) -> Iterator[tuple[list[Field], Fraction]]:
+    """What an agent gains by each false report: at each profile where truth is dominant, given each type otherwise."""
+    reports = range(len(agent.types))
+
+    def more(profile: Profile, told: int) -> int:
+        return has(its, mechanism, place, profile, told) - has(its, mechanism, place, profile, profile[place])
+
+    if its.truth == "dominant":
+        for profile in its.profiles():
+            for told in reports:
+                if told != profile[place]:
+                    fields = [agent.types[profile[place]], agent.types[told], its.profile_name(profile)]
+                    yield fields, Fraction(more(profile, told), mechanism.den)
+    else:
+        for kind in reports:
+            for told in reports:
+                if told != kind:
+                    amount = given(its, mechanism, place, kind, lambda profile: more(profile, told))
+                    yield [agent.types[kind], agent.types[told]], amount
+
+
+def losses(its: GeneralSetting, mechanism: Mechanism, place: int, agent: Agent) -> Iterator[tuple[list[Field], Fraction]]:
+    """What an agent gets less than it has outside: at each profile, or given each type."""
+
+    def less(profile: Profile) -> int:
+        kind = profile[place]
+        return agent.outside[kind] * mechanism.den - has(its, mechanism, place, profile, kind)
+
+    if its.rational == "ex-post":
+        for profile in its.profiles():
+            yield [agent.types[profile[place]], its.profile_name(profile)], Fraction(less(profile), mechanism.den)
+    else:
+        for kind, name in enumerate(agent.types):
+            yield [name], given(its, mechanism, place, kind, less)
+
+
+def room(its: GeneralSetting, mechanism: Mechanism, condition: program.Condition) -> int:
+    """By how much the left side of a condition is over its right side."""
+
+    def amount(parts: list[program.Part]) -> int:
+        return sum(weight * program.gain(its, mechanism, condition.agent, true, told) for weight, true, told in parts)
+
+    return amount(condition.left) - amount(condition.right) - condition.constant * mechanism.den
+
+
+# ---- an auction
+
+
+def auction_records(its: AuctionSetting, interim: auction.Interim, cuts: list[int]) -> Iterator[list[Field]]:
+    kinds = range(len(its.values))
+    whole = sum(its.weights) * interim.den
+
+    def of_all(amount: Callable[[int], int]) -> Fraction:
+        return Fraction(its.bidders * sum(weight * amount(kind) for kind, weight in enumerate(its.weights)), whole)
+
+    def gets(kind: int, told: int) -> int:
+        return its.values[kind] * interim.odds[told] - interim.pays[told]
+
+    yield ["value", *number(auction.value_of(its, interim))]
+    yield ["revenue", *number(of_all(lambda kind: interim.pays[kind]))]
+    yield ["welfare", *number(of_all(lambda kind: its.values[kind] * interim.odds[kind]))]
+    for kind in kinds:
+        utility, payment = Fraction(gets(kind, kind), interim.den), Fraction(interim.pays[kind], interim.den)
+        yield ["type", its.values[kind], *number(utility), *number(payment)]
+    if len(its.values) > 1:
+        false = [(kind, told) for kind in kinds for told in kinds if told != kind]
+        more = {pair: Fraction(gets(*pair) - gets(pair[0], pair[0]), interim.den) for pair in false}
+        yield ["gain", *first_greatest(([its.values[kind], its.values[told]], more[kind, told]) for kind, told in false)]
+    yield ["loss", *first_greatest(([its.values[kind]], Fraction(-gets(kind, kind), interim.den)) for kind in kinds)]
+    for kind in kinds:
+        for told in kinds:
+            if told != kind and gets(kind, told) == gets(kind, kind):
+                yield ["tight", f"truth/{its.values[kind]}/{its.values[told]}"]
+    for kind in kinds:
+        if gets(kind, kind) == 0:
+            yield ["tight", f"rational/{its.values[kind]}"]
+    for cut in cuts:
+        if auction.excess(its, interim, cut) == 0:
+            yield ["tight", f"cut/{cut}"]
+    yield ["end"]

@@ -1,0 +1,1 @@
+"""Pages with pictures for answers, and the gallery of them."""

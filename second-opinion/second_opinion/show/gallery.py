@@ -1,0 +1,87 @@
+"""Writes the gallery: a page for each setting of examples/ that has a stored answer, and an index of them.
+
+    second-opinion/gallery [FOLDER]
+
+FOLDER is examples/pages where none is named. The pictures of the README are written beside the pages. Files of other
+names are left as they are. The same files of examples/ give the same pages, byte for byte.
+"""
+
+import sys
+from html import escape
+from pathlib import Path
+
+from second_opinion.places import ENDING, EXAMPLES, stored_names
+from second_opinion.setting import read_setting
+from second_opinion.show.frontier import frontier_page, step_of
+from second_opinion.show.kinds import page_of, picture_of, read_answer
+from second_opinion.show.parts import document, paragraph
+from second_opinion.show.text import html_number, remark
+
+Entry = tuple[str, str, str, str, str]  # of the list: a name, a title, a kind, a value, and a remark
+
+PICTURES = {"auction-ironed", "divorce", "two-goods"}  # the examples whose lotteries or odds are stored as a picture too
+FRONTIER = ("auction-reserve", "compromise-2-1", "compromise-1-1", "compromise-1-3", "compromise-1-4")  # one auction, weighed anew
+FRONTIER_LEAD = "What can be had of revenue and welfare at once, in the auction of two bidders with a reserve price."
+
+
+def title_of(name: str) -> str:
+    """The heading of the page of an example, or its name in words."""
+    page = EXAMPLES / f"{name}.md"
+    first = page.read_text("utf-8").splitlines()[:1] if page.exists() else []
+    if first and first[0].startswith("# "):
+        return first[0][2:].strip()
+    return name.replace("-", " ").capitalize()
+
+
+def index(entries: list[Entry]) -> str:
+    """The page that lists the others."""
+    items = "".join(
+        f'<li><a href="{name}.html">{escape(title)}</a>: {escape(kind)}{value}\n<p>{escape(words)}</p></li>\n'
+        for name, title, kind, value, words in entries
+    )
+    words = paragraph(
+        "A page for each setting of the examples whose answer is stored: its lotteries as bars, its payments, what "
+        "each type gets, and the conditions that hold with equality; or of an auction its odds and payments by value, "
+        "its virtual values, and the sets of values that bind."
+    )
+    foot = paragraph("Made by <code>second-opinion/gallery</code>. All numbers are exact.")
+    heading = "Settings and their answers"
+    return document(heading, f"<h1>{heading}</h1>\n", f'{words}<ul class="pages">\n{items}</ul>\n', foot)
+
+
+def frontier() -> str:
+    """The page of the auction that is weighed anew."""
+    steps = []
+    for name in FRONTIER:
+        setting = read_setting((EXAMPLES / f"{name}.toml").read_bytes())
+        steps.append(step_of(name, setting, read_answer((EXAMPLES / (name + ENDING)).read_bytes(), setting)))
+    return frontier_page(title_of("frontier"), FRONTIER_LEAD, steps)
+
+
+def pages() -> dict[str, str]:
+    """The texts of all files, by their names."""
+    made, entries = {"frontier.html": frontier()}, []
+    entries.append(("frontier", title_of("frontier"), "the corners of a frontier", "", FRONTIER_LEAD))
+    for name in stored_names():
+        path = EXAMPLES / (name + ENDING)
+        data = (EXAMPLES / f"{name}.toml").read_bytes()
+        setting = read_setting(data)
+        answer = read_answer(path.read_bytes(), setting)
+        title = title_of(name)
+        page = page_of(setting, answer, title, [f"{name}.toml", path.name], remark(data), "index.html")
+        made[f"{name}.html"] = page.html()
+        value = f" of the value {html_number(page.value())}" if page.value() is not None else ""
+        entries.append((name, title, page.kind(), value, remark(data)))
+        if name in PICTURES:
+            made[f"{name}.svg"] = picture_of(setting, answer, title)
+    made["index.html"] = index(entries)
+    return made
+
+
+def main() -> None:
+    """Writes all files."""
+    folder = Path(sys.argv[1]) if len(sys.argv) > 1 else EXAMPLES / "pages"
+    folder.mkdir(parents=True, exist_ok=True)
+    for name, text in pages().items():
+        (folder / name).write_bytes(text.encode())
+

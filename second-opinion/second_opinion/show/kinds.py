@@ -1,0 +1,30 @@
+"""The two kinds of settings: how an answer is read, and which page shows it."""
+
+from typing import Any
+
+from second_opinion import answer, auction_answer
+from second_opinion.setting import GeneralSetting, Setting
+from second_opinion.show.auction_draw import odds_file
+from second_opinion.show.auction_facts import Sale
+from second_opinion.show.auction_page import AuctionPage
+from second_opinion.show.draw import standalone
+from second_opinion.show.facts import Play, Prior
+from second_opinion.show.page import Page
+
+
+def read_answer(data: bytes, setting: Setting) -> Any:
+    """The answer that the bytes of a file state, or `Refused`."""
+    reader = answer if isinstance(setting, GeneralSetting) else auction_answer
+    return reader.read_answer(data, setting)
+
+
+def page_of(setting: Setting, said: Any, *words: Any) -> Page | AuctionPage:
+    """The page about an answer. The words are those of `Page`."""
+    return (Page if isinstance(setting, GeneralSetting) else AuctionPage)(setting, said, *words)
+
+
+def picture_of(setting: Setting, said: Any, heading: str) -> str | None:
+    """The lotteries of an answer, or the odds of an auction, as an SVG file; None where the answer has none."""
+    if hasattr(said, "mechanism"):
+        return standalone(Play(setting, Prior(setting), said.mechanism), heading)
+    return odds_file(Sale(setting, said), heading) if hasattr(said, "interim") else None
