@@ -181,7 +181,7 @@ class Case(unittest.TestCase):
         """A repository whose program the launcher has built."""
         if not self.once:
             made = Repository(SMALL)
-            self.assertEqual(made.run("mechdes")[0], 7)
+            self.assertEqual(made.run("mechdes", "solve")[0], 7)
             self.once.append(made)
         return self.kept(self.once[0].copy())
 
@@ -517,6 +517,18 @@ class FailureTest(Case):
 
 
 class LauncherTest(Case):
+    def test_the_table_of_commands_is_printed_and_nothing_is_built(self):
+        made = self.repository()
+        shutil.copy(FOLDER.parent / "README.md", made.top)
+        commands = re.findall('"(.*)" => Some', (FOLDER.parent / "crates/md_cli_words/src/command.rt").read_text())
+        for words in ([], ["help"], ["--help"]):
+            status, out, told = made.run("mechdes", *words)
+            self.assertEqual((status, told), (0, ""), words)
+            self.assertEqual({*re.findall("^    ([a-z]+) [A-Z]", out, re.M)}, {*commands}, out)
+            self.assertIn("\nfind a best rule\n    solve SETTING: of any setting or auction\n", out)
+        self.assertEqual(made.calls(), [])
+        self.assertEqual(made.run("mechdes", "help", "solve")[:2], (7, "help solve\n"))
+
     def test_builds_and_then_runs_with_words_input_and_status(self):
         made = self.repository({"md_prog": (3, "")})
         with open(made.top / "crates.txt") as file:
