@@ -14,19 +14,13 @@ function filledGallery(select, gallery) {
     ["Auctions", gallery.filter(({ text }) => isAuction(text))],
   ];
   for (const [label, entries] of groups) {
-    const options = entries.map(({ name }) => make("option", { value: name }, titleOf(name)));
+    const options = entries.map(({ name, title }) => make("option", { value: name }, title));
     select.append(make("optgroup", { label }, options));
   }
 }
 
 function isAuction(text) {
   return /^kind = "auction"/m.test(text);
-}
-
-/** `posted-price` as `Posted price`. */
-function titleOf(name) {
-  const words = name.replaceAll("-", " ");
-  return words[0].toUpperCase() + words.slice(1);
 }
 
 /** Saves a text as a file. */

@@ -46,7 +46,7 @@ function many(count, word) {
   return `${count.toLocaleString("en")} ${word}${count === 1 ? "" : "s"}`;
 }
 
-/** The comment at the head of a setting's file, as one line. */
+/** The comment at the head of a setting's file, as one line; but for sentences that lead to a page beside the file, which is not here. */
 export function remarkOf(text) {
   const lines = text.split(/\r?\n/);
   const end = lines.findIndex((line) => !line.startsWith("#"));
@@ -54,5 +54,8 @@ export function remarkOf(text) {
     .slice(0, end < 0 ? lines.length : end)
     .map((line) => line.replace(/^#+\s*/, ""))
     .join(" ")
-    .trim();
+    .trim()
+    .split(/(?<=\.)\s+(?=[A-Z])/)
+    .filter((sentence) => !/\.md\b/.test(sentence))
+    .join(" ");
 }

@@ -31,7 +31,7 @@ from second_opinion.show.frontier import Step, corners_of, step_of
 from second_opinion.show.kinds import read_answer
 from second_opinion.show.page import Page
 from second_opinion.show.parts import ANY_PAGE
-from second_opinion.show.text import MINUS, html_name, mixed, number, set_words
+from second_opinion.show.text import MINUS, decimal, html_name, mixed, number, set_words, with_decimal
 
 EMPTY = {"meta", "br", "wbr"}
 
@@ -362,10 +362,35 @@ class Pages(unittest.TestCase):
                     self.assertEqual(root.get("aria-hidden"), "true")
             self.assertNotRegex(text, r"<script|https?:|@import|src=")
 
-    def test_no_shown_number_is_rounded(self):
+    def test_each_decimal_number_is_that_of_the_fraction_beside_it(self):
+        beside, count = r"(\u2212?\d+/\d+)(?: = \u2212?\(?\d+ \+ \d+/\d+\)?)? = (\u2212?\d+\.\d+)(\.\.)?", 0
         for name, text in gallery.pages().items():
-            shown = re.sub("<style.*?</style>|<[^>]*>", " ", text, flags=re.S)
-            self.assertNotRegex(shown, r"\d\.\d", name)
+            text = text.replace("<wbr>", "").replace("</p>\n<p class=\"soft\">", " ")
+            shown = re.sub("<style.*?</style>|<[^>]*>", "\n", text, flags=re.S)
+            for words in re.findall(beside, shown):
+                fraction, rounded = (Fraction(word.replace(MINUS, "-")) for word in words[:2])
+                left = abs(fraction) - abs(rounded)
+                self.assertTrue(0 < left < Fraction(1, 1000) if words[2] else left == 0, (name, words))
+                count += 1
+            self.assertNotRegex(re.sub(beside, "", shown), r"\d\.\d", name)
+        self.assertGreater(count, 50)
+
+    def test_links_lead_to_files(self):
+        for name, text in gallery.pages().items():
+            for target in re.findall('href="([^"]*)"', text):
+                self.assertTrue((EXAMPLES / "pages" / target).exists(), (name, target))
+            shown = re.sub("<a .*?</a>", "", text, flags=re.S)
+            self.assertNotRegex(shown, r"\.md\b", name)
+
+    def test_each_page_has_a_large_picture(self):
+        for name, text in gallery.pages().items():
+            self.assertTrue('<figure class="large"' in text or name == "index.html" or name.endswith(".svg"), name)
+
+    def test_why_there_is_no_mechanism_and_how_wide_numbers_grew(self):
+        made = gallery.pages()
+        for name, words in [("two-claims", "sum: \u22121."), ("two-claims", "profile/claimant+claimant: 3 \u00d7 1 = 3."),
+                            ("too-wide", "allowed: 62 bits. forward: 65 bits. backward: 65 bits.")]:
+            self.assertIn(words, made[f"{name}.html"])
 
     def test_contrast(self):
         schemes = [
@@ -388,6 +413,11 @@ class Words(unittest.TestCase):
         self.assertEqual(mixed(Fraction(9652, 275)), "35 + 27/275")
         self.assertEqual(mixed(Fraction(-5, 3)), "\u2212(1 + 2/3)")
         self.assertEqual((mixed(Fraction(3, 3)), mixed(Fraction(1, 2))), ("", ""))
+        decimals = [(Fraction(9652, 275), "35.098.."), (Fraction(3, 8), "0.375"), (Fraction(-2, 3), "\u22120.666.."),
+                    (Fraction(1, 2), "0.5"), (Fraction(1, 16), "0.062.."), (Fraction(1, 3000), "0.000.."), (4, "")]
+        for value, text in decimals:
+            self.assertEqual(decimal(value), text)
+        self.assertEqual(with_decimal(Fraction(5, 11)), "5/11 = 0.454..")
         self.assertEqual([place(x) for x in (Fraction(1, 3), Fraction(-1, 2), 10)], ["0.33", "-0.5", "10"])
 
     def test_names_are_escaped(self):

@@ -10,7 +10,7 @@ from second_opinion.setting import AuctionSetting
 from second_opinion.show.auction_facts import Sale, counted_values, ironed
 from second_opinion.show.bars import Bar, Bars, Group
 from second_opinion.show.draw import picture_file, text_at
-from second_opinion.show.text import number, set_words
+from second_opinion.show.text import number, set_words, with_decimal
 
 HEADING = Fraction(42, 5)  # the width of a character of a heading
 PATTERNS_USED = (0, 1)  # the plain pattern and the striped one
@@ -27,7 +27,7 @@ def odds_bars(sale: Sale) -> Bars:
     bars = []
     for value, odds in zip(auction.values, sale.odds):
         spoken = f"The value {number(value)} wins with the odds {number(odds)}"
-        bars.append(Bar(number(value), odds, number(odds), spoken, limit=1))
+        bars.append(Bar(number(value), odds, with_decimal(odds), spoken, limit=1))
     groups = [
         Group(first, last, run_words(auction, first, last, "pooled" if odds else "never win"))
         for odds, first, last in sale.pools()
@@ -41,7 +41,7 @@ def value_bars(sale: Sale) -> Bars:
     bars = []
     for value, counts in zip(auction.values, counted_values(auction)):
         spoken = f"The value {number(value)} counts {number(counts)}"
-        bars.append(Bar(number(value), counts, number(counts), spoken, key=int(counts < 0)))
+        bars.append(Bar(number(value), counts, with_decimal(counts), spoken, key=int(counts < 0)))
     groups = [
         Group(
             block.first, block.last, run_words(auction, block.first, block.last, f"ironed to {number(block.counts)}"),

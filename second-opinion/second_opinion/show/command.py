@@ -1,6 +1,7 @@
 """The command `show`: what its words ask for, and the page or the picture."""
 
 import os
+from html import escape
 
 from second_opinion.answer import FILE_LIMIT as ANSWER_LIMIT
 from second_opinion.command import read_file
@@ -42,7 +43,8 @@ def show(words: list[str]) -> tuple[int, str]:
     names = [os.path.basename(name) for name in names]
     title = title or os.path.splitext(names[0])[0]
     if not is_picture:
-        return 0, page_of(setting, answer, title, names, remark(data)).html()
+        codes = [f"<code>{escape(name)}</code>" for name in names]
+        return 0, page_of(setting, answer, title, codes, escape(remark(data))).html()
     picture = picture_of(setting, answer, title)
     if picture is None:
         raise Refused(66, "answer refused: no table")

@@ -12,7 +12,7 @@ from html import escape
 from second_opinion.setting import Profile
 from second_opinion.show.facts import Play
 from second_opinion.show.style import PATTERNS, picture_style
-from second_opinion.show.text import Number, number
+from second_opinion.show.text import Number, number, with_decimal
 
 LETTERS = "ABCDEFGHIJKLMNOP"
 CHAR = Fraction(63, 8)  # the width of a character of 13 pixels
@@ -78,7 +78,8 @@ def chance_lines(labels: Sequence[str], chances: list[Fraction]) -> list[str]:
     """The chances of a lottery as short lines of text."""
     lines = []
     for label, chance in zip(labels, chances):
-        text = number(chance)
+        text = with_decimal(chance)
+        text = text if len(text) <= LONGEST else number(chance)
         if chance and len(label) + len(text) < LONGEST:
             lines.append(f"{label} {text}")
         elif chance:

@@ -12,9 +12,9 @@ from second_opinion.auction_answer import AuctionAnswer
 from second_opinion.setting import AuctionSetting
 from second_opinion.show.auction_facts import Sale
 from second_opinion.show.draw import CHAR, LINE, picture, place, text_at
-from second_opinion.show.parts import document, figure, paragraph, section
+from second_opinion.show.parts import EXACT, document, large_figure, paragraph, section
 from second_opinion.show.tables import Cell, Head, table
-from second_opinion.show.text import html_number, number
+from second_opinion.show.text import html_number, number, with_decimal
 
 Point = tuple[Fraction, Fraction]  # revenue and welfare
 
@@ -75,7 +75,7 @@ class Chart:
     @staticmethod
     def words(point: Point) -> str:
         """What stands beside a corner."""
-        return f"{number(point[0])}, {number(point[1])}"
+        return f"{with_decimal(point[0])}, {with_decimal(point[1])}"
 
     def at(self, point: Point) -> Point:
         """Where a point lies."""
@@ -113,17 +113,15 @@ def frontier_page(title: str, lead: str, steps: list[Step]) -> str:
         [Head(link(step)), weight_words(step.weights), html_number(step.value), *map(html_number, step.point)] for step in steps
     ]
     costs = [paragraph(edge_words(one, other, edge)) for one, other, edge in zip(points, points[1:], edges)]
-    chart = figure("Revenue and welfare of the corners, exactly", Chart(points), "chart", "Revenue and welfare")
+    chart = large_figure("Revenue and welfare of the corners", Chart(points), "chart", "Revenue and welfare")
     heads = [("Setting", False), ("Weights of revenue and welfare", False), ("Value", True), ("Revenue", True), ("Welfare", True)]
-    main = section("What can be had", chart + table("Corners", [("Revenue", True), ("Welfare", True), ("Best by the weights", False)], rules))
+    corners = table("Corners", [("Revenue", True), ("Welfare", True), ("Best by the weights", False)], rules)
+    main = section("What can be had", chart + corners)
     main += section("What one costs of the other", "".join(costs))
     words = "The value of each answer is the most that any rule brings by the weights of its setting. So no rule lies beyond its line."
     main += section("The answers that show it", paragraph(words) + table("Answers", heads, rows))
     header = f'<p class="over"><a href="index.html">All pages</a></p>\n<h1>{escape(title)}</h1>\n<p class="lead">{escape(lead)}</p>\n'
-    foot = paragraph(
-        "Made by <code>second-opinion/gallery</code> from the odds and payments of the answers. All numbers are exact; "
-        "nothing is rounded but the coordinates of the picture."
-    )
+    foot = paragraph(f"Made by <code>second-opinion/gallery</code> from the odds and payments of the answers. {EXACT}")
     return document(escape(title), header, main, foot)
 
 

@@ -6,6 +6,7 @@ FOLDER is examples/pages where none is named. The pictures of the README are wri
 names are left as they are. The same files of examples/ give the same pages, byte for byte.
 """
 
+import re
 import sys
 from html import escape
 from pathlib import Path
@@ -33,10 +34,36 @@ def title_of(name: str) -> str:
     return name.replace("-", " ").capitalize()
 
 
+def linked(text: str) -> str:
+    """A text as HTML, in which the name of a file of examples/ leads to its page of the gallery, or to the file."""
+
+    def link(found: re.Match[str]) -> str:
+        name, ending = found.groups()
+        if not (EXAMPLES / found[0]).exists():
+            return found[0]
+        has_page = ending == "toml" and (EXAMPLES / (name + ENDING)).exists()
+        return f'<a href="{name}.html">{found[0]}</a>' if has_page else f'<a href="../{found[0]}">{found[0]}</a>'
+
+    return re.sub(r"([\w-]+)\.(toml|md)\b", link, escape(text))
+
+
+def file_link(name: str) -> str:
+    """The name of a file of examples/ that leads to it, as HTML."""
+    return f'<a href="../{name}"><code>{name}</code></a>'
+
+
+def lead_of(name: str, text: str) -> str:
+    """What stands below the heading of an example: the remark of its file, and where its page is."""
+    page = f"{name}.md"
+    if page in text or not (EXAMPLES / page).exists():
+        return linked(text)
+    return f'{linked(text)} Its page is <a href="../{page}">{page}</a>.'
+
+
 def index(entries: list[Entry]) -> str:
     """The page that lists the others."""
     items = "".join(
-        f'<li><a href="{name}.html">{escape(title)}</a>: {escape(kind)}{value}\n<p>{escape(words)}</p></li>\n'
+        f'<li><a href="{name}.html">{escape(title)}</a>: {escape(kind)}{value}\n<p>{linked(words)}</p></li>\n'
         for name, title, kind, value, words in entries
     )
     words = paragraph(
@@ -68,7 +95,8 @@ def pages() -> dict[str, str]:
         setting = read_setting(data)
         answer = read_answer(path.read_bytes(), setting)
         title = title_of(name)
-        page = page_of(setting, answer, title, [f"{name}.toml", path.name], remark(data), "index.html")
+        files = [file_link(f"{name}.toml"), file_link(path.name)]
+        page = page_of(setting, answer, title, files, lead_of(name, remark(data)), "index.html")
         made[f"{name}.html"] = page.html()
         value = f" of the value {html_number(page.value())}" if page.value() is not None else ""
         entries.append((name, title, page.kind(), value, remark(data)))

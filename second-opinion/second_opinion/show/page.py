@@ -7,7 +7,7 @@ from second_opinion.answer import Answer, InfeasibleAnswer, OptimalAnswer, Table
 from second_opinion.setting import GeneralSetting
 from second_opinion.show.draw import LETTERS, matrices, pattern_definitions, swatch, used_outcomes
 from second_opinion.show.facts import Condition, Play, Prior, conditions, name_of
-from second_opinion.show.parts import alert, big, big_value, figure, hidden, made_from, paragraph, section, whole
+from second_opinion.show.parts import alert, big, big_value, figure, hidden, large_figure, made_from, paragraph, section, whole
 from second_opinion.show.tables import (
     agents_table, payments_tables, prior_table, utilities_table, utility_table, value_table,
 )
@@ -28,8 +28,8 @@ KINDS = {
 
 
 class Page:
-    """A page about an answer. `names` are those of the two files, `remark` is told below the heading, and `home` is the
-    name of a page that lists this one, or None."""
+    """A page about an answer. `names` are those of the two files and `remark` is told below the heading, all as HTML; `home`
+    is the name of a page that lists this one, or None."""
 
     def __init__(
         self, setting: GeneralSetting, answer: Answer, title: str, names: list[str], remark: str = "", home: str | None = None
@@ -66,10 +66,10 @@ class Page:
             defs = pattern_definitions(used_outcomes(self.play))
             defs = hidden(defs)
             parts += [self.lotteries_section(), self.payments_section(), self.utility_section(), equal_section(self)]
-        elif isinstance(self.answer, InfeasibleAnswer):
-            parts.append(infeasible_section(self))
-        else:
+        elif isinstance(self.answer, TooWideAnswer):
             parts.append(too_wide_section(self.answer.paths))
+        else:
+            parts.append(infeasible_section(self))
         return whole(self, defs + "".join(parts))
 
     def kind(self) -> str:
@@ -129,6 +129,7 @@ class Page:
 
     def added(self) -> Play:
         """The added payments of an unbounded answer, as a mechanism without chances."""
+        assert isinstance(self.answer, UnboundedAnswer)
         nothing = [0] * len(self.setting.outcomes)
         lotteries = {profile: nothing for profile in self.mechanism.lotteries}
         return Play(self.setting, self.prior, type(self.mechanism)(self.mechanism.den, lotteries, self.answer.rays))
@@ -192,10 +193,11 @@ class Page:
         unused = [name for outcome, name in enumerate(setting.outcomes) if outcome not in used]
         if unused:
             text += paragraph(f"Never chosen: {escape(', '.join(unused))}.")
-        figures = []
-        for place, matrix in enumerate(matrices(self.play)):
+        figures, drawn = [], matrices(self.play)
+        sized = large_figure if len(drawn) == 1 else figure
+        for place, matrix in enumerate(drawn):
             caption = ", ".join(f"{agent.name}: {agent.types[own]}" for agent, own in matrix.fixed)
-            figures.append(figure(caption, matrix, f"chances{place}", matrix.title()))
+            figures.append(sized(caption, matrix, f"chances{place}", matrix.title()))
         return section("The mechanism: chances", text + '<div class="flow">\n' + "".join(figures) + "</div>\n")
 
     def payments_section(self) -> str:

@@ -5,10 +5,15 @@ from html import escape
 from typing import Protocol
 
 from second_opinion.show.style import page_style
-from second_opinion.show.text import Number, html_number, mixed
+from second_opinion.show.text import Number, decimal, html_number, mixed
 
 NARROWEST = 180  # pixels of a picture with its caption, at least
 ANY_PAGE = 320  # pixels that fit on any page
+EXACT = (
+    "All whole numbers and fractions are exact. A decimal number with two dots behind it is rounded toward 0; nothing else is "
+    "rounded but the coordinates of the pictures."
+)
+LARGE = 2  # how many times as large the main picture of a page is, where the page is wide enough
 
 
 class Drawing(Protocol):
@@ -46,13 +51,19 @@ def alert(strong: str, words: str) -> str:
     return f'<div class="verdict bad">\n<p><strong>{strong}</strong> {words}</p>\n</div>\n'
 
 
-def figure(caption: str, drawn: Drawing, name: str, label: str) -> str:
+def large_figure(caption: str, drawn: Drawing, name: str, label: str) -> str:
+    """The same in a size that can be read from afar: it fills the page as far as it can."""
+    return figure(caption, drawn, name, label, LARGE)
+
+
+def figure(caption: str, drawn: Drawing, name: str, label: str, times: int = 1) -> str:
     """A picture that scrolls where it is wider than the page. Its caption is no wider than it is."""
-    wide = max(NARROWEST, int(drawn.width) + 2)
-    scroll = f' role="region" tabindex="0" aria-label="{escape(label)}"' if wide > ANY_PAGE else ""
+    wide = times * max(NARROWEST, int(drawn.width) + 2)
+    classes = ' class="large"' if times > 1 else ""
+    scroll = f' role="region" tabindex="0" aria-label="{escape(label)}"' if wide > times * ANY_PAGE else ""
     caption = f"<figcaption>{escape(caption)}</figcaption>\n" if caption else ""
     picture = f'<div class="scroll"{scroll}>\n{drawn.svg(name)}\n</div>\n'
-    return f'<figure style="width:{wide}px">\n{caption}{picture}</figure>\n'
+    return f'<figure{classes} style="width:{wide}px">\n{caption}{picture}</figure>\n'
 
 
 def hidden(definitions: str) -> str:
@@ -61,18 +72,15 @@ def hidden(definitions: str) -> str:
 
 
 def made_from(names: list[str]) -> str:
-    """Where a page comes from: the names of its two files."""
-    setting, answer = (f"<code>{escape(name)}</code>" for name in names)
-    return paragraph(
-        f"Made by <code>second-opinion/show</code> from {setting} and {answer}. All numbers are exact; nothing is "
-        "rounded but the coordinates of the pictures."
-    )
+    """Where a page comes from: the names of its two files, as HTML."""
+    setting, answer = names
+    return paragraph(f"Made by <code>second-opinion/show</code> from {setting} and {answer}. {EXACT}")
 
 
 def whole(page: AnyPage, main: str) -> str:
     """A page about an answer around its sections: its title, what is told below it, and its foot."""
     over = f'<a href="{escape(page.home)}">All pages</a>' if page.home else "A setting and its answer"
-    lead = f'<p class="lead">{escape(page.remark)}</p>\n' if page.remark else ""
+    lead = f'<p class="lead">{page.remark}</p>\n' if page.remark else ""
     title = escape(page.title)
     header = f'<p class="over">{over}</p>\n<h1>{title}</h1>\n{lead}'
     return document(f"{title}: {page.kind()}", header, main, page.foot())
@@ -95,5 +103,5 @@ def big(text: str) -> str:
 
 def big_value(value: Fraction) -> str:
     """The value of a mechanism, in large digits."""
-    rest = mixed(value).replace("/", "/<wbr>")
+    rest = " = ".join(filter(None, [mixed(value).replace("/", "/<wbr>"), decimal(value)]))
     return big(f"Value {html_number(value)}") + (f'<p class="soft">= {rest}</p>\n' if rest else "")

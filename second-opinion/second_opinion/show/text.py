@@ -31,6 +31,23 @@ def mixed(value: Number) -> str:
     return text if value > 0 else f"{MINUS}({text})"
 
 
+def decimal(value: Number) -> str:
+    """A number that is not whole as a decimal one: exact where three places are enough, else rounded toward 0 with two dots
+    behind, such as `35.098..`; empty where it is whole."""
+    value = Fraction(value)
+    if value.denominator == 1:
+        return ""
+    thousandths, rest = divmod(abs(value) * 1000, 1)
+    whole, places = divmod(thousandths, 1000)
+    text = f"{whole}.{places:03}"
+    return (MINUS if value < 0 else "") + (f"{text}.." if rest else text.rstrip("0"))
+
+
+def with_decimal(value: Number) -> str:
+    """A number as text, and as a decimal one where it is not whole: `5/11 = 0.454..`."""
+    return " = ".join(filter(None, [number(value), decimal(value)]))
+
+
 def html_number(value: Number) -> str:
     """The same for HTML, where a long fraction may break behind its stroke."""
     text = number(value)
@@ -124,7 +141,7 @@ def objective_words(setting: GeneralSetting) -> str:
         parts.append((setting.revenue, "revenue (what the agents pay)"))
     if any(setting.values):
         listing = ", ".join(f"{name} {number(worth)}" for name, worth in zip(setting.outcomes, setting.values))
-        parts.append((1, f"the designer\N{RIGHT SINGLE QUOTATION MARK}s own value of the outcome ({listing})"))
+        parts.append((1, f"value of the outcome to the designer ({listing})"))
     return sum_words(parts) if parts else "nothing: every mechanism has the value 0"
 
 

@@ -1,23 +1,27 @@
 """The sections of a page that tell why the answer is as it is: the conditions that hold with equality and their
 multipliers, the rows that show that there is no mechanism, and the entries that grew too wide."""
 
+from fractions import Fraction
 from html import escape
 from typing import TYPE_CHECKING
 
-from second_opinion.answer import OptimalAnswer, Path
+from second_opinion.answer import InfeasibleAnswer, OptimalAnswer, Path
 from second_opinion.setting import GeneralSetting
 from second_opinion.show.arrows import lines_of
+from second_opinion.show.bars import Bar, Bars
+from second_opinion.show.draw import pattern_definitions
 from second_opinion.show.facts import Condition, contradiction, name_of, terms_of
-from second_opinion.show.parts import alert, figure, paragraph, section
+from second_opinion.show.parts import alert, figure, hidden, large_figure, paragraph, section
 from second_opinion.show.tables import Cell, head, multiplier_text, numeric, table
-from second_opinion.show.text import condition_words, count, html_name, html_number, inequality, listed, number
+from second_opinion.show.text import TIMES, condition_words, count, html_name, html_number, inequality, listed, number
 
 if TYPE_CHECKING:
     from second_opinion.show.page import Page
 
 MANY_ROWS = 200  # beyond this the conditions of a table are named, and not told in words
 MANY_NAMES = 50  # the same of a list
-MANY_ARROWS = 40  # beyond this no picture of arrows is drawn
+MANY_ARROWS = 40  # beyond this no picture of arrows, nor of rows, is drawn
+WIDTH = 62  # bits that a number may have where no width is asked for
 FEW_TERMS = 12  # up to this an inequality is written out
 KINDS = [("truth", "truth"), ("rational", "rationality"), ("deficit", "no deficit")]
 
@@ -73,6 +77,7 @@ def arrows(page: "Page", rows: list[Condition], weighed: set[int]) -> str:
 
 def weighed_table(page: "Page", weighed: list[Condition]) -> str:
     """The conditions with a positive multiplier, and how many rows of chances the proof weighs beside them."""
+    assert isinstance(page.answer, OptimalAnswer)
     bound, multipliers = page.answer.bound, page.answer.multipliers
     told = len(weighed) <= MANY_ROWS
 
@@ -112,9 +117,33 @@ def row_list(setting: GeneralSetting, rows: list[Condition]) -> str:
     return f'<ul class="names">\n{"".join(items)}</ul>\n'
 
 
+def sum_bars(page: "Page", weights: dict[int, int]) -> Bars:
+    """The right side of each row as often as its multiplier says, and their sum; the striped ones are below 0."""
+    parts = []
+    for index, weight in weights.items():
+        _, right = terms_of(page.setting, page.prior, page.rows[index])
+        parts.append((name_of(page.setting, page.rows[index]), f"{number(weight)} {TIMES} {number(right)}", weight * right))
+    parts.append(("sum", "", sum(amount for _, _, amount in parts)))
+    bars = []
+    for name, product, amount in parts:
+        text = " = ".join(filter(None, [product, number(amount)]))
+        bars.append(Bar(name, Fraction(amount), text, f"{name}: {text}", key=int(amount < 0)))
+    return Bars("What the right sides add to", bars)
+
+
+def width_bars(paths: list[Path]) -> Bars:
+    """How many bits the entry has at which each path ended, and how many were allowed where none were asked for."""
+    bars = [Bar("allowed", Fraction(WIDTH), f"{WIDTH} bits", f"allowed: {WIDTH} bits")]
+    for name, (_, (_, _, num, _)) in zip(["forward", "backward"], paths):
+        bits = abs(num).bit_length()
+        bars.append(Bar(name, Fraction(bits), f"{bits} bits", f"{name}: {bits} bits", key=1))
+    return Bars("Bits of the entry at which a path ended", bars)
+
+
 def infeasible_section(page: "Page") -> str:
     """The rows whose sum no mechanism can meet."""
     setting, prior = page.setting, page.prior
+    assert isinstance(page.answer, InfeasibleAnswer)
     weights = {index: face for index, (face, _) in page.answer.multipliers.items() if face}
     right = contradiction(setting, prior, weights)
     rows: list[list[Cell]] = []
@@ -129,7 +158,11 @@ def infeasible_section(page: "Page") -> str:
         name = head(html_name(name_of(setting, row)))
         rows.append([(str(index), "num"), name, (words, "wide"), (f"<code>{form}</code>", "wide"), numeric(weight)])
     heads = [("Row", True), ("Name", False), ("Demands", False), ("As a row of the linear program", False)]
-    text = table("The conditions that cannot be met together", [*heads, ("Multiplier", True)], rows)
+    text = ""
+    if len(rows) <= MANY_ARROWS:
+        text += hidden(pattern_definitions([0, 1]))
+        text += large_figure("What the right sides add to", sum_bars(page, weights), "sum", "What the right sides add to")
+    text += table("The conditions that cannot be met together", [*heads, ("Multiplier", True)], rows)
     if right is None:
         return section("Why there is none", text + alert("This answer is wrong.", "These multipliers do not show it."))
     text += paragraph(
@@ -154,6 +187,8 @@ def too_wide_section(paths: list[Path], factor: str = "all utilities of an agent
         "The search goes from basis to basis by pivots, and keeps whole numbers over one denominator. It rounds "
         "nothing: where an entry has more bits than the width (62 where none was asked for), it says so and ends."
     )
+    text += hidden(pattern_definitions([0, 1]))
+    text += large_figure("Bits of the entry at which a path ended", width_bars(paths), "bits", "Bits of the entries")
     text += table("The first entry of each path that is too wide", [*heads, ("Bits of the entry", True)], rows)
     text += paragraph(
         f"What helps is to ask the same question in fewer digits: take out a factor that {factor} have in common, or "
