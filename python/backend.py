@@ -11,16 +11,18 @@ import sysconfig
 import tarfile
 import tomllib
 import zipfile
+from typing import Any, TypeAlias
 
 HERE = pathlib.Path(__file__).resolve().parent
 LIBRARY = HERE / "mechdes/libmechdes.so"
+Settings: TypeAlias = dict[str, Any] | None
 
 
-def _project():
+def _project() -> dict[str, Any]:
     return tomllib.loads((HERE / "pyproject.toml").read_text())["project"]
 
 
-def _metadata(project):
+def _metadata(project: dict[str, Any]) -> bytes:
     """What pip is told of the package."""
     lines = ["Metadata-Version: 2.1", f"Name: {project['name']}", f"Version: {project['version']}"]
     lines += [f"Summary: {project['description']}", f"Requires-Python: {project['requires-python']}"]
@@ -29,13 +31,13 @@ def _metadata(project):
     return "\n".join([*lines, ""]).encode()
 
 
-def _package():
+def _package() -> dict[str, bytes]:
     """The files of the package: its modules, the mark that they have types, and the library where it was built."""
     found = [*sorted(HERE.glob("mechdes/*.py")), HERE / "mechdes/py.typed", *([LIBRARY] if LIBRARY.exists() else [])]
     return {path.relative_to(HERE).as_posix(): path.read_bytes() for path in found}
 
 
-def _write_wheel(folder, files, tag):
+def _write_wheel(folder: str, files: dict[str, bytes], tag: str) -> str:
     """Writes a wheel of files, with what describes it, and gives its name."""
     project = _project()
     name = f"{project['name']}-{project['version']}"
@@ -55,18 +57,18 @@ def _write_wheel(folder, files, tag):
     return f"{name}-{tag}.whl"
 
 
-def build_wheel(wheel_directory, config_settings=None, metadata_directory=None):
+def build_wheel(wheel_directory: str, config_settings: Settings = None, metadata_directory: str | None = None) -> str:
     """A wheel of the package."""
     machine = sysconfig.get_platform().replace("-", "_").replace(".", "_") if LIBRARY.exists() else "any"
     return _write_wheel(wheel_directory, _package(), f"py3-none-{machine}")
 
 
-def build_editable(wheel_directory, config_settings=None, metadata_directory=None):
+def build_editable(wheel_directory: str, config_settings: Settings = None, metadata_directory: str | None = None) -> str:
     """A wheel that names this folder, for `pip install -e`."""
     return _write_wheel(wheel_directory, {"mechdes.pth": f"{HERE}\n".encode()}, "py3-none-any")
 
 
-def build_sdist(sdist_directory, config_settings=None):
+def build_sdist(sdist_directory: str, config_settings: Settings = None) -> str:
     """An archive of what a wheel is made from, without the library."""
     project = _project()
     name = f"{project['name']}-{project['version']}"

@@ -9,6 +9,7 @@ which are found exactly: where two ways bring the same, the seller changes from 
 """
 
 import itertools
+from collections.abc import Callable, Mapping
 from fractions import Fraction
 
 import mechdes
@@ -37,20 +38,20 @@ utility = [[0, 1, 0, 1], [0, 0, 2, 2], [0, 3, 3, 6]]
 class Way:
     """A way to sell: what the buyers of the first two kinds pay, and what one of the third kind pays."""
 
-    def __init__(self, payments):
+    def __init__(self, payments: Mapping[str, Fraction]) -> None:
         self.others = payments["only_first"] + payments["only_second"]
         self.third = payments["both"]
 
-    def brings(self, weight):
+    def brings(self, weight: Fraction) -> Fraction:
         """What it brings of one buyer, where the third kind has this weight."""
         return (self.others + weight * self.third) / (2 + weight)
 
-    def meets(self, other):
+    def meets(self, other: "Way") -> Fraction:
         """The weight at which both ways bring the same."""
         return (self.others - other.others) / (other.third - self.third)
 
 
-def best_mechanism(weight):
+def best_mechanism(weight: Fraction) -> Way:
     """The best way of all, with the checker's word on it."""
     setting = SETTING.format(others=weight.denominator, weight=weight.numerator)
     answer = mechdes.solve(setting)
@@ -58,20 +59,20 @@ def best_mechanism(weight):
     return Way({kind: answer.payments[kind,]["buyer"] for kind in VALUES})
 
 
-def payments_at(first, second, both):
+def payments_at(first: int, second: int, both: int) -> dict[str, Fraction]:
     """What each kind pays at a list of prices; a buyer that is torn takes what costs more."""
     bundles = [(0, 0, 0), (1, 0, first), (0, 1, second), (1, 1, both)]
     return {kind: Fraction(max((a * x + b * y - price, price) for x, y, price in bundles)[1])
             for kind, (a, b) in VALUES.items()}
 
 
-def best_price_list(weight):
+def best_price_list(weight: Fraction) -> Way:
     """The best list of prices, by trying all: each good, and both together, at 0 to 6."""
     ways = (Way(payments_at(*prices)) for prices in itertools.product(range(7), repeat=3))
     return max(ways, key=lambda way: way.brings(weight))
 
 
-def breakpoints(best, low, high):
+def breakpoints(best: Callable[[Fraction], Way], low: Fraction, high: Fraction) -> list[Fraction]:
     """The weights between two at which the best way changes."""
     at_low, at_high = best(low), best(high)
     if at_low.brings(high) == at_high.brings(high) or at_high.brings(low) == at_low.brings(low):
@@ -82,7 +83,7 @@ def breakpoints(best, low, high):
     return breakpoints(best, low, middle) + breakpoints(best, middle, high)
 
 
-def main():
+def main() -> None:
     low, high = Fraction(1, 100), Fraction(6)
     lists, mechanisms = breakpoints(best_price_list, low, high), breakpoints(best_mechanism, low, high)
     print("the best price list changes at W =", *lists)

@@ -18,7 +18,7 @@ import mechdes
 EXAMPLES = pathlib.Path(__file__).resolve().parent.parent / "examples"
 
 
-def divorce():
+def divorce() -> None:
     """A couple that parts has a painting. Each of the two likes it little or much, and only the own type is known."""
     setting = EXAMPLES / "divorce.toml"
     answer = mechdes.solve(setting)                      # a path, a text or a value; what comes is a value
@@ -32,7 +32,7 @@ def divorce():
     print("the best rule without a lottery has the value", rule.value)
 
 
-def price():
+def price() -> None:
     """A buyer values an item 1 or 3, both as likely. The setting is made in Python, and shown as the file that it stands for."""
     buyer = mechdes.Agent("buyer", types=["low", "high"], weights=[1, 1], utility=[[0, 1], [0, 3]])
     revenue = mechdes.Objective(revenue=1)
@@ -45,7 +45,7 @@ def price():
     print("the file begins with", setting.to_toml().splitlines()[0])
 
 
-def auction():
+def auction() -> None:
     """An item for two bidders who value it 2, 3 or 6. The setting is made in Python."""
     setting = mechdes.Auction(bidders=2, values=[2, 3, 6], weights=[2, 1, 1])
     answer = mechdes.solve(setting)
@@ -58,7 +58,7 @@ def auction():
     print("where 3 and 2 are reported, the chances are", *answer.mechanism.chances([3, 2]))
 
 
-def reserve_prices():
+def reserve_prices() -> None:
     """What the item is worth to the seller, from nothing on, and the least value that it is then sold to."""
     settings = [mechdes.Auction(bidders=2, values=[1, 2, 3, 4, 5], weights=[1, 1, 1, 1, 1], keep=keep) for keep in range(7)]
     print("kept for  brings  sold from")
@@ -68,13 +68,13 @@ def reserve_prices():
         print(f"{setting.keep:8}  {answer.value!s:6}  {min(sold, default='never')}")
 
 
-def held(times=1000, seed=1):
+def held(times: int = 1000, seed: int = 1) -> None:
     """The auction is held many times, with values drawn by the weights, and with the draws that the rule asks for."""
     setting = mechdes.Auction(bidders=2, values=[2, 3, 6], weights=[2, 1, 1])
     answer = mechdes.solve(setting)
     assert isinstance(answer, mechdes.AuctionOptimal)
     source = random.Random(seed)                         # for a sale that counts take the default, which nobody can foresee
-    paid, wins, had = Fraction(0), collections.Counter(), collections.Counter()
+    paid, wins, had = Fraction(0), collections.Counter[int](), collections.Counter[int]()
     for _ in range(times):
         reports = source.choices(setting.values, setting.weights, k=setting.bidders)
         drawn = mechdes.draw(setting, answer, reports, source)
@@ -87,7 +87,7 @@ def held(times=1000, seed=1):
         print(f"a bidder with {value} won {wins[value] / had[value]:.3f} of the time; its odds are {float(odds):.3f}")
 
 
-def compromises():
+def compromises() -> None:
     """What can be had of revenue and welfare at once: all corners, exactly."""
     found = mechdes.frontier(EXAMPLES / "auction-reserve.toml", "revenue", "welfare")
     for corner in found.corners:
@@ -95,7 +95,7 @@ def compromises():
     print("at a revenue of 14/5 the most welfare is", found.best(Fraction(14, 5)))
 
 
-def refusals():
+def refusals() -> None:
     """What the program refuses is an exception, which says why."""
     try:
         mechdes.solve(mechdes.Auction(bidders=2, values=[3, 2], weights=[1, 1]))
@@ -103,7 +103,7 @@ def refusals():
         print("Values must ascend. The program says:", refused)
 
 
-def main():
+def main() -> None:
     for part in (divorce, price, auction, reserve_prices, held, compromises, refusals):
         print(f"-- {part.__name__.replace('_', ' ')}")
         part()

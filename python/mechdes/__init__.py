@@ -15,12 +15,13 @@ a `Refused`, with its status and its line. `sweep` solves many settings side by 
 objectives. `python/build` makes the library that is loaded at the first call; where it is missing, `LibraryMissing` says so.
 """
 
-from ._library import call, library_path, load
+from ._library import Caller, Library, Reply, call, library, library_path, use
 from .answers import (
     Answer,
     Audit,
     AuctionOptimal,
     Basis,
+    Bounded,
     Branch,
     Draw,
     Drill,
@@ -87,6 +88,8 @@ from .errors import (
 )
 from .frontiers import Corner, Edge, Frontier, draw_frontier, frontier
 from .mechanisms import AuctionMechanism, Mechanism, SaleMechanism
+from .reading import parse
+from .records import Printed
 from .settings import Agent, AnySetting, Auction, Objective, Profile, Setting, SettingLike, read_setting
 from .sweeps import solve_all, sweep
 
@@ -102,7 +105,9 @@ __all__ = [
     "AuctionOptimal",
     "Audit",
     "Basis",
+    "Bounded",
     "Branch",
+    "Caller",
     "Corner",
     "Draw",
     "Drill",
@@ -113,6 +118,7 @@ __all__ = [
     "GeneralOptimal",
     "Infeasible",
     "Leaf",
+    "Library",
     "LibraryMissing",
     "Mechanism",
     "MechdesError",
@@ -122,11 +128,13 @@ __all__ = [
     "Objective",
     "Optimal",
     "OutOfMemory",
+    "Printed",
     "Profile",
     "Program",
     "Realised",
     "Refused",
     "Replay",
+    "Reply",
     "Report",
     "Row",
     "Rule",
@@ -161,9 +169,10 @@ __all__ = [
     "fair",
     "frontier",
     "iron",
+    "library",
     "library_path",
-    "load",
     "make",
+    "parse",
     "read",
     "read_setting",
     "realise",
@@ -175,4 +184,5 @@ __all__ = [
     "solve_all",
     "sweep",
     "units",
+    "use",
 ]

@@ -1,34 +1,61 @@
-"""What the commands answer, as values. All numbers are exact: whole numbers and `fractions.Fraction`."""
+"""What the commands answer, as values. All numbers are exact: whole numbers and `fractions.Fraction`; and each value writes the text
+that it was read from."""
 
 from __future__ import annotations
 
 import dataclasses
-from collections.abc import Mapping
+from collections.abc import Iterator, Mapping, Sequence
 from fractions import Fraction
-from typing import TYPE_CHECKING, Any
+from typing import TYPE_CHECKING, Any, ClassVar
 
-from .mechanisms import AuctionMechanism, Counts, Mechanism, Payments, SaleMechanism
-from .settings import Profile
+from .mechanisms import AuctionMechanism, Counts, Mechanism, Payments, SaleMechanism, by_profile, mass_records
+from .records import Printed, Record, terms, units
+from .settings import AnySetting, Auction, Profile, Setting
 
 if TYPE_CHECKING:
     import pandas
 
 
-@dataclasses.dataclass(frozen=True, kw_only=True)
-class Answer:
-    """What every answer has: the text that the program printed, which `str` gives, and its kind (`general`, `auction`, `fair`,
-    `asym`, `units`, `determ`)."""
+def elements(setting: AnySetting) -> tuple[Any, ...]:
+    """What the sets of cuts have: the values of an auction, or pairs of an agent and a type."""
+    if isinstance(setting, Auction):
+        return tuple(setting.values)
+    return tuple((agent.name, name) for agent in setting.agents for name in agent.types)
 
-    text: str = dataclasses.field(repr=False)
+
+def _set_number(elements: Sequence[Any], members: frozenset[Any]) -> int:
+    """A set as the sum of 2^j over the places j of its members. Raises `ValueError` for a member that is none of the elements."""
+    return sum(1 << elements.index(member) for member in members)
+
+
+def _cut_records(setting: AnySetting, cuts: tuple[frozenset[Any], ...]) -> Iterator[Record]:
+    every = elements(setting)
+    for cut in cuts:
+        yield "cut", _set_number(every, cut)
+
+
+@dataclasses.dataclass(frozen=True, kw_only=True)
+class Answer(Printed):
+    """What every answer has: the setting that it answers, its kind (`general`, `auction`, `fair`, `asym`, `units`, `determ`), and
+    its word (`optimal`, `infeasible`, `unbounded`, `toowide`, `table` or `undecided`)."""
+
+    setting: Any = dataclasses.field(repr=False)
     kind: str
+    word: ClassVar[str]
 
     @property
-    def word(self) -> str:
-        """The word of the answer: `optimal`, `infeasible`, `unbounded`, `toowide`, `table` or `undecided`."""
-        return self.text.partition("\n")[0].rpartition(",")[2].strip()
+    def version(self) -> int:
+        """The version of the text."""
+        return 1
 
-    def __str__(self) -> str:
-        return self.text
+    def records(self) -> Iterator[Record]:
+        yield "answer", self.version, self.kind, self.word
+        yield from self._inner()
+        yield ("end",)
+
+    def _inner(self) -> Iterator[Record]:
+        """The records between the first and the last."""
+        raise NotImplementedError
 
 
 @dataclasses.dataclass(frozen=True)
@@ -40,19 +67,45 @@ class Multiplier:
     main: Fraction | None = None
 
 
+def _face_records(multipliers: tuple[Multiplier, ...]) -> Iterator[Record]:
+    for multiplier in multipliers:
+        yield "row", multiplier.row, multiplier.face
+
+
+def _bound_records(bound: int, multipliers: tuple[Multiplier, ...]) -> Iterator[Record]:
+    yield "bound", bound
+    for multiplier in multipliers:
+        yield "row", multiplier.row, multiplier.face, units(multiplier.main or 0, bound)
+
+
 @dataclasses.dataclass(frozen=True, kw_only=True)
 class Optimal(Answer):
     """An answer with a best mechanism. `value` is its exact value; each kind of answer has its own `mechanism`."""
 
+    word = "optimal"
     value: Fraction
 
 
 @dataclasses.dataclass(frozen=True, kw_only=True)
-class GeneralOptimal(Optimal):
-    """A best mechanism of a general setting, with multipliers that show that no other has a greater value."""
+class Bounded(Optimal):
+    """A best mechanism with multipliers of one program, which show that no other has a greater value. `bound` is the denominator of
+    the main ones."""
 
-    mechanism: Mechanism
+    bound: int
     multipliers: tuple[Multiplier, ...]
+
+
+@dataclasses.dataclass(frozen=True, kw_only=True)
+class GeneralOptimal(Bounded):
+    """A best mechanism of a general setting."""
+
+    setting: Setting = dataclasses.field(repr=False)
+    mechanism: Mechanism
+
+    def _inner(self) -> Iterator[Record]:
+        yield "value", *terms(self.value)
+        yield from self.mechanism.records(self.setting)
+        yield from _bound_records(self.bound, self.multipliers)
 
     @property
     def lotteries(self) -> Mapping[Profile, Mapping[str, Fraction]]:
@@ -75,12 +128,18 @@ class Fairest(GeneralOptimal):
 
 
 @dataclasses.dataclass(frozen=True, kw_only=True)
-class AuctionOptimal(Optimal):
+class AuctionOptimal(Bounded):
     """A best mechanism of an auction. `cuts` are the sets of values that are rows of its last program."""
 
+    setting: Auction = dataclasses.field(repr=False)
     mechanism: AuctionMechanism
     cuts: tuple[frozenset[int], ...]
-    multipliers: tuple[Multiplier, ...]
+
+    def _inner(self) -> Iterator[Record]:
+        yield "value", *terms(self.value)
+        yield from self.mechanism.records()
+        yield from _cut_records(self.setting, self.cuts)
+        yield from _bound_records(self.bound, self.multipliers)
 
     @property
     def odds(self) -> Mapping[int, Fraction]:
@@ -108,12 +167,18 @@ class UnitsOptimal(AuctionOptimal):
 
 
 @dataclasses.dataclass(frozen=True, kw_only=True)
-class SaleOptimal(Optimal):
+class SaleOptimal(Bounded):
     """A best mechanism of a sale (`asym`). `cuts` are sets of pairs of an agent and a type."""
 
+    setting: Setting = dataclasses.field(repr=False)
     mechanism: SaleMechanism
     cuts: tuple[frozenset[tuple[str, str]], ...]
-    multipliers: tuple[Multiplier, ...]
+
+    def _inner(self) -> Iterator[Record]:
+        yield "value", *terms(self.value)
+        yield from self.mechanism.records(self.setting)
+        yield from _cut_records(self.setting, self.cuts)
+        yield from _bound_records(self.bound, self.multipliers)
 
     def to_pandas(self) -> pandas.DataFrame:
         """The odds and pays as a table."""
@@ -136,18 +201,45 @@ class Branch(Node):
 
 @dataclasses.dataclass(frozen=True)
 class Leaf(Node):
-    """A node that does not branch: with a best mechanism of its program, lotteries among them; or None where there is none."""
+    """A node that does not branch: with a best mechanism of its program, lotteries among them, and the denominator of its main
+    multipliers; or None for both where no mechanism meets the program."""
 
     mechanism: Mechanism | None
     multipliers: tuple[Multiplier, ...]
+    bound: int | None = None
+
+
+def _tree_records(setting: Setting, tree: tuple[Node, ...]) -> Iterator[Record]:
+    ranks = {profile: rank for rank, profile in enumerate(setting.profiles())}
+    for node in tree:
+        if isinstance(node, Branch):
+            yield "branch", ranks[node.profile]
+        elif isinstance(node, Leaf):
+            yield from _leaf_records(setting, node)
+
+
+def _leaf_records(setting: Setting, leaf: Leaf) -> Iterator[Record]:
+    if leaf.mechanism is None or leaf.bound is None:
+        yield "leaf", "infeasible"
+        yield from _face_records(leaf.multipliers)
+        return
+    yield "leaf", "optimal"
+    yield from leaf.mechanism.records(setting)
+    yield from _bound_records(leaf.bound, leaf.multipliers)
 
 
 @dataclasses.dataclass(frozen=True, kw_only=True)
 class Rule(Optimal):
     """A best deterministic mechanism (`determ`). `tree` has the nodes of the search in their order, numbered from 0."""
 
+    setting: Setting = dataclasses.field(repr=False)
     mechanism: Mechanism
     tree: tuple[Node, ...]
+
+    def _inner(self) -> Iterator[Record]:
+        yield "value", *terms(self.value)
+        yield from self.mechanism.records(self.setting)
+        yield from _tree_records(self.setting, self.tree)
 
     @property
     def outcomes(self) -> dict[Profile, str]:
@@ -180,51 +272,110 @@ class Rule(Optimal):
 class Infeasible(Answer):
     """No mechanism meets the conditions, as the multipliers show; of `determ` no deterministic one does, as the tree shows."""
 
+    word = "infeasible"
+    setting: Setting = dataclasses.field(repr=False)
     multipliers: tuple[Multiplier, ...] = ()
     tree: tuple[Node, ...] = ()
+
+    def _inner(self) -> Iterator[Record]:
+        yield from _face_records(self.multipliers)
+        yield from _tree_records(self.setting, self.tree)
 
 
 @dataclasses.dataclass(frozen=True, kw_only=True)
 class Unbounded(Answer):
     """The objective has no bound: the payments of `ray` may be added to the mechanism again and again, and gain each time."""
 
+    word = "unbounded"
+    setting: Setting = dataclasses.field(repr=False)
     mechanism: Mechanism
     ray: Payments
+
+    def _inner(self) -> Iterator[Record]:
+        yield from self.mechanism.records(self.setting)
+        yield from by_profile("ray", self.ray, self.setting, self.setting.agent_names, self.mechanism.denominator)
 
 
 @dataclasses.dataclass(frozen=True, kw_only=True)
 class Table(Answer):
     """A mechanism of which nothing is claimed."""
 
+    word = "table"
+    setting: Setting = dataclasses.field(repr=False)
+    kind: str = "general"
     mechanism: Mechanism
+
+    def _inner(self) -> Iterator[Record]:
+        yield from self.mechanism.records(self.setting)
 
 
 @dataclasses.dataclass(frozen=True)
 class WidePath:
-    """A path to a basis that is too wide: pairs of a row and a column, and the first entry that is too wide, with its place."""
+    """A path to a basis that is too wide: pairs of a row and a column, and the first entry that is too wide, with its place. The
+    entry has the denominator of its dictionary, and need not be in least terms."""
 
     pivots: tuple[tuple[int, int], ...]
     row: int
     column: int
-    entry: Fraction
+    numerator: int
+    denominator: int
+
+    @property
+    def entry(self) -> Fraction:
+        """The entry as a fraction."""
+        return Fraction(self.numerator, self.denominator)
+
+    def records(self) -> Iterator[Record]:
+        """The pivots, and the wide entry."""
+        for pivot in self.pivots:
+            yield "pivot", *pivot
+        yield "wide", self.row, self.column, self.numerator, self.denominator
 
 
 @dataclasses.dataclass(frozen=True, kw_only=True)
 class TooWide(Answer):
     """Numbers grew too wide on each path: nothing is known of the setting. Of an auction ask `iron`."""
 
+    word = "toowide"
+    setting: AnySetting = dataclasses.field(repr=False)
     paths: tuple[WidePath, ...]
     cuts: tuple[frozenset[Any], ...] = ()
     fixed: Mapping[Profile, str] = dataclasses.field(default_factory=dict)
+
+    @property
+    def version(self) -> int:
+        """2 where `solve` tells of two paths, else 1."""
+        return 2 if self.kind in ("general", "auction") and len(self.paths) == 2 else 1
+
+    def _inner(self) -> Iterator[Record]:
+        yield from _cut_records(self.setting, self.cuts)
+        yield from self._fixed_records()
+        for place, path in enumerate(self.paths):
+            if place:
+                yield ("again",)
+            yield from path.records()
+
+    def _fixed_records(self) -> Iterator[Record]:
+        if isinstance(self.setting, Setting):
+            for rank, profile in enumerate(self.setting.profiles()):
+                if profile in self.fixed:
+                    yield "fix", rank, self.setting.outcomes.index(self.fixed[profile])
 
 
 @dataclasses.dataclass(frozen=True, kw_only=True)
 class Undecided(Answer):
     """`iron`: the multipliers in closed form have more than 62 bits."""
 
+    word = "undecided"
+    setting: Auction = dataclasses.field(repr=False)
+    kind: str = "auction"
+
+    def records(self) -> Iterator[Record]:
+        yield (self.word,)
+
 
 @dataclasses.dataclass(frozen=True)
-class Verdict:
+class Verdict(Printed):
     """What `check` or `determcheck` says. It is true exactly where the word is `valid`.
 
     word       `valid`, `undecided` (the answer claims nothing) or `rejected`
@@ -241,13 +392,15 @@ class Verdict:
     def __bool__(self) -> bool:
         return self.word == "valid"
 
+    def records(self) -> Iterator[Record]:
+        yield self.word, *(part for part in (self.condition, self.name, *self.numbers) if part is not None)
+
     def __str__(self) -> str:
-        parts = [self.condition, self.name, *self.numbers]
-        return ",".join([self.word, *(str(part) for part in parts if part is not None)])
+        return self.text().rstrip()
 
 
 @dataclasses.dataclass(frozen=True)
-class Audit:
+class Audit(Printed):
     """What `audit` says. It is true exactly where the mechanism meets all conditions.
 
     broken       the name of the first condition that it breaks, or None
@@ -262,8 +415,11 @@ class Audit:
     def __bool__(self) -> bool:
         return self.broken is None
 
+    def records(self) -> Iterator[Record]:
+        yield ("admissible",) if self else ("broken", self.broken, self.left, self.right)
+
     def __str__(self) -> str:
-        return "admissible" if self else f"broken,{self.broken},{self.left},{self.right}"
+        return self.text().rstrip()
 
 
 @dataclasses.dataclass(frozen=True)
@@ -289,9 +445,14 @@ class Worst:
     report: str | int | None = None
     profile: Profile | None = None
 
+    def fields(self) -> Record:
+        """The fields of its record, behind the word."""
+        names = (self.agent, self.type, self.report, "+".join(self.profile) if self.profile else None)
+        return *(name for name in names if name is not None), *terms(self.amount)
+
 
 @dataclasses.dataclass(frozen=True, kw_only=True)
-class Report:
+class Report(Printed):
     """What a mechanism does, and how far it is from truthful.
 
     value, revenue, welfare  the expected objective, payments, and utilities with payments left out
@@ -302,7 +463,6 @@ class Report:
     tight                    the conditions that hold with equality, by their names
     """
 
-    text: str = dataclasses.field(repr=False)
     value: Fraction
     revenue: Fraction
     welfare: Fraction
@@ -311,6 +471,20 @@ class Report:
     losses: tuple[Worst, ...]
     deficit: tuple[Profile, Fraction] | None
     tight: tuple[str, ...]
+
+    def records(self) -> Iterator[Record]:
+        for word in ("value", "revenue", "welfare"):
+            yield word, *terms(getattr(self, word))
+        for key, told in self.types.items():
+            yield "type", *(key if isinstance(key, tuple) else (key,)), *terms(told.gets), *terms(told.pays)
+        for word, worst in (("gain", self.gains), ("loss", self.losses)):
+            for missed in worst:
+                yield word, *missed.fields()
+        if self.deficit is not None:
+            yield "deficit", "+".join(self.deficit[0]), *terms(self.deficit[1])
+        for name in self.tight:
+            yield "tight", name
+        yield ("end",)
 
     @property
     def regret(self) -> Fraction:
@@ -332,20 +506,27 @@ class Report:
 
 
 @dataclasses.dataclass(frozen=True)
-class Draw:
+class Draw(Printed):
     """What `run` draws.
 
-    outcome   the name of the outcome; of an auction `keep`, or the number of the bidder who gets the item, from 1
-    payments  what each agent pays, by name, or each bidder, by its number; empty where the setting has no payments
+    outcome      the name of the outcome; of an auction `keep`, or the number of the bidder who gets the item, from 1
+    payments     what each agent pays, by name, or each bidder, by its number; empty where the setting has no payments
+    denominator  that of the payments as they are printed
     """
 
     outcome: str
     payments: Mapping[Any, Fraction]
+    denominator: int = 1
 
     @property
     def winner(self) -> int | None:
         """Of an auction the number of the bidder who gets the item, from 1; None where it is kept."""
         return None if self.outcome == "keep" else int(self.outcome)
+
+    def records(self) -> Iterator[Record]:
+        yield "outcome", self.outcome
+        if self.payments:
+            yield "pays", self.denominator, *(units(paid, self.denominator) for paid in self.payments.values())
 
 
 @dataclasses.dataclass(frozen=True)
@@ -357,7 +538,7 @@ class Basis:
 
 
 @dataclasses.dataclass(frozen=True)
-class Replay:
+class Replay(Printed):
     """What comes of listed pivots: the bases, the first wide entry where there is one, and how many pivots are those of the
     forward and of the backward path. It is true where no basis is wide."""
 
@@ -368,6 +549,15 @@ class Replay:
 
     def __bool__(self) -> bool:
         return self.wide is None
+
+    def records(self) -> Iterator[Record]:
+        for place, basis in enumerate(self.bases):
+            yield "basis", place, basis.denominator, basis.greatest
+        if self.wide is not None:
+            yield from self.wide.records()
+        yield "rule", self.forward
+        yield "again", self.backward
+        yield ("end",)
 
 
 @dataclasses.dataclass(frozen=True)
@@ -380,37 +570,63 @@ class Row:
     numbers: Mapping[int, int]
 
 
+def _sparse(numbers: Mapping[int, int]) -> Iterator[int]:
+    for column in sorted(numbers):
+        yield column
+        yield numbers[column]
+
+
 @dataclasses.dataclass(frozen=True)
-class Program:
+class Program(Printed):
     """A linear program: `cost` times the columns is to be as great as can be. Numbers that are 0 are left out."""
 
     columns: int
     cost: Mapping[int, int]
     rows: tuple[Row, ...]
 
+    def records(self) -> Iterator[Record]:
+        yield "program", self.columns, len(self.rows)
+        yield "cost", *_sparse(self.cost)
+        for place, row in enumerate(self.rows):
+            yield "row", place, row.name, "exact" if row.exact else "atmost", row.right, *_sparse(row.numbers)
+        yield ("end",)
 
-@dataclasses.dataclass(frozen=True)
-class Realised:
+
+@dataclasses.dataclass(frozen=True, kw_only=True)
+class Realised(Printed):
     """Some auction has the odds: by counts and value, the weight of the profiles with the counts, times how often a bidder with
     the value gets the item there. It is true."""
 
+    setting: Auction = dataclasses.field(repr=False)
     masses: Mapping[Counts, Mapping[int, Fraction]]
+    denominator: int
+
+    def records(self) -> Iterator[Record]:
+        yield "realise", self.denominator
+        yield from mass_records(self.masses, self.setting.values, self.denominator)
+        yield ("end",)
 
 
-@dataclasses.dataclass(frozen=True)
-class Violated:
-    """No auction has the odds: the bidders with these values are to win more often than there are any, by `excess`, which is in
-    units of the weight of all profiles. It is false."""
+@dataclasses.dataclass(frozen=True, kw_only=True)
+class Violated(Printed):
+    """No auction has the odds: the bidders with these values are to win more often than there are any, by `excess`, which is a
+    weight of profiles. It is false."""
 
+    setting: Auction = dataclasses.field(repr=False)
     values: frozenset[int]
     excess: Fraction
+    denominator: int
 
     def __bool__(self) -> bool:
         return False
 
+    def records(self) -> Iterator[Record]:
+        members = _set_number(self.setting.values, self.values)
+        yield "violated", members, units(self.excess, self.denominator), self.denominator
+
 
 @dataclasses.dataclass(frozen=True)
-class Drill:
+class Drill(Printed):
     """How the setting of a number was solved and checked. `value` is None where it is not optimal."""
 
     number: int
@@ -418,3 +634,7 @@ class Drill:
     word: str
     value: Fraction | None
     verdict: Verdict
+
+    def records(self) -> Iterator[Record]:
+        yield "drill", self.number, self.kind, self.word, *(() if self.value is None else terms(self.value))
+        yield "check", self.verdict

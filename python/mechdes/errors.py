@@ -2,13 +2,26 @@
 
 from __future__ import annotations
 
+import pathlib
+
 
 class MechdesError(Exception):
     """The root of all exceptions of this package."""
 
 
-class LibraryMissing(MechdesError, OSError):
-    """The proved library could not be loaded: it was not built, or is none that this machine can load."""
+class LibraryMissing(MechdesError, ImportError):
+    """The proved library could not be loaded from `library`: it was not built, or is none that this machine can load."""
+
+    def __init__(self, library: pathlib.Path, fault: str) -> None:
+        super().__init__(library, fault)
+        self.library = library
+        self.fault = fault
+
+    def __str__(self) -> str:
+        return (
+            f"the library of mechdes could not be loaded from {self.library}: {self.fault}. "
+            "python/build makes it, before pip installs the package; or set MECHDES_LIBRARY to its path"
+        )
 
 
 class SettingNotRead(MechdesError, ValueError):

@@ -4,11 +4,12 @@ from __future__ import annotations
 
 import dataclasses
 import math
-from collections.abc import Mapping, Sequence
+from collections.abc import Collection, Iterator, Mapping, Sequence
 from fractions import Fraction
 from typing import TYPE_CHECKING, Any, TypeAlias
 
-from .settings import Profile
+from .records import Record, units
+from .settings import Profile, Setting
 
 if TYPE_CHECKING:
     import pandas
@@ -31,6 +32,30 @@ def _frame(rows: Mapping[Any, Mapping[Any, Any]], names: Sequence[str]) -> panda
     return pandas.DataFrame(list(rows.values()), index=index, dtype=object)
 
 
+def _wanted(what: str, found: Collection[Any], wanted: Collection[Any]) -> None:
+    """Refuses a table that has other keys than are wanted, in whatever order."""
+    if set(found) != set(wanted):
+        raise ValueError(f"{what}: the names {list(wanted)} are wanted, not {list(found)}")
+
+
+def by_profile(
+    word: str, table: Mapping[Profile, Mapping[str, Fraction]], setting: Setting, names: Sequence[str], denominator: int
+) -> Iterator[Record]:
+    """The records of a word that come for each profile. Raises `ValueError` where the table has other names."""
+    profiles = list(setting.profiles())
+    _wanted(word, table, profiles)
+    for profile in profiles:
+        row = table[profile]
+        _wanted(f"{word} at {'+'.join(profile)}", row, names)
+        yield word, *profile, *(units(row[name], denominator) for name in names)
+
+
+def mass_records(masses: Mapping[Counts, Mapping[int, Fraction]], values: Sequence[int], denominator: int) -> Iterator[Record]:
+    """The mass records of an auction, in their order."""
+    for counts in sorted(masses):
+        yield "mass", *counts, *(units(masses[counts][value], denominator) for value in values)
+
+
 @dataclasses.dataclass(frozen=True)
 class Mechanism:
     """A mechanism of a general setting.
@@ -40,7 +65,8 @@ class Mechanism:
     denominator  that of all numbers in the printed table; where 0 is given, the least that will do
     agents       the names of the agents
 
-    One may be made by hand, to be audited, reported or run.
+    One may be made by hand, to be audited, reported or run; its names may stand in any order. Raises `TypeError` for a number that is
+    not exact.
     """
 
     lotteries: Lotteries
@@ -50,26 +76,23 @@ class Mechanism:
 
     def __post_init__(self) -> None:
         if self.denominator == 0:
-            numbers = (number for table in (self.lotteries, self.payments) for row in table.values() for number in row.values())
-            object.__setattr__(self, "denominator", math.lcm(*(Fraction(number).denominator for number in numbers)))
+            numbers = [number for table in (self.lotteries, self.payments) for row in table.values() for number in row.values()]
+            if not all(isinstance(number, (Fraction, int)) for number in numbers):
+                raise TypeError("the numbers of a mechanism are fractions or whole numbers")
+            object.__setattr__(self, "denominator", math.lcm(*(number.denominator for number in numbers)))
 
     def draws(self, profile: Sequence[str]) -> int:
         """How many first draws there are for `run`: the first draw is from 0 to one below, each as likely."""
         return self.denominator
 
-    def to_answer(self) -> str:
-        """The text of an answer that claims nothing (`table`), as `audit`, `report` and `run` take it."""
-        lines = ["answer,1,general,table", f"table,{self.denominator}"]
-        for word, table in (("lottery", self.lotteries), ("pay", self.payments)):
-            for profile, row in table.items():
-                lines.append(",".join([word, *profile, *(str(self._units(number)) for number in row.values())]))
-        return "\n".join([*lines, "end", ""])
-
-    def _units(self, number: Fraction) -> int:
-        units = Fraction(number) * self.denominator
-        if units.denominator != 1:
-            raise ValueError(f"{number} is no multiple of 1/{self.denominator}")
-        return units.numerator
+    def records(self, setting: Setting) -> Iterator[Record]:
+        """The records from `table` to the last payment. Raises `ValueError` where the setting has other names."""
+        yield "table", self.denominator
+        yield from by_profile("lottery", self.lotteries, setting, setting.outcomes, self.denominator)
+        if setting.payments:
+            yield from by_profile("pay", self.payments, setting, setting.agent_names, self.denominator)
+        else:
+            _wanted("pay", self.payments, ())
 
     def to_pandas(self) -> pandas.DataFrame:
         """A table with a row for each profile: the chance of each outcome, and `pays AGENT` for each agent, as fractions."""
@@ -82,7 +105,8 @@ class Mechanism:
 class AuctionMechanism:
     """A mechanism of an auction, by values.
 
-    bidders, units  how many bidders there are, and how many units of the item (1 but for `units`)
+    bidders, units  how many bidders there are, and how many units of the item: 1 but for `units`, whose text does not say it, so
+                    that it is None where a stored text was read without its number
     weights         the weight of each value, as the setting has it
     odds            how often a bidder with each value wins, on average over the values of the others
     pays            what a bidder with each value pays on average, whether it wins or not: charge it just that
@@ -97,7 +121,7 @@ class AuctionMechanism:
     pays: Mapping[int, Fraction]
     masses: Mapping[Counts, Mapping[int, Fraction]]
     denominator: int
-    units: int = 1
+    units: int | None = 1
 
     def counts(self, reports: Sequence[int]) -> Counts:
         """How many bidders report each value. Raises `ValueError` where the reports are no profile."""
@@ -121,6 +145,14 @@ class AuctionMechanism:
         masses, weight = self.masses[counts], self.weight(counts)
         have = dict(zip(self.weights, counts, strict=True))
         return tuple(masses[report] / (weight * have[report]) for report in reports)
+
+    def records(self) -> Iterator[Record]:
+        """The records from `interim` to the last mass."""
+        values = tuple(self.weights)
+        yield "interim", self.denominator
+        for word, table in (("odds", self.odds), ("pays", self.pays)):
+            yield word, *(units(table[value], self.denominator) for value in values)
+        yield from mass_records(self.masses, values, self.denominator)
 
     def to_pandas(self) -> pandas.DataFrame:
         """A table with a row for each value: its weight, odds and pays, as fractions."""
@@ -153,6 +185,15 @@ class SaleMechanism:
         if weight == 0:
             raise ValueError(f"the profile {'+'.join(profile)} has the weight 0")
         return {agent: mass / weight for agent, mass in self.masses[tuple(profile)].items()}
+
+    def records(self, setting: Setting) -> Iterator[Record]:
+        """The records from `interim` to the last mass."""
+        yield "interim", self.denominator
+        for word, table in (("odds", self.odds), ("pays", self.pays)):
+            for agent in setting.agents:
+                row = table[agent.name]
+                yield word, agent.name, *(units(row[name], self.denominator) for name in agent.types)
+        yield from by_profile("mass", self.masses, setting, setting.agent_names, self.denominator)
 
     def to_pandas(self) -> pandas.DataFrame:
         """A table with a row for each agent and type: odds and pays, as fractions."""

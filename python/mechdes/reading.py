@@ -9,29 +9,41 @@ from typing import Any
 
 from .answers import (
     Answer,
+    Audit,
     AuctionOptimal,
+    Basis,
     Branch,
+    Draw,
+    Drill,
     Fairest,
     GeneralOptimal,
     Infeasible,
     Leaf,
     Multiplier,
     Node,
+    Program,
+    Realised,
+    Replay,
+    Report,
+    Row,
     Rule,
     SaleOptimal,
     Table,
     TooWide,
+    TypeReport,
     Unbounded,
     Undecided,
     UnitsOptimal,
+    Verdict,
+    Violated,
     WidePath,
+    Worst,
+    elements,
 )
 from .errors import AnswerNotRead, UnknownAnswer
 from .mechanisms import AuctionMechanism, Counts, Mechanism, SaleMechanism
-from .records import Over, Records
-from .settings import AnySetting, Auction, Profile, Setting
-
-Pairs = Sequence[tuple[str, str]]
+from .records import Over, Printed, Records
+from .settings import AnySetting, Auction, Profile, Setting, SettingLike, read_setting
 
 
 def _by_profile(
@@ -55,16 +67,12 @@ def _try_lottery(records: Records, fields: list[str], denominator: int) -> None:
         raise records.wrong("the numbers of a lottery do not add to the denominator, or one is below 0")
 
 
-def _agent_names(setting: Setting) -> list[str]:
-    return [agent.name for agent in setting.agents]
-
-
 def _mechanism(records: Records, setting: Setting) -> Mechanism:
     """The records from `table` to the last of the pays."""
     denominator = records.denominator("table")
     lotteries = _by_profile(records, "lottery", setting, setting.outcomes, denominator)
-    pays = _by_profile(records, "pay", setting, _agent_names(setting), denominator) if setting.payments else {}
-    return Mechanism(lotteries, pays, denominator, tuple(_agent_names(setting)))
+    pays = _by_profile(records, "pay", setting, setting.agent_names, denominator) if setting.payments else {}
+    return Mechanism(lotteries, pays, denominator, setting.agent_names)
 
 
 def _faces(records: Records) -> tuple[Multiplier, ...]:
@@ -72,12 +80,12 @@ def _faces(records: Records) -> tuple[Multiplier, ...]:
     return _ascending(records, (Multiplier(row, face) for row, face in map(records.numbers, records.all("row", 2))))
 
 
-def _multipliers(records: Records) -> tuple[Multiplier, ...]:
+def _bound(records: Records) -> tuple[int, tuple[Multiplier, ...]]:
     """The bound of an optimal answer, and its multipliers."""
-    over = Over(records, records.denominator("bound"))
-    number = records.number
+    bound = records.denominator("bound")
+    over, number = Over(records, bound), records.number
     found = (Multiplier(number(row), number(face), over[main]) for row, face, main in records.all("row", 3))
-    return _ascending(records, found)
+    return bound, _ascending(records, found)
 
 
 def _ascending(records: Records, multipliers: Iterator[Multiplier]) -> tuple[Multiplier, ...]:
@@ -90,61 +98,65 @@ def _ascending(records: Records, multipliers: Iterator[Multiplier]) -> tuple[Mul
 
 
 def _wide_path(records: Records) -> WidePath:
+    """The pivots of a path, and its wide entry."""
     pivots = [records.numbers(fields) for fields in records.all("pivot", 2)]
-    fields = records.take("wide", 4)
-    row, column = records.numbers(fields[:2])
-    return WidePath(tuple((row, column) for row, column in pivots), row, column, records.fraction(fields[2:]))
+    *numbers, denominator = records.take("wide", 4)
+    row, column, numerator = records.numbers(numbers)
+    return WidePath(tuple((row, column) for row, column in pivots), row, column, numerator, records.positive(denominator))
 
 
-def _too_wide(records: Records, text: str, kind: str, **where: Any) -> TooWide:
-    """The paths of an answer that is too wide: one, or two with `again` between them."""
+def _too_wide(records: Records, setting: AnySetting, kind: str, version: str, **where: Any) -> TooWide:
+    """The paths of an answer that is too wide: two with `again` between them, but one where `solve` has the version 1."""
     paths = [_wide_path(records)]
-    if records.word() == "again":
+    if version == "2" or (kind, "toowide") not in _TWO_VERSIONS:
         records.take("again", 0)
         paths.append(_wide_path(records))
     records.end()
-    return TooWide(text=text, kind=kind, paths=tuple(paths), **where)
+    return TooWide(setting=setting, kind=kind, paths=tuple(paths), **where)
 
 
-def _cuts(records: Records, elements: Sequence[Any]) -> tuple[frozenset[Any], ...]:
-    """The sets of the cuts, each as a set of these elements."""
-    found = []
-    for (field,) in records.all("cut", 1):
-        bits = records.number(field)
-        if not 0 < bits < 1 << len(elements):
-            raise records.wrong(f"{bits} is no set of {len(elements)}")
-        found.append(frozenset(element for place, element in enumerate(elements) if bits >> place & 1))
-    return tuple(found)
+def _set_of(records: Records, field: str, every: Sequence[Any]) -> frozenset[Any]:
+    """The set of a number: the sum of 2^j over the places j of its members."""
+    bits = records.number(field)
+    if not 0 < bits < 1 << len(every):
+        raise records.wrong(f"{bits} is no set of {len(every)}")
+    return frozenset(element for place, element in enumerate(every) if bits >> place & 1)
 
 
-def _general(records: Records, setting: Setting, kind: str, word: str, text: str) -> Answer:
+def _cuts(records: Records, setting: AnySetting) -> tuple[frozenset[Any], ...]:
+    """The sets of the cuts."""
+    every = elements(setting)
+    return tuple(_set_of(records, field, every) for (field,) in records.all("cut", 1))
+
+
+def _general(records: Records, setting: Setting, kind: str, word: str, version: str) -> Answer:
     """An answer about a general setting (`general`), or a fairest one (`fair`)."""
     if word == "optimal":
-        value = records.fraction(records.take("value", 2))
-        mechanism, multipliers = _mechanism(records, setting), _multipliers(records)
+        value, mechanism = records.fraction(records.take("value", 2)), _mechanism(records, setting)
+        bound, multipliers = _bound(records)
         records.end()
         made = Fairest if kind == "fair" else GeneralOptimal
-        return made(text=text, kind=kind, value=value, mechanism=mechanism, multipliers=multipliers)
+        return made(setting=setting, kind=kind, value=value, mechanism=mechanism, bound=bound, multipliers=multipliers)
     if word == "infeasible":
         faces = _faces(records)
         records.end()
-        return Infeasible(text=text, kind=kind, multipliers=faces)
+        return Infeasible(setting=setting, kind=kind, multipliers=faces)
     if word == "unbounded":
-        return _unbounded(records, setting, kind, text)
+        return _unbounded(records, setting, kind)
     if word == "table" and kind == "general":
         mechanism = _mechanism(records, setting)
         records.end()
-        return Table(text=text, kind=kind, mechanism=mechanism)
+        return Table(setting=setting, kind=kind, mechanism=mechanism)
     if word == "toowide":
-        return _too_wide(records, text, kind)
+        return _too_wide(records, setting, kind, version)
     raise UnknownAnswer(f"an answer of an unknown kind: {kind}, {word}")
 
 
-def _unbounded(records: Records, setting: Setting, kind: str, text: str) -> Unbounded:
+def _unbounded(records: Records, setting: Setting, kind: str) -> Unbounded:
     mechanism = _mechanism(records, setting)
-    ray = _by_profile(records, "ray", setting, _agent_names(setting), mechanism.denominator)
+    ray = _by_profile(records, "ray", setting, setting.agent_names, mechanism.denominator)
     records.end()
-    return Unbounded(text=text, kind=kind, mechanism=mechanism, ray=ray)
+    return Unbounded(setting=setting, kind=kind, mechanism=mechanism, ray=ray)
 
 
 def _tree(records: Records, setting: Setting) -> tuple[Node, ...]:
@@ -170,10 +182,12 @@ def _leaf(records: Records, setting: Setting, fixed: Mapping[Profile, str]) -> L
         return Leaf(fixed, None, _faces(records))
     if word != "optimal":
         raise records.wrong(f"no leaf is {word}")
-    return Leaf(fixed, _mechanism(records, setting), _multipliers(records))
+    mechanism = _mechanism(records, setting)
+    bound, multipliers = _bound(records)
+    return Leaf(fixed, mechanism, multipliers, bound)
 
 
-def _rule(records: Records, setting: Setting, kind: str, word: str, text: str) -> Answer:
+def _rule(records: Records, setting: Setting, kind: str, word: str, version: str) -> Answer:
     """An answer of `determ`. The mechanism is the one in front of the tree; those of the leaves are bounds."""
     if word == "optimal":
         value = records.fraction(records.take("value", 2))
@@ -181,22 +195,28 @@ def _rule(records: Records, setting: Setting, kind: str, word: str, text: str) -
         records.end()
         if any(1 not in row.values() for row in mechanism.lotteries.values()):
             raise AnswerNotRead("a deterministic mechanism draws no lots")
-        return Rule(text=text, kind=kind, value=value, mechanism=mechanism, tree=tree)
+        return Rule(setting=setting, kind=kind, value=value, mechanism=mechanism, tree=tree)
     if word == "infeasible":
         tree = _tree(records, setting)
         records.end()
-        return Infeasible(text=text, kind=kind, tree=tree)
+        return Infeasible(setting=setting, kind=kind, tree=tree)
     if word == "unbounded":
-        return _unbounded(records, setting, kind, text)
+        return _unbounded(records, setting, kind)
     if word == "toowide":
-        profiles, fixed = list(setting.profiles()), {}
-        for fields in records.all("fix", 2):
-            rank, outcome = records.numbers(fields)
-            if not (0 <= rank < len(profiles) and 0 <= outcome < len(setting.outcomes)):
-                raise records.wrong("no such profile or outcome")
-            fixed[profiles[rank]] = setting.outcomes[outcome]
-        return _too_wide(records, text, kind, fixed=fixed)
+        return _too_wide(records, setting, kind, version, fixed=_fixed(records, setting))
     raise UnknownAnswer(f"an answer of an unknown kind: {kind}, {word}")
+
+
+def _fixed(records: Records, setting: Setting) -> dict[Profile, str]:
+    """What is fixed at the node at which a search ends."""
+    profiles, found, last = list(setting.profiles()), dict[Profile, str](), -1
+    for fields in records.all("fix", 2):
+        rank, outcome = records.numbers(fields)
+        if not (last < rank < len(profiles) and 0 <= outcome < len(setting.outcomes)):
+            raise records.wrong("no such profile or outcome, or not the next one")
+        found[profiles[rank]] = setting.outcomes[outcome]
+        last = rank
+    return found
 
 
 def _by_value(records: Records, word: str, auction: Auction, denominator: int) -> dict[int, Fraction]:
@@ -204,7 +224,7 @@ def _by_value(records: Records, word: str, auction: Auction, denominator: int) -
     return dict(zip(auction.values, map(over.__getitem__, records.take(word, len(auction.values))), strict=True))
 
 
-def masses(records: Records, auction: Auction, denominator: int) -> dict[Counts, dict[int, Fraction]]:
+def _masses(records: Records, auction: Auction, denominator: int) -> dict[Counts, dict[int, Fraction]]:
     """The mass records: by counts and value, one for each list of counts."""
     found: dict[Counts, dict[int, Fraction]] = {}
     width, over = len(auction.values), Over(records, denominator)
@@ -222,21 +242,27 @@ def masses(records: Records, auction: Auction, denominator: int) -> dict[Counts,
     return found
 
 
-def _auction(records: Records, auction: Auction, kind: str, word: str, text: str, units: int) -> Answer:
+def _auction(records: Records, auction: Auction, kind: str, word: str, version: str, units: int | None) -> Answer:
     """An answer about an auction (`auction`), or about one of several units (`units`)."""
     if word == "toowide":
-        return _too_wide(records, text, kind, cuts=_cuts(records, auction.values))
+        cuts = _cuts(records, auction)
+        return _too_wide(records, auction, kind, version, cuts=cuts)
     if word != "optimal":
         raise UnknownAnswer(f"an answer of an unknown kind: {kind}, {word}")
     value = records.fraction(records.take("value", 2))
+    mechanism, cuts = _auction_mechanism(records, auction, units if kind == "units" else 1), _cuts(records, auction)
+    bound, multipliers = _bound(records)
+    records.end()
+    made = UnitsOptimal if kind == "units" else AuctionOptimal
+    return made(setting=auction, kind=kind, value=value, mechanism=mechanism, cuts=cuts, bound=bound, multipliers=multipliers)
+
+
+def _auction_mechanism(records: Records, auction: Auction, units: int | None) -> AuctionMechanism:
+    """The records from `interim` to the last mass."""
     denominator = records.denominator("interim")
     odds, pays = (_by_value(records, name, auction, denominator) for name in ("odds", "pays"))
     weights = dict(zip(auction.values, auction.weights, strict=True))
-    mechanism = AuctionMechanism(auction.bidders, weights, odds, pays, masses(records, auction, denominator), denominator, units)
-    cuts, multipliers = _cuts(records, auction.values), _multipliers(records)
-    records.end()
-    made = UnitsOptimal if kind == "units" else AuctionOptimal
-    return made(text=text, kind=kind, value=value, mechanism=mechanism, cuts=cuts, multipliers=multipliers)
+    return AuctionMechanism(auction.bidders, weights, odds, pays, _masses(records, auction, denominator), denominator, units)
 
 
 def _by_type(records: Records, word: str, setting: Setting, denominator: int) -> dict[str, dict[str, Fraction]]:
@@ -248,21 +274,23 @@ def _by_type(records: Records, word: str, setting: Setting, denominator: int) ->
     return found
 
 
-def _sale(records: Records, setting: Setting, kind: str, word: str, text: str) -> Answer:
+def _sale(records: Records, setting: Setting, kind: str, word: str, version: str) -> Answer:
     """An answer of `asym`."""
-    pairs = [(agent.name, name) for agent in setting.agents for name in agent.types]
     if word == "toowide":
-        return _too_wide(records, text, kind, cuts=_cuts(records, pairs))
+        cuts = _cuts(records, setting)
+        return _too_wide(records, setting, kind, version, cuts=cuts)
     if word != "optimal":
         raise UnknownAnswer(f"an answer of an unknown kind: {kind}, {word}")
     value = records.fraction(records.take("value", 2))
     denominator = records.denominator("interim")
     odds, pays = (_by_type(records, name, setting, denominator) for name in ("odds", "pays"))
-    table = _by_profile(records, "mass", setting, _agent_names(setting), denominator)
-    cuts, multipliers = _cuts(records, pairs), _multipliers(records)
+    masses = _by_profile(records, "mass", setting, setting.agent_names, denominator)
+    mechanism, cuts = SaleMechanism(setting.weights(), odds, pays, masses, denominator), _cuts(records, setting)
+    bound, multipliers = _bound(records)
     records.end()
-    mechanism = SaleMechanism(setting.weights(), odds, pays, table, denominator)
-    return SaleOptimal(text=text, kind=kind, value=value, mechanism=mechanism, cuts=cuts, multipliers=multipliers)
+    return SaleOptimal(
+        setting=setting, kind=kind, value=value, mechanism=mechanism, cuts=cuts, bound=bound, multipliers=multipliers
+    )
 
 
 _GENERAL: dict[str, Callable[..., Answer]] = {"general": _general, "fair": _general, "determ": _rule, "asym": _sale}
@@ -270,15 +298,17 @@ _AUCTION = ("auction", "units")
 _TWO_VERSIONS = {("general", "toowide"), ("auction", "toowide")}
 
 
-def read_answer(setting: AnySetting, text: str, units: int = 1) -> Answer:
-    """An answer to a setting, as a value.
+def read_answer(setting: AnySetting, text: str, units: int | None = None) -> Answer:
+    """An answer to a setting, as a value. `units` is the number that `units` was asked for, which its text does not say.
 
     Raises `UnknownAnswer` for a kind, word or version that this package does not know, and `AnswerNotRead` where the text is
     none, or does not fit the setting. The program's own conditions (`check`) are not tried.
     """
-    if text.strip() == "undecided":
-        return Undecided(text=text, kind="auction")
     records = Records(text)
+    if records.word() == "undecided" and isinstance(setting, Auction):
+        records.take("undecided", 0)
+        records.nothing()
+        return Undecided(setting=setting)
     version, kind, word = records.take("answer", 3)
     if kind not in (*_GENERAL, *_AUCTION):
         raise UnknownAnswer(f"an answer of an unknown kind: {kind}, {word}")
@@ -287,5 +317,173 @@ def read_answer(setting: AnySetting, text: str, units: int = 1) -> Answer:
     if isinstance(setting, Auction) != (kind in _AUCTION):
         raise AnswerNotRead(f"an answer of the kind {kind} is about another kind of setting")
     if isinstance(setting, Auction):
-        return _auction(records, setting, kind, word, text, units)
-    return _GENERAL[kind](records, setting, kind, word, text)
+        return _auction(records, setting, kind, word, version, units)
+    return _GENERAL[kind](records, setting, kind, word, version)
+
+
+def read_verdict(text: str) -> Verdict:
+    """What `check` or `determcheck` prints."""
+    records = Records(text)
+    word = records.word()
+    if word not in ("valid", "undecided", "rejected"):
+        raise UnknownAnswer(f"a verdict of an unknown kind: {word}")
+    fields = records.take(word, None if word == "rejected" else 0)
+    records.nothing()
+    if word != "rejected":
+        return Verdict(word)
+    condition, *told = fields or [""]
+    name = told.pop(0) if condition in ("1", "12") and told else None
+    return Verdict(word, records.number(condition), name, records.numbers(told))
+
+
+def read_audit(text: str) -> Audit:
+    """What `audit` prints."""
+    records = Records(text)
+    word = records.word()
+    if word not in ("admissible", "broken"):
+        raise UnknownAnswer(f"an audit of an unknown kind: {word}")
+    fields = records.take(word, 3 if word == "broken" else 0)
+    records.nothing()
+    return Audit(fields[0], *records.numbers(fields[1:])) if fields else Audit()
+
+
+def read_program(text: str) -> Program:
+    """What `rows` prints."""
+    records = Records(text)
+    columns, count = records.numbers(records.take("program", 2))
+    cost = records.sparse(records.take("cost"))
+    found = []
+    for fields in records.all("row"):
+        if len(fields) < 4 or fields[0] != str(len(found)) or fields[2] not in ("atmost", "exact"):
+            raise records.wrong("another row is wanted")
+        _, name, kind, right, *numbers = fields
+        found.append(Row(name, kind == "exact", records.number(right), records.sparse(numbers)))
+    records.end()
+    if len(found) != count:
+        raise AnswerNotRead(f"{len(found)} rows, not {count}")
+    return Program(columns, cost, tuple(found))
+
+
+def read_replay(text: str) -> Replay:
+    """What `replay` prints."""
+    records = Records(text)
+    bases = list[Basis]()
+    for fields in records.all("basis", 3):
+        place, denominator, greatest = records.numbers(fields)
+        if place != len(bases):
+            raise records.wrong("another basis is wanted")
+        bases.append(Basis(denominator, greatest))
+    wide = _wide_path(records) if records.word() == "wide" else None
+    forward, backward = (records.number(records.take(word, 1)[0]) for word in ("rule", "again"))
+    records.end()
+    return Replay(tuple(bases), wide, forward, backward)
+
+
+def read_realised(auction: Auction, text: str) -> Realised | Violated:
+    """What `realise` prints."""
+    records = Records(text)
+    if records.word() == "violated":
+        bits, excess, denominator = records.take("violated", 3)
+        values = _set_of(records, bits, auction.values)
+        found = records.fraction([excess, denominator])
+        records.nothing()
+        return Violated(setting=auction, values=values, excess=found, denominator=records.number(denominator))
+    denominator = records.denominator("realise")
+    masses = _masses(records, auction, denominator)
+    records.end()
+    return Realised(setting=auction, masses=masses, denominator=denominator)
+
+
+def read_draw(setting: AnySetting, text: str) -> Draw:
+    """What `run` prints."""
+    records = Records(text)
+    (outcome,) = records.take("outcome", 1)
+    if isinstance(setting, Setting) and not setting.payments:
+        records.nothing()
+        return Draw(outcome, {})
+    names = range(1, setting.bidders + 1) if isinstance(setting, Auction) else setting.agent_names
+    denominator, *paid = records.take("pays", 1 + len(names))
+    over = Over(records, records.positive(denominator))
+    records.nothing()
+    return Draw(outcome, dict(zip(names, map(over.__getitem__, paid), strict=True)), records.number(denominator))
+
+
+def read_drill(text: str) -> Drill:
+    """What `drill` prints."""
+    records = Records(text)
+    fields = records.take("drill")
+    if len(fields) not in (3, 5):
+        raise records.wrong("drill has another number of fields")
+    number, kind, word, *value = fields
+    found = records.fraction(value) if value else None
+    (verdict,) = records.take("check", 1)
+    records.nothing()
+    return Drill(records.number(number), kind, word, found, read_verdict(verdict))
+
+
+def read_report(setting: AnySetting, text: str) -> Report:
+    """What `report` prints."""
+    records = Records(text)
+    value, revenue, welfare = (records.fraction(records.take(word, 2)) for word in ("value", "revenue", "welfare"))
+    keys = 1 if isinstance(setting, Auction) else 2
+    types: dict[Any, TypeReport] = {}
+    for fields in records.all("type", keys + 4):
+        told = TypeReport(records.fraction(fields[keys : keys + 2]), records.fraction(fields[keys + 2 :]))
+        types[records.number(fields[0]) if keys == 1 else (fields[0], fields[1])] = told
+    if tuple(types) != elements(setting):
+        raise records.wrong("other types are wanted")
+    gains = tuple(_worst(records, setting, fields, True) for fields in records.all("gain"))
+    losses = tuple(_worst(records, setting, fields, False) for fields in records.all("loss"))
+    deficit = None
+    if records.word() == "deficit":
+        profile, *least = records.take("deficit", 3)
+        deficit = (tuple(profile.split("+")), records.fraction(least))
+    tight = tuple(name for (name,) in records.all("tight", 1))
+    records.end()
+    return Report(
+        value=value, revenue=revenue, welfare=welfare, types=types, gains=gains, losses=losses, deficit=deficit, tight=tight
+    )
+
+
+def _worst(records: Records, setting: AnySetting, fields: list[str], is_gain: bool) -> Worst:
+    """A record of a gain or a loss: AGENT (not of an auction), TYPE, REPORT (of a gain), PROFILE (where the condition has one)."""
+    each = isinstance(setting, Setting) and (setting.truth == "dominant" if is_gain else setting.rational == "ex-post")
+    if len(fields) != isinstance(setting, Setting) + 1 + is_gain + each + 2:
+        raise records.wrong("another number of fields is wanted")
+    *names, numerator, denominator = fields
+    amount = records.fraction([numerator, denominator])
+    if isinstance(setting, Auction):
+        value, *told = records.numbers(names)
+        return Worst(None, value, amount, told[0] if told else None)
+    return Worst(names[0], names[1], amount, names[2] if is_gain else None, tuple(names[-1].split("+")) if each else None)
+
+
+_ANSWERS = ("solve", "fair", "asym", "units", "determ", "iron")
+_OF_SETTINGS: dict[str, Callable[[Any, str], Printed]] = {"realise": read_realised, "run": read_draw, "report": read_report}
+_ALONE: dict[str, Callable[[str], Printed]] = {
+    "check": read_verdict,
+    "determcheck": read_verdict,
+    "audit": read_audit,
+    "rows": read_program,
+    "replay": read_replay,
+    "drill": read_drill,
+}
+
+
+def parse(command: str, text: str, setting: SettingLike | None = None, units: int | None = None) -> Printed:
+    """What a command printed, as a value, of which `text()` is the text again.
+
+    setting  what the command was asked about, where its text has names or numbers of that
+    units    the number that `units` was asked for
+
+    Raises `UnknownAnswer` for what this package does not know, `AnswerNotRead` where the text is none of the command, and
+    `ValueError` where there is no such command or the setting is missing. The text of `make` is a setting: see `read_setting`.
+    """
+    if command in _ALONE:
+        return _ALONE[command](text)
+    if command not in (*_ANSWERS, *_OF_SETTINGS):
+        raise ValueError(f"no command prints answers by the name {command!r}")
+    named = None if setting is None else read_setting(setting)
+    if named is None or command == "realise" and not isinstance(named, Auction):
+        raise ValueError(f"{command} is about a setting, which is missing or of another kind")
+    return read_answer(named, text, units) if command in _ANSWERS else _OF_SETTINGS[command](named, text)

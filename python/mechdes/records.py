@@ -1,4 +1,5 @@
-"""The records of a printed text, taken one after the other; whatever does not fit is refused with its place."""
+"""The records of a printed text: written from values, and taken one after the other, where whatever does not fit is refused with
+its place."""
 
 from __future__ import annotations
 
@@ -8,10 +9,47 @@ import itertools
 import re
 from collections.abc import Iterable, Iterator
 from fractions import Fraction
+from typing import TypeAlias
 
 from .errors import AnswerNotRead
 
+Record: TypeAlias = tuple[object, ...]  # a word with its further fields
 _NUMBER = re.compile(r"0|-?[1-9][0-9]*").fullmatch
+
+
+class Printed:
+    """What a command prints, as a value: `text` has just that, made anew from the value's parts.
+
+    Where a text by another hand has a value that is not in least terms, quotes or empty lines, these are not kept: what is written
+    then reads back as the same value.
+    """
+
+    def records(self) -> Iterator[Record]:
+        """The records of the text."""
+        raise NotImplementedError
+
+    def text(self) -> str:
+        """The text. Raises `ValueError` where a part is not one of a text, as a number that is no multiple of the denominator."""
+        return "".join(",".join(map(str, record)) + "\n" for record in self.records())
+
+    def __str__(self) -> str:
+        return self.text()
+
+
+def units(number: Fraction | int, denominator: int) -> int:
+    """A fraction in units of one over a denominator. Raises `ValueError` where it is no multiple of that, and `TypeError` where it is
+    no exact number."""
+    if not isinstance(number, (Fraction, int)):
+        raise TypeError(f"a fraction or a whole number is wanted, not {number!r}")
+    factor, rest = divmod(denominator, number.denominator)
+    if rest:
+        raise ValueError(f"{number} is no multiple of 1/{denominator}")
+    return number.numerator * factor
+
+
+def terms(number: Fraction | int) -> tuple[int, int]:
+    """The two fields of a fraction in least terms."""
+    return number.numerator, number.denominator
 
 
 class Over(dict[str, Fraction]):
@@ -76,17 +114,27 @@ class Records:
 
     def fraction(self, fields: list[str]) -> Fraction:
         """A fraction of two fields."""
-        numerator, denominator = self.numbers(fields)
-        return Fraction(numerator, self._positive(denominator))
+        numerator, denominator = fields
+        return Fraction(self.number(numerator), self.positive(denominator))
+
+    def sparse(self, fields: Iterable[str]) -> dict[int, int]:
+        """Pairs of a column and its number, which is not 0, in ascending order of columns."""
+        numbers = self.numbers(fields)
+        columns, found = numbers[::2], numbers[1::2]
+        if len(columns) != len(found) or 0 in found or list(columns) != sorted(set(columns)):
+            raise self.wrong("no ascending pairs of a column and a number that is not 0")
+        return dict(zip(columns, found, strict=True))
 
     def denominator(self, word: str) -> int:
         """The number of a record that has a denominator alone."""
-        return self._positive(self.number(self.take(word, 1)[0]))
+        return self.positive(self.take(word, 1)[0])
 
-    def _positive(self, denominator: int) -> int:
-        if denominator < 1:
-            raise self.wrong(f"{denominator} is no denominator")
-        return denominator
+    def positive(self, field: str) -> int:
+        """A number that may be a denominator."""
+        found = self.number(field)
+        if found < 1:
+            raise self.wrong(f"{field} is no denominator")
+        return found
 
     def same(self, found: Iterable[str], wanted: Iterable[str]) -> None:
         """Refuses names that are not those that are wanted."""

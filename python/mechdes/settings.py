@@ -31,18 +31,35 @@ def _whole(number: Any, key: str) -> int:
         raise TypeError(f"{key}: a whole number is wanted, not {number!r}") from None
 
 
+def _listed(values: Any, key: str) -> Iterator[Any]:
+    """The elements of a list. Raises `TypeError` for a text or a table, which Python would take for a list of its letters or keys."""
+    if isinstance(values, (str, bytes, Mapping)):
+        raise TypeError(f"{key}: a list is wanted, not {values!r}")
+    return iter(values)
+
+
 def _numbers(numbers: Numbers, key: str) -> tuple[int, ...]:
-    return tuple(_whole(number, key) for number in numbers)
+    return tuple(_whole(number, key) for number in _listed(numbers, key))
 
 
 def _lists(lists: Sequence[Numbers], key: str) -> tuple[tuple[int, ...], ...]:
-    return tuple(_numbers(numbers, key) for numbers in lists)
+    return tuple(_numbers(numbers, key) for numbers in _listed(lists, key))
+
+
+def _text(text: Any, key: str) -> str:
+    if not isinstance(text, str):
+        raise TypeError(f"{key}: a text is wanted, not {text!r}")
+    return text
+
+
+def _truth_value(value: Any, key: str) -> bool:
+    if not isinstance(value, bool):
+        raise TypeError(f"{key}: a truth value is wanted, not {value!r}")
+    return value
 
 
 def _names(names: Sequence[str], key: str) -> tuple[str, ...]:
-    if isinstance(names, str) or not all(isinstance(name, str) for name in names):
-        raise TypeError(f"{key}: a list of names is wanted, not {names!r}")
-    return tuple(names)
+    return tuple(_text(name, key) for name in _listed(names, key))
 
 
 def _toml(value: Any) -> str:
@@ -111,6 +128,7 @@ class Agent:
     utility_at: Sequence[Numbers] | None = None
 
     def __post_init__(self) -> None:
+        _text(self.name, "agent.name")
         object.__setattr__(self, "types", _names(self.types, "agent.types"))
         for key in ("weights", "outside"):
             if getattr(self, key) is not None:
@@ -135,7 +153,7 @@ class Setting:
     prior       a weight for each profile, in their order; None where each agent has weights of its own
 
     Whatever the program would refuse is refused by the program alone: lengths, limits and names are not looked at here.
-    Raises `TypeError` where a number is not whole.
+    Raises `TypeError` where a part is of another kind, as a number that is not whole.
     """
 
     truth: str
@@ -148,12 +166,21 @@ class Setting:
     prior: Numbers | None = None
 
     def __post_init__(self) -> None:
+        for key in ("truth", "rational"):
+            _text(getattr(self, key), key)
+        for key in ("payments", "no_deficit"):
+            _truth_value(getattr(self, key), key)
         object.__setattr__(self, "outcomes", _names(self.outcomes, "outcomes"))
         object.__setattr__(self, "agents", tuple(self.agents))
         if self.prior is not None:
             object.__setattr__(self, "prior", _numbers(self.prior, "prior"))
         if self.objective.keep:
             raise TypeError("objective.keep: a general setting has none; give each outcome a value")
+
+    @property
+    def agent_names(self) -> tuple[str, ...]:
+        """The names of the agents, in their order."""
+        return tuple(agent.name for agent in self.agents)
 
     def profiles(self) -> Iterator[Profile]:
         """All profiles, in their order: the last agent's type changes fastest."""
@@ -254,49 +281,50 @@ def setting_bytes(setting: SettingLike) -> bytes:
     return file_bytes(setting)
 
 
-_SETTING_KEYS = {
-    "format",
-    "version",
-    "kind",
-    "truth",
-    "rational",
-    "payments",
-    "no_deficit",
-    "outcomes",
-    "objective",
-    "prior",
-    "agent",
+_HEAD_KEYS = {"format", "version", "kind"}
+_KEYS = {
+    "general": {"truth", "rational", "payments", "no_deficit", "outcomes", "objective", "prior", "agent"},
+    "auction": {"bidders", "values", "weights", "revenue", "welfare", "keep"},
 }
-_AUCTION_KEYS = {"format", "version", "kind", "bidders", "values", "weights", "revenue", "welfare", "keep"}
+_OBJECTIVE_KEYS = {"welfare", "revenue", "value"}
+
+
+def _known(table: dict[str, Any], keys: set[str]) -> dict[str, Any]:
+    """A table of a file, whose keys must be some of those that are known."""
+    if unknown := table.keys() - keys:
+        raise ValueError(f"unknown keys: {', '.join(sorted(unknown))}")
+    return table
 
 
 def _general(file: dict[str, Any]) -> Setting:
-    keys = {key: file[key] for key in ("truth", "rational", "payments", "outcomes", "no_deficit", "prior") if key in file}
+    keys = {key: file[key] for key in _KEYS["general"] - {"objective", "agent"} if key in file}
     agents = [Agent(**agent) for agent in file["agent"]]
-    return Setting(agents=agents, objective=Objective(**file.get("objective", {})), **keys)
+    if file["version"] == 1 and any(agent.utility_at is not None for agent in agents):
+        raise ValueError("unknown keys: utility_at, which version 2 has")
+    return Setting(agents=agents, objective=Objective(**_known(file.get("objective", {}), _OBJECTIVE_KEYS)), **keys)
+
+
+def _read(file: dict[str, Any]) -> AnySetting:
+    kind, version = file["kind"], file["version"]
+    if file["format"] != "mechanism-setting" or type(version) is not int or version not in (1, 2) or kind not in _KEYS:
+        raise ValueError("another format, version or kind")
+    parts = _known(file, _KEYS[kind] | _HEAD_KEYS)
+    if kind == "general":
+        return _general(parts)
+    return Auction(**{key: part for key, part in parts.items() if key not in _HEAD_KEYS})
 
 
 def read_setting(setting: SettingLike) -> AnySetting:
     """A setting as a value, from a path, a text or bytes. A value is given back as it is.
 
-    Raises `SettingNotRead` where it is none; what the program would refuse beyond that is not looked at.
+    Raises `SettingNotRead` where it is none; what the program would refuse beyond that is not looked at: `to_toml` then writes
+    what is refused as well.
     """
     if isinstance(setting, (Setting, Auction)):
         return setting
     try:
-        file = tomllib.loads(file_bytes(setting).decode())
-        unknown = file.keys() - (_AUCTION_KEYS if file["kind"] == "auction" else _SETTING_KEYS)
-        if (
-            file["kind"] not in ("auction", "general")
-            or file["format"] != "mechanism-setting"
-            or file["version"] not in (1, 2)
-            or unknown
-        ):
-            raise ValueError(f"another format, version or kind, or unknown keys: {', '.join(sorted(unknown)) or 'none'}")
-        if file["kind"] == "general":
-            return _general(file)
-        return Auction(**{key: file[key] for key in _AUCTION_KEYS - {"format", "version", "kind"} if key in file})
+        return _read(tomllib.loads(file_bytes(setting).decode()))
     except KeyError as fault:
         raise SettingNotRead(f"no setting: the key {fault} is missing") from fault
-    except (ValueError, TypeError, AttributeError) as fault:
+    except (ValueError, TypeError, AttributeError, RecursionError) as fault:
         raise SettingNotRead(f"no setting: {fault}") from fault

@@ -10,7 +10,7 @@ import os
 from collections.abc import Callable, Iterable, Iterator, Mapping, Sequence, Sized
 from typing import Any, TypeAlias, TypeVar
 
-from ._library import load
+from ._library import library
 from .answers import Answer
 from .commands import BY_NAME
 from .settings import SettingLike
@@ -46,7 +46,8 @@ def sweep(
 ) -> Iterator[tuple[Given, Outcome]]:
     """Asks a command of many settings, side by side, and yields pairs of a setting and its result, in their order.
 
-    Where a call raises an exception, that stands in the place of the result: a setting that is refused costs no other one.
+    Where a call raises an exception, that stands in the place of the result: a setting that is refused costs no other one. So does the
+    exception of a pool that fails, as one whose worker was killed: of an executor that is then broken, at each later setting.
 
     settings  any number of settings; they are taken as they are needed, so that a generator may be endless
     command   the name of a command that takes a setting first, or a function of a setting, which other processes must be able
@@ -65,7 +66,7 @@ def sweep(
         raise ValueError(f"no command of a setting: {command!r}; there are {', '.join(BY_NAME)}")
     ask = functools.partial(_outcomes, command, options)
     if pool is None:
-        load()
+        library()
         threads = threads or len(os.sched_getaffinity(0))
         pairs = _with_threads(ask, _batches(settings, batch or 1), threads, ahead or 4 * threads)
     else:
@@ -92,6 +93,16 @@ def _with_pool(ask: Ask, batches: Iterator[list[Given]], pool: Any, ahead: int) 
     return _in_order(batches, functools.partial(pool.submit, ask, **extra), ahead)
 
 
+def _submitted(submit: Callable[[list[Given]], Any], part: list[Given]) -> Any:
+    """What is to come of a batch; where the pool does not take it, a future that has its exception."""
+    try:
+        return submit(part)
+    except Exception as fault:
+        refused: concurrent.futures.Future[Any] = concurrent.futures.Future()
+        refused.set_exception(fault)
+        return refused
+
+
 def _in_order(
     batches: Iterator[list[Given]], submit: Callable[[list[Given]], Any], ahead: int
 ) -> Iterator[tuple[Given, Outcome]]:
@@ -99,7 +110,7 @@ def _in_order(
     waiting: collections.deque[tuple[list[Given], Any]] = collections.deque()
     try:
         for part in batches:
-            waiting.append((part, submit(part)))
+            waiting.append((part, _submitted(submit, part)))
             if len(waiting) >= ahead:
                 yield from _pairs(*waiting.popleft())
         while waiting:

@@ -1,4 +1,4 @@
-"""The commands with the library: each gives its value, and what is refused is raised with its status and line.
+"""The commands: each gives its value, and what is refused is raised with its status and line.
 
 The expected numbers are those of the pages of examples/ and docs/.
 """
@@ -6,38 +6,37 @@ The expected numbers are those of the pages of examples/ and docs/.
 import importlib.util
 import pickle
 import random
+import sys
+import types
 import unittest
+import unittest.mock
+from collections.abc import Callable, Sequence
 from fractions import Fraction
-
-from common import EXAMPLES, text
+from typing import Any
 
 import mechdes
 
-
-def example(name):
-    return EXAMPLES / f"{name}.toml"
-
-
-def stored(name):
-    return EXAMPLES / f"{name}.csv"
+from .common import calling, example, needs_library, stored, text
 
 
 class Solving(unittest.TestCase):
-    def test_each_word_has_its_own_class(self):
+    def test_each_word_has_its_own_class(self) -> None:
         for name, wanted in (
             ("posted-price", mechdes.GeneralOptimal),
             ("two-claims", mechdes.Infeasible),
             ("unbounded-revenue", mechdes.Unbounded),
             ("auction-ironed", mechdes.AuctionOptimal),
-            ("auction-beyond", mechdes.TooWide),
         ):
             with self.subTest(name):
                 self.assertIs(type(mechdes.solve(example(name))), wanted)
 
-    def test_a_narrow_width_is_too_wide(self):
+    @needs_library
+    def test_numbers_that_grow_are_too_wide(self) -> None:
+        self.assertIs(type(mechdes.solve(example("auction-beyond"))), mechdes.TooWide)
         self.assertIs(type(mechdes.solve(example("divorce"), width=4)), mechdes.TooWide)
 
-    def test_the_other_searches(self):
+    @needs_library
+    def test_the_other_searches(self) -> None:
         self.assertEqual(mechdes.fair(example("fair-split")).value, Fraction(4, 5))
         self.assertEqual(mechdes.asym(example("strong-and-weak")).value, Fraction(17, 4))
         self.assertEqual(mechdes.determ(example("two-goods")).value, Fraction(7, 3))
@@ -45,14 +44,15 @@ class Solving(unittest.TestCase):
         seats = mechdes.units(example("seats"), 3)
         self.assertEqual((seats.value, seats.mechanism.units), (Fraction(484, 81), 3))
 
-    def test_numbers(self):
+    @needs_library
+    def test_numbers(self) -> None:
         self.assertIsInstance(mechdes.make(1), mechdes.Auction)
         self.assertIsInstance(mechdes.make(2), mechdes.Setting)
         drilled = mechdes.drill(1)
         self.assertEqual((drilled.kind, drilled.word, drilled.value), ("auction", "optimal", Fraction(727535, 38416)))
         self.assertTrue(drilled.verdict)
 
-    def test_the_words_of_earlier_versions_are_there(self):
+    def test_the_words_of_earlier_versions_are_there(self) -> None:
         setting = text("two-goods.toml")
         answer = mechdes.solve(setting)
         self.assertTrue(mechdes.check(setting, str(answer)))
@@ -61,7 +61,7 @@ class Solving(unittest.TestCase):
 
 
 class Checking(unittest.TestCase):
-    def test_a_verdict_is_true_where_the_answer_is_valid_and_only_there(self):
+    def test_a_verdict_is_true_where_the_answer_is_valid_and_only_there(self) -> None:
         setting, answer = example("posted-price"), text("posted-price-answer.csv")
         self.assertTrue(mechdes.check(setting, answer))
         self.assertFalse(mechdes.check(setting, stored("posted-price")))
@@ -71,31 +71,50 @@ class Checking(unittest.TestCase):
         self.assertEqual((rejected.word, rejected.condition, rejected.numbers), ("rejected", 2, (3, 2)))
         self.assertEqual(str(rejected), "rejected,2,3,2")
 
-    def test_a_verdict_names_a_broken_condition(self):
+    def test_a_verdict_names_a_broken_condition(self) -> None:
         answer = text("posted-price-answer.csv").replace("pay,high,3", "pay,high,4")
         rejected = mechdes.check(example("posted-price"), answer)
         self.assertEqual((rejected.condition, rejected.name, rejected.numbers), (1, "truth/buyer/high/low/high", (-1, 0)))
 
-    def test_the_tree_of_determ_is_checked(self):
+    @needs_library
+    def test_the_tree_of_determ_is_checked(self) -> None:
         setting, answer = example("two-goods"), mechdes.determ(example("two-goods"))
         self.assertTrue(mechdes.determcheck(setting, answer))
         rejected = mechdes.determcheck(setting, str(answer).replace("value,7,3", "value,8,3"))
         self.assertEqual((bool(rejected), rejected.condition, rejected.numbers), (False, 13, (7, 3)))
 
-    def test_an_audit_is_true_where_the_mechanism_is_admissible_and_only_there(self):
+    def test_an_audit_is_true_where_the_mechanism_is_admissible_and_only_there(self) -> None:
         self.assertTrue(mechdes.audit(example("divorce"), stored("divorce-percent-safe")))
         broken = mechdes.audit(example("divorce"), stored("divorce-percent"))
         self.assertFalse(broken)
         self.assertEqual((broken.broken, broken.left, broken.right), ("truth/husband/little/much", 1824, 1840))
 
-    def test_mechanisms_of_other_answers_are_audited_reported_and_run(self):
+    @needs_library
+    def test_mechanisms_of_other_answers_are_audited_reported_and_run(self) -> None:
         setting = example("two-goods")
         self.assertTrue(mechdes.audit(setting, mechdes.determ(setting)))
         self.assertEqual(mechdes.report(setting, mechdes.determ(setting)).revenue, Fraction(7, 3))
         self.assertTrue(mechdes.audit(example("fair-split"), mechdes.fair(example("fair-split"))))
-        self.assertEqual(mechdes.run(setting, mechdes.determ(setting), ["v3_3"], 0), mechdes.Draw("both", {"buyer": Fraction(5)}))
+        self.assertEqual(mechdes.run(setting, mechdes.determ(setting), ["v3_3"], 0).payments, {"buyer": 5})
 
-    def test_a_mechanism_made_by_hand_is_audited(self):
+    def test_a_stored_answer_of_another_search_is_audited_reported_and_run(self) -> None:
+        setting = example("two-goods")
+        rule = mechdes.read(setting, stored("two-goods-rule"))
+        self.assertTrue(mechdes.audit(setting, rule))
+        self.assertEqual(mechdes.report(setting, rule).revenue, Fraction(7, 3))
+        drawn = mechdes.run(setting, rule, ["v3_3"], 0)
+        self.assertEqual((drawn.outcome, drawn.payments), ("both", {"buyer": 5}))
+
+    def test_a_mechanism_is_judged_by_its_names(self) -> None:
+        # A price of 3: who says low keeps out and pays nothing. The names do not stand in the order of the setting.
+        lotteries = {("high",): {"sell": 1, "keep": 0}, ("low",): {"sell": 0, "keep": 1}}
+        price = mechdes.Mechanism(lotteries, {("high",): {"buyer": 3}, ("low",): {"buyer": 0}})
+        self.assertTrue(mechdes.audit(example("posted-price"), price))
+        self.assertEqual(mechdes.report(example("posted-price"), price).revenue, Fraction(3, 2))
+        with self.assertRaises(ValueError):
+            mechdes.audit(example("auction-ironed"), price)
+
+    def test_a_mechanism_made_by_hand_is_audited(self) -> None:
         sure = {"keep": Fraction(0), "sell": Fraction(1)}
         price = mechdes.Mechanism(
             {("low",): sure, ("high",): sure}, {("low",): {"buyer": Fraction(1, 2)}, ("high",): {"buyer": Fraction(1, 2)}}
@@ -105,7 +124,7 @@ class Checking(unittest.TestCase):
 
 
 class Telling(unittest.TestCase):
-    def test_a_report(self):
+    def test_a_report(self) -> None:
         told = mechdes.report(example("posted-price"), stored("price-above-value"))
         self.assertEqual((told.value, told.revenue, told.welfare), (2, 2, Fraction(3, 2)))
         self.assertEqual(told.types["buyer", "high"], mechdes.TypeReport(gets=Fraction(-1), pays=Fraction(4)))
@@ -113,18 +132,18 @@ class Telling(unittest.TestCase):
         self.assertEqual(told.losses, (mechdes.Worst("buyer", "high", Fraction(1), None, ("high",)),))
         self.assertEqual((told.regret, told.admissible, told.deficit, told.tight), (1, False, None, ("rational/buyer/low",)))
 
-    def test_a_report_of_a_deficit(self):
+    def test_a_report_of_a_deficit(self) -> None:
         told = mechdes.report(example("public-good"), stored("public-good-subsidy"))
         self.assertEqual((told.deficit, told.admissible), ((("low", "low"), Fraction(-2)), False))
 
-    def test_a_report_of_an_auction(self):
+    def test_a_report_of_an_auction(self) -> None:
         told = mechdes.report(example("auction-ironed"), stored("auction-ironed-answer"))
         # 3/8 of the cases at 3, less 6/8: what a bidder with 3 keeps.
         self.assertEqual(told.types[3], mechdes.TypeReport(gets=Fraction(3, 8), pays=Fraction(6, 8)))
         self.assertEqual((told.revenue, told.welfare, told.regret), (3, Fraction(63, 16), 0))
         self.assertIn("truth/3/2", told.tight)
 
-    def test_a_run(self):
+    def test_a_run(self) -> None:
         setting, answer = example("class-trip"), stored("class-trip-answer")
         for profile, first, outcome in (
             (["museum_too", "zoo_only"], 3, "zoo"),
@@ -133,7 +152,7 @@ class Telling(unittest.TestCase):
         ):
             self.assertEqual(mechdes.run(setting, answer, profile, first), mechdes.Draw(outcome, {}))
 
-    def test_an_auction_is_drawn_to_each_bidder_as_often_as_the_other(self):
+    def test_an_auction_is_drawn_to_each_bidder_as_often_as_the_other(self) -> None:
         setting = example("auction-ironed")
         answer = mechdes.solve(setting)
         first = [mechdes.run(setting, answer, [3, 3], draw, second).winner for draw in range(8) for second in (0, 1)]
@@ -141,14 +160,26 @@ class Telling(unittest.TestCase):
         drawn = mechdes.draw(setting, answer, [6, 2], random.Random(1))
         self.assertEqual((drawn.winner, drawn.payments), (1, {1: Fraction(30, 8), 2: Fraction(6, 8)}))
 
-    def test_the_program_of_an_auction(self):
+    def test_what_run_does_not_read_is_not_drawn(self) -> None:
+        setting = mechdes.Auction(bidders=2, values=[1, 2], weights=[1, 1])
+        told = "answer,1,units,optimal\nvalue,2,1\ninterim,1\nodds,1,1\npays,1,1\nmass,0,2,0,2\nmass,1,1,2,2\nmass,2,0,2,0\nbound,1\nend\n"
+        with self.assertRaisesRegex(ValueError, "UnitsOptimal"):
+            mechdes.draw(setting, mechdes.read(setting, told), [1, 2])
+        sale = example("strong-and-weak")
+        told = "answer,1,asym,optimal\nvalue,0,1\ninterim,1\nodds,weak,0,0\nodds,strong,0,0\npays,weak,0,0\npays,strong,0,0\n"
+        told += "mass,v2,v4,0,0\nmass,v2,v6,0,0\nmass,v3,v4,0,0\nmass,v3,v6,0,0\nbound,1\nend\n"
+        with self.assertRaisesRegex(ValueError, "SaleOptimal"):
+            mechdes.draw(sale, mechdes.read(sale, told), ["v2", "v4"])
+
+    def test_the_program_of_an_auction(self) -> None:
         auction = mechdes.Auction(bidders=1, values=[1, 3], weights=[1, 1], keep=2)
         program = mechdes.rows(auction)
         self.assertEqual((program.columns, len(program.rows)), (6, 6))
         self.assertEqual(program.cost, {0: -2, 1: -2, 2: 1, 3: 1, 4: -1, 5: -1})
         self.assertEqual(program.rows[1], mechdes.Row("truth/3/1", False, 0, {0: 3, 1: -3, 2: -1, 3: 1, 4: 1, 5: -1}))
 
-    def test_pivots(self):
+    @needs_library
+    def test_pivots(self) -> None:
         setting = example("too-wide")
         wide = mechdes.read(setting, stored("too-wide-answer")).paths[0]
         replayed = mechdes.replay(setting, wide.pivots)
@@ -158,7 +189,8 @@ class Telling(unittest.TestCase):
         )
         self.assertTrue(mechdes.replay(setting, []))
 
-    def test_odds(self):
+    @needs_library
+    def test_odds(self) -> None:
         setting = example("two-bidders")
         violated = mechdes.realise(setting, stored("two-bidders-odds-too-often"))
         self.assertFalse(violated)
@@ -171,19 +203,61 @@ class Telling(unittest.TestCase):
         self.assertTrue(mapped)
 
 
+class Recorder(types.ModuleType):
+    """What stands in for pandas: it keeps what a table is made of."""
+
+    class MultiIndex:
+        @staticmethod
+        def from_tuples(keys: list[tuple[Any, ...]], names: Sequence[str]) -> Any:
+            return keys, list(names)
+
+    @staticmethod
+    def Index(keys: list[Any], name: str) -> Any:
+        return keys, [name]
+
+    @staticmethod
+    def DataFrame(rows: list[Any], index: Any, dtype: type) -> Any:
+        assert dtype is object
+        return rows, *index
+
+
+class TableParts(unittest.TestCase):
+    def table(self, value: Any) -> tuple[list[dict[str, Any]], list[Any], list[str]]:
+        with unittest.mock.patch.dict(sys.modules, pandas=Recorder("pandas")):
+            return value.to_pandas()
+
+    def test_what_tables_are_made_of(self) -> None:
+        rows, keys, names = self.table(mechdes.read(example("divorce"), stored("divorce-answer")))
+        self.assertEqual(names, ["husband", "wife"])
+        self.assertEqual(rows[keys.index(("much", "much"))]["burn"], Fraction(5, 11))
+        rows, keys, names = self.table(mechdes.read(example("posted-price"), stored("posted-price-answer")))
+        self.assertEqual((rows[1], keys, names), ({"keep": 0, "sell": 1, "pays buyer": 3}, ["low", "high"], ["buyer"]))
+        rows, keys, names = self.table(mechdes.read(example("auction-ironed"), stored("auction-ironed-answer")))
+        self.assertEqual((rows[2], keys[2], names), ({"weight": 1, "odds": Fraction(7, 8), "pays": Fraction(15, 4)}, 6, ["value"]))
+        told = mechdes.report(example("posted-price"), stored("posted-price-answer"))
+        self.assertEqual(self.table(told), ([{"gets": 0, "pays": 0}, {"gets": 0, "pays": 3}], list(told.types), ["agent", "type"]))
+        rows, keys, names = self.table(mechdes.frontier(example("posted-price")))
+        self.assertEqual([row["welfare"] for row in rows], [Fraction(3, 2), 2])
+
+    def test_without_pandas_an_import_error_says_so(self) -> None:
+        with unittest.mock.patch.dict(sys.modules, pandas=None), self.assertRaises(ImportError):
+            mechdes.read(example("posted-price"), stored("posted-price-answer")).to_pandas()
+
+
 class Tables(unittest.TestCase):
-    def setUp(self):
+    def setUp(self) -> None:
         if importlib.util.find_spec("pandas") is None:
             self.skipTest("pandas is not there")
 
-    def test_a_table_has_names_and_exact_numbers(self):
+    def test_a_table_has_names_and_exact_numbers(self) -> None:
         table = mechdes.solve(example("divorce")).to_pandas()
         self.assertEqual(table.index.names, ["husband", "wife"])
         self.assertEqual(table.loc[("much", "much"), "burn"], Fraction(5, 11))
         table = mechdes.solve(example("posted-price")).to_pandas()
         self.assertEqual((table.loc["high", "sell"], table.loc["high", "pays buyer"]), (1, 3))
 
-    def test_other_tables(self):
+    @needs_library
+    def test_other_tables(self) -> None:
         auction = example("auction-ironed")
         answer = mechdes.solve(auction)
         self.assertEqual(answer.to_pandas().loc[6].to_dict(), {"weight": 1, "odds": Fraction(7, 8), "pays": Fraction(15, 4)})
@@ -193,18 +267,16 @@ class Tables(unittest.TestCase):
 
 
 class Refused(unittest.TestCase):
-    def refuses(self, kind, status, line, call):
+    def refuses(self, kind: type[mechdes.Refused], status: int, line: str, call: Callable[[], object]) -> None:
         with self.assertRaises(kind) as caught:
             call()
         self.assertEqual((caught.exception.status, caught.exception.line), (status, line))
         again = pickle.loads(pickle.dumps(caught.exception))
         self.assertEqual((type(again), again.status, again.line), (kind, status, line))
 
-    def test_each_status_is_an_exception_of_its_own(self):
+    def test_each_status_is_an_exception_of_its_own(self) -> None:
         setting, answer = example("posted-price"), stored("posted-price-answer")
         self.refuses(mechdes.SettingRefused, 65, "setting refused: missing format", lambda: mechdes.solve("x = 1\n"))
-        self.refuses(mechdes.SettingRefused, 65, "setting refused: other kind", lambda: mechdes.fair(example("auction-ironed")))
-        self.refuses(mechdes.SettingRefused, 65, "setting refused: not a sale", lambda: mechdes.asym(setting))
         self.refuses(mechdes.AnswerRefused, 66, "answer refused: line 1: record", lambda: mechdes.check(setting, setting))
         self.refuses(
             mechdes.AnswerRefused,
@@ -214,24 +286,125 @@ class Refused(unittest.TestCase):
         )
         self.refuses(mechdes.WordRefused, 67, "profile refused", lambda: mechdes.run(setting, answer, ["middle"], 0))
         self.refuses(mechdes.WordRefused, 67, "draw refused", lambda: mechdes.run(setting, answer, ["low"], -1))
+
+    @needs_library
+    def test_refusals_of_further_commands(self) -> None:
+        setting = example("posted-price")
+        self.refuses(mechdes.SettingRefused, 65, "setting refused: other kind", lambda: mechdes.fair(example("auction-ironed")))
+        self.refuses(mechdes.SettingRefused, 65, "setting refused: not a sale", lambda: mechdes.asym(setting))
         self.refuses(mechdes.WordRefused, 67, "number refused", lambda: mechdes.make(-1))
         self.refuses(mechdes.WordRefused, 67, "number refused", lambda: mechdes.units(example("seats"), 13))
         self.refuses(mechdes.WordRefused, 67, "pivot 1 refused", lambda: mechdes.replay(setting, [(0, 99)]))
         self.refuses(mechdes.UsageRefused, 64, "usage", lambda: mechdes.solve(setting, width=63))
 
-    def test_the_reason_of_a_refusal(self):
+    def test_the_reason_of_a_refusal(self) -> None:
         auction = mechdes.Auction(bidders=2, values=[1, 2], weights=[1, 0])
         with self.assertRaises(mechdes.SettingRefused) as caught:
             mechdes.solve(auction)
         self.assertEqual(caught.exception.reason, "zero weight")
 
-    def test_words_cannot_be_smuggled_in(self):
-        with self.assertRaises(ValueError):
-            mechdes.run(example("posted-price"), stored("posted-price-answer"), ["low\n0"], 0)
 
-    def test_a_long_answer_needs_more_room_than_was_held(self):
-        given = text("posted-price.toml")
-        self.assertEqual(mechdes.call(["solve", "setting"], given, room=3), mechdes.call(["solve", "setting"], given))
+class Ready:
+    """A library that keeps the questions, and has one answer to all."""
+
+    def __init__(self, reply: mechdes.Reply) -> None:
+        self.asked: list[tuple[list[str], bytes, bytes]] = []
+        self.reply = reply
+
+    def call(self, words: Sequence[str], setting: bytes = b"", second: bytes = b"") -> mechdes.Reply:
+        self.asked.append((list(words), setting, second))
+        return self.reply
+
+
+class Wiring(unittest.TestCase):
+    """What each command asks of the library, told by one that keeps the question and has the answer ready."""
+
+    def told(self, reply: mechdes.Reply, command: Callable[..., Any], *words: Any) -> tuple[Any, Any]:
+        """What a command makes of a reply, and what it asked."""
+        ready = Ready(reply)
+        with calling(ready):
+            found = command(*words)
+        (question,) = ready.asked
+        return found, question
+
+    def test_questions_and_answers(self) -> None:
+        auction, sale, goods = (example(name).read_bytes() for name in ("seats", "strong-and-weak", "two-goods"))
+        rule, fairest = text("two-goods-rule.csv"), text("fair-split-fairest.csv")
+        wide = "cut,1\nwide,0,0,9,1\nagain\nwide,0,0,9,1\nend\n"
+        split, drilled = example("fair-split").read_bytes(), "drill,2,general,optimal,91,4\ncheck,valid\n"
+        for status, printed, command, words, kind, question in (
+            (0, rule, mechdes.determ, [goods], mechdes.Rule, (["determ", "setting", "--width", "62"], goods, b"")),
+            (0, fairest, mechdes.fair, [split, 30], mechdes.Fairest, (["fair", "setting", "--width", "30"], split, b"")),
+            (
+                12,
+                f"answer,1,asym,toowide\n{wide}",
+                mechdes.asym,
+                [sale],
+                mechdes.TooWide,
+                (["asym", "setting", "--width", "62"], sale, b""),
+            ),
+            (
+                12,
+                f"answer,1,units,toowide\n{wide}",
+                mechdes.units,
+                [auction, 3],
+                mechdes.TooWide,
+                (["units", "--width", "62", "--", "setting", "3"], auction, b""),
+            ),
+            (22, "undecided\n", mechdes.iron, [auction], mechdes.Undecided, (["iron", "setting"], auction, b"")),
+            (
+                20,
+                "rejected,16\n",
+                mechdes.determcheck,
+                [goods, rule],
+                mechdes.Verdict,
+                (["determcheck", "setting", "answer"], goods, rule.encode()),
+            ),
+            (
+                0,
+                "basis,0,1,3\nrule,1\nagain,0\nend\n",
+                mechdes.replay,
+                [goods, [(1, 2)]],
+                mechdes.Replay,
+                (["replay", "setting", "pivots", "--width", "62"], goods, b"pivot,1,2\nend\n"),
+            ),
+            (
+                21,
+                "violated,6,1,2\n",
+                mechdes.realise,
+                [auction, {1: 0, 2: Fraction(1, 2), 3: Fraction(2, 3)}],
+                mechdes.Violated,
+                (["realise", "setting", "odds"], auction, b"interim,6\nodds,0,3,4\nend\n"),
+            ),
+            (0, auction.decode(), mechdes.make, [1], mechdes.Auction, (["make", "--", "1"], b"", b"")),
+            (0, drilled, mechdes.drill, [2], mechdes.Drill, (["drill", "--", "2"], b"", b"")),
+        ):
+            with self.subTest(command.__name__):
+                found, asked = self.told(mechdes.Reply(status, printed.encode(), b""), command, *words)
+                self.assertIs(type(found), kind)
+                self.assertEqual(asked, question)
+
+    def test_each_status_has_its_exception(self) -> None:
+        for status, kind in (
+            (64, mechdes.UsageRefused),
+            (65, mechdes.SettingRefused),
+            (66, mechdes.AnswerRefused),
+            (67, mechdes.WordRefused),
+            (72, mechdes.OutOfMemory),
+            (99, mechdes.Refused),
+        ):
+            with self.subTest(status), self.assertRaises(kind) as caught:
+                self.told(mechdes.Reply(status, b"", b"mechdes: setting refused: zero weight\n"), mechdes.solve, "x = 1\n")
+            self.assertIs(type(caught.exception), kind)
+            self.assertEqual((caught.exception.status, caught.exception.reason), (status, "zero weight"))
+
+    def test_an_answer_of_another_command_is_refused_by_its_name(self) -> None:
+        fairest = text("fair-split-fairest.csv")
+        infeasible = "answer,1,fair,infeasible\nrow,0,1\nend\n"
+        for status, printed, named in ((0, fairest, "fair, Fairest"), (10, infeasible, "fair, Infeasible")):
+            reply = mechdes.Reply(status, printed.encode(), b"")
+            with self.subTest(named), self.assertRaisesRegex(mechdes.AnswerNotRead, f"solve does not give: {named}"):
+                self.told(reply, mechdes.solve, example("fair-split"))
 
 
 if __name__ == "__main__":

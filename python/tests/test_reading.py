@@ -7,18 +7,19 @@ import pickle
 import re
 import unittest
 from fractions import Fraction
-
-from common import EXAMPLES, text
+from typing import Any
 
 import mechdes
 from mechdes.reading import read_answer
 
+from .common import EXAMPLES, text
 
-def read(setting, answer):
+
+def read(setting: str, answer: str) -> Any:
     return mechdes.read(EXAMPLES / f"{setting}.toml", EXAMPLES / f"{answer}.csv")
 
 
-def on_page(name, command):
+def on_page(name: str, command: str) -> str:
     """The records that a page shows below a command, which may be the first of more."""
     lines = text(name).splitlines()
     at = lines.index(f"    ./mechdes {command}") + 1
@@ -29,7 +30,7 @@ def on_page(name, command):
 
 
 class Answers(unittest.TestCase):
-    def test_optimal(self):
+    def test_optimal(self) -> None:
         found = read("posted-price", "posted-price-answer")
         self.assertIs(type(found), mechdes.GeneralOptimal)
         self.assertIsInstance(found, mechdes.Optimal)
@@ -42,7 +43,7 @@ class Answers(unittest.TestCase):
         self.assertEqual((found.kind, found.word), ("general", "optimal"))
         self.assertEqual(str(found), text("posted-price-answer.csv"))
 
-    def test_a_lottery_of_fractions(self):
+    def test_a_lottery_of_fractions(self) -> None:
         found = read("divorce", "divorce-answer")
         self.assertEqual(found.value, Fraction(9652, 275))
         self.assertEqual(
@@ -50,23 +51,23 @@ class Answers(unittest.TestCase):
         )
         self.assertEqual(found.payments, {})
 
-    def test_table(self):
+    def test_table(self) -> None:
         found = read("posted-price", "price-above-value")
         self.assertIs(type(found), mechdes.Table)
         self.assertEqual(found.mechanism.payments["high",], {"buyer": 4})
 
-    def test_infeasible(self):
+    def test_infeasible(self) -> None:
         found = read("two-claims", "two-claims-answer")
         self.assertIs(type(found), mechdes.Infeasible)
         self.assertEqual([(m.row, m.face, m.main) for m in found.multipliers], [(0, 1, None), (1, 1, None), (2, 3, None)])
 
-    def test_unbounded(self):
+    def test_unbounded(self) -> None:
         found = read("unbounded-revenue", "unbounded-revenue-answer")
         self.assertIs(type(found), mechdes.Unbounded)
         self.assertEqual(found.ray, {("low",): {"buyer": 1}, ("high",): {"buyer": 1}})
         self.assertEqual(found.mechanism.lotteries["high",]["keep"], 1)
 
-    def test_too_wide_by_two_paths(self):
+    def test_too_wide_by_two_paths(self) -> None:
         found = read("too-wide", "too-wide-answer")
         self.assertIs(type(found), mechdes.TooWide)
         forward, backward = found.paths
@@ -75,13 +76,13 @@ class Answers(unittest.TestCase):
         self.assertEqual(forward.entry, Fraction(25536590580927989520, 319166515855856))
         self.assertEqual((backward.pivots[0], backward.row, backward.column), ((17, 80), 1, 18))
 
-    def test_too_wide_of_an_auction(self):
+    def test_too_wide_of_an_auction(self) -> None:
         wide = "answer,2,auction,toowide\ncut,1\ncut,5\npivot,0,1\nwide,2,3,9,2\nagain\npivot,4,5\nwide,6,7,8,3\nend\n"
         found = mechdes.read(EXAMPLES / "auction-ironed.toml", wide)
         self.assertEqual(found.cuts, (frozenset({2}), frozenset({2, 6})))
         self.assertEqual([path.entry for path in found.paths], [Fraction(9, 2), Fraction(8, 3)])
 
-    def test_auction(self):
+    def test_auction(self) -> None:
         found = read("auction-ironed", "auction-ironed-answer")
         self.assertIs(type(found), mechdes.AuctionOptimal)
         self.assertEqual(found.value, 3)
@@ -95,13 +96,13 @@ class Answers(unittest.TestCase):
         with self.assertRaises(ValueError):
             found.mechanism.chances([3, 4])
 
-    def test_fairest(self):
+    def test_fairest(self) -> None:
         found = read("fair-split", "fair-split-fairest")
         self.assertIs(type(found), mechdes.Fairest)
         self.assertEqual(found.value, Fraction(4, 5))
         self.assertEqual(found.lotteries["needs", "any"], {"keep": 0, "player": Fraction(4, 15), "other": Fraction(11, 15)})
 
-    def test_a_sale(self):
+    def test_a_sale(self) -> None:
         page = on_page("strong-and-weak.md", "asym examples/strong-and-weak.toml")
         page = page.removesuffix("end\n") + ("" if "bound," in page else "bound,2\nrow,3,0,2\n") + "end\n"
         found = mechdes.read(EXAMPLES / "strong-and-weak.toml", page)
@@ -114,7 +115,7 @@ class Answers(unittest.TestCase):
         self.assertEqual(found.mechanism.chances(["v3", "v4"]), {"weak": 1, "strong": 0})
         self.assertEqual(found.cuts[-1], frozenset({("weak", "v3"), ("strong", "v6")}))
 
-    def test_a_sale_of_units(self):
+    def test_a_sale_of_units(self) -> None:
         setting = mechdes.Auction(bidders=2, values=[1, 2], weights=[1, 1])
         # Two units for two bidders: each pays 1 where it has one, and both have one at all profiles.
         told = "answer,1,units,optimal\nvalue,2,1\ninterim,1\nodds,1,1\npays,1,1\n"
@@ -125,7 +126,7 @@ class Answers(unittest.TestCase):
         self.assertEqual((found.value, found.mechanism.units), (2, 2))
         self.assertEqual(found.mechanism.chances([2, 1]), (1, 1))
 
-    def test_the_mechanism_of_determ_is_no_leaf(self):
+    def test_the_mechanism_of_determ_is_no_leaf(self) -> None:
         found = read("two-goods", "two-goods-rule")
         self.assertIs(type(found), mechdes.Rule)
         self.assertEqual(found.value, Fraction(7, 3))
@@ -141,7 +142,7 @@ class Answers(unittest.TestCase):
         )
         self.assertEqual([row["buyer"] for row in found.leaves[-1].mechanism.payments.values()], [1, 1, 1])
 
-    def test_other_answers_of_determ(self):
+    def test_other_answers_of_determ(self) -> None:
         setting = EXAMPLES / "two-claims.toml"
         found = mechdes.read(setting, "answer,1,determ,infeasible\nleaf,infeasible\nrow,0,1\nend\n")
         self.assertIs(type(found), mechdes.Infeasible)
@@ -153,7 +154,7 @@ class Answers(unittest.TestCase):
         unbounded = text("unbounded-revenue-answer.csv").replace("general", "determ")
         self.assertIs(type(mechdes.read(EXAMPLES / "unbounded-revenue.toml", unbounded)), mechdes.Unbounded)
 
-    def test_a_deep_tree_is_read(self):
+    def test_a_deep_tree_is_read(self) -> None:
         types = [f"t{k}" for k in range(16)]
         agents = [mechdes.Agent(name, types, [[0]] * 16, weights=[1] * 16) for name in "ab"]
         setting = mechdes.Setting(
@@ -167,30 +168,68 @@ class Answers(unittest.TestCase):
         found = read_answer(setting, f"answer,1,determ,infeasible\n{branches}leaf,infeasible\nend\n")
         self.assertEqual((len(found.tree), len(found.tree[-1].fixed)), (1025, 1024))
 
-    def test_undecided(self):
+    def test_undecided(self) -> None:
         found = mechdes.read(EXAMPLES / "auction-beyond.toml", "undecided\n")
         self.assertEqual((type(found), found.word), (mechdes.Undecided, "undecided"))
 
-    def test_every_stored_answer_is_read_and_comes_back_from_a_pickle(self):
+    def test_every_stored_answer_is_read_and_comes_back_from_a_pickle(self) -> None:
         for ending in ("-answer", "-fairest", "-rule"):
             for path in sorted(EXAMPLES.glob(f"*{ending}.csv")):
                 with self.subTest(path.name):
                     found = mechdes.read(EXAMPLES / f"{path.stem.removesuffix(ending)}.toml", path)
                     self.assertEqual(pickle.loads(pickle.dumps(found)), found)
 
-    def test_a_mechanism_writes_the_table_that_it_is_read_from(self):
+    def test_a_mechanism_writes_the_table_that_it_is_read_from(self) -> None:
         for setting, table in (
             ("posted-price", "posted-price"),
             ("divorce", "divorce-percent"),
             ("public-good", "public-good-subsidy"),
         ):
             found = read(setting, table)
-            self.assertEqual(found.mechanism.to_answer(), text(f"{table}.csv"))
+            again = mechdes.Table(setting=found.setting, mechanism=found.mechanism)
+            self.assertEqual(again.text(), text(f"{table}.csv"))
         self.assertEqual(mechdes.Mechanism(found.mechanism.lotteries, {("a",): {"x": Fraction(1, 6)}}).denominator, 6)
+
+    def test_numbers_that_are_not_exact_are_refused(self) -> None:
+        with self.assertRaises(TypeError):
+            mechdes.Mechanism({("low",): {"keep": 0.5, "sell": 0.5}})
+        given = mechdes.Mechanism({("low",): {"keep": 0.5, "sell": 0.5}, ("high",): {"keep": 1, "sell": 0}}, denominator=2)
+        setting = mechdes.Setting(
+            truth="bayes",
+            rational="none",
+            payments=False,
+            outcomes=["keep", "sell"],
+            agents=[mechdes.Agent("buyer", ["low", "high"], [[0, 1], [0, 3]], weights=[1, 1])],
+        )
+        with self.assertRaises(TypeError):
+            mechdes.Table(setting=setting, mechanism=given).text()
+
+    def test_names_of_a_mechanism_may_stand_in_any_order(self) -> None:
+        found = read("divorce", "divorce-percent")
+        turned = {profile: dict(reversed(row.items())) for profile, row in reversed(found.mechanism.lotteries.items())}
+        table = mechdes.Table(setting=found.setting, mechanism=mechdes.Mechanism(turned, denominator=100))
+        self.assertEqual(table.text(), text("divorce-percent.csv"))
+
+    def test_a_mechanism_with_other_names_is_not_written(self) -> None:
+        setting = mechdes.read_setting(EXAMPLES / "posted-price.toml")
+        chances, pays = {"keep": 1, "sell": 0}, {"buyer": 0}
+        for lotteries, payments in (
+            ({("low",): chances}, {("low",): pays}),
+            ({("low",): chances, ("high",): {"keep": 1}}, {("low",): pays, ("high",): pays}),
+            ({("low",): chances, ("high",): {**chances, "burn": 0}}, {("low",): pays, ("high",): pays}),
+            ({("low",): chances, ("high",): chances}, {}),
+            ({("low",): chances, ("high",): chances}, {("low",): pays, ("high",): {"seller": 0}}),
+        ):
+            with self.subTest(lotteries, payments=payments), self.assertRaisesRegex(ValueError, "are wanted, not"):
+                mechdes.Table(setting=setting, mechanism=mechdes.Mechanism(lotteries, payments)).text()
+        divorce = read("divorce", "divorce-percent")
+        paid = mechdes.Mechanism(divorce.mechanism.lotteries, {profile: {"wife": 0} for profile in divorce.mechanism.lotteries})
+        with self.assertRaisesRegex(ValueError, "are wanted, not"):
+            mechdes.Table(setting=divorce.setting, mechanism=paid).text()
 
 
 class Refusals(unittest.TestCase):
-    def test_an_answer_of_an_unknown_kind_is_refused_by_its_name(self):
+    def test_an_answer_of_an_unknown_kind_is_refused_by_its_name(self) -> None:
         setting = EXAMPLES / "posted-price.toml"
         answer = text("posted-price-answer.csv")
         for old, new in (("general", "robust"), ("optimal", "nearly"), ("answer,1", "answer,3"), ("answer,1", "answer,2")):
@@ -198,12 +237,12 @@ class Refusals(unittest.TestCase):
                 mechdes.read(setting, answer.replace(old, new, 1))
             self.assertIn(new.split(",")[-1], str(caught.exception))
 
-    def test_an_answer_about_another_kind_of_setting_is_refused(self):
+    def test_an_answer_about_another_kind_of_setting_is_refused(self) -> None:
         for setting, answer in (("posted-price", "auction-ironed-answer"), ("auction-ironed", "posted-price-answer")):
             with self.assertRaises(mechdes.AnswerNotRead):
                 read(setting, answer)
 
-    def test_an_answer_to_another_setting_is_refused(self):
+    def test_an_answer_to_another_setting_is_refused(self) -> None:
         for setting, answer in (
             ("divorce", "posted-price-answer"),
             ("auction-reserve", "auction-ironed-answer"),
@@ -212,7 +251,7 @@ class Refusals(unittest.TestCase):
             with self.subTest(setting), self.assertRaises(mechdes.AnswerNotRead):
                 read(setting, answer)
 
-    def test_a_text_that_lacks_a_record_or_has_one_twice_is_refused(self):
+    def test_a_text_that_lacks_a_record_or_has_one_twice_is_refused(self) -> None:
         for setting, answer in (
             ("posted-price", "posted-price-answer"),
             ("auction-ironed", "auction-ironed-answer"),
@@ -225,7 +264,7 @@ class Refusals(unittest.TestCase):
                     with self.subTest(answer=answer, record=k), self.assertRaises(mechdes.AnswerNotRead):
                         mechdes.read(EXAMPLES / f"{setting}.toml", "".join(wrong) or "\n")
 
-    def test_records_out_of_their_order_are_refused(self):
+    def test_records_out_of_their_order_are_refused(self) -> None:
         for setting, word in (
             ("posted-price", "row"),
             ("auction-ironed", "mass"),
@@ -238,7 +277,7 @@ class Refusals(unittest.TestCase):
             with self.subTest(setting, word=word), self.assertRaises(mechdes.AnswerNotRead):
                 mechdes.read(EXAMPLES / f"{setting}.toml", "".join(lines))
 
-    def test_masses_that_are_none_are_refused(self):
+    def test_masses_that_are_none_are_refused(self) -> None:
         answer = text("auction-ironed-answer.csv")
         for old, new in (
             ("mass,1,1,0,16,16,0", "mass,1,1,0,16,16,1"),
@@ -248,7 +287,7 @@ class Refusals(unittest.TestCase):
             with self.subTest(new), self.assertRaises(mechdes.AnswerNotRead):
                 mechdes.read(EXAMPLES / "auction-ironed.toml", answer.replace(old, new))
 
-    def test_numbers_that_are_none_are_refused(self):
+    def test_numbers_that_are_none_are_refused(self) -> None:
         answer = text("posted-price-answer.csv")
         for old, new in (
             ("3,2", "3,0"),

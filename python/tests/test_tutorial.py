@@ -4,14 +4,15 @@ import contextlib
 import io
 import re
 import unittest
-
-from common import EXAMPLES, PYTHON
+from collections.abc import Callable
 
 import price_and_lottery
 import tutorial
 
+from .common import EXAMPLES, PYTHON, needs_library
 
-def printed(part):
+
+def printed(part: Callable[[], object]) -> str:
     """What a part of the tutorial prints."""
     with contextlib.redirect_stdout(io.StringIO()) as out:
         part()
@@ -19,30 +20,31 @@ def printed(part):
 
 
 class Tutorial(unittest.TestCase):
-    def test_divorce(self):
+    @needs_library
+    def test_divorce(self) -> None:
         # The page divorce.md.
         told = printed(tutorial.divorce)
         self.assertIn("The best rule has the value 9652/275\n", told)
         self.assertIn("to_husband 6/11, burn 5/11\n", told)
 
-    def test_price(self):
+    def test_price(self) -> None:
         # The page posted-price.md.
         self.assertIn("The best price is 3 and brings 3/2\n", printed(tutorial.price))
 
-    def test_auction(self):
+    def test_auction(self) -> None:
         # The page auction-ironed.md.
         told = printed(tutorial.auction)
         self.assertIn("The best auction brings 3\n", told)
         self.assertIn("a bidder with 6 wins with the chance 7/8 and pays 15/4 on average\n", told)
         self.assertIn("nobody gains by a lie: True\nwhere 3 and 2 are reported, the chances are 1/2 1/2\n", told)
 
-    def test_reserve_prices(self):
+    def test_reserve_prices(self) -> None:
         # The higher value is 5 in 9 of 25 profiles, 4 in 7 and 3 in 5; virtual values are 5, 3 and 1, and the item is sold where they
         # are more than what it is worth kept.
         values = re.findall(r"^ +\d+  (\S+) ", printed(tutorial.reserve_prices), re.M)
         self.assertEqual(values, ["71/25", "3", "84/25", "93/25", "109/25", "5", "6"])
 
-    def test_held(self):
+    def test_held(self) -> None:
         # A thousand auctions: within four times the standard deviation of what the odds and pays say.
         told = printed(tutorial.held)
         paid = float(re.search(r"the seller has (\S+) on average; the value is 3\n", told)[1])
@@ -50,26 +52,26 @@ class Tutorial(unittest.TestCase):
         for value, odds in re.findall(r"a bidder with \d won (\S+) of the time; its odds are (\S+)\n", told):
             self.assertLess(abs(float(value) - float(odds)), 0.1)
 
-    def test_compromises(self):
+    def test_compromises(self) -> None:
         # The page frontier.md; at 70/25 two thirds of the first corner's 88/25 and one third of the second one's 94/25.
         self.assertIn(
             "revenue 68/25 with welfare 94/25\nrevenue 13/5 with welfare 19/5\nat a revenue of 14/5 the most welfare is 18/5\n",
             printed(tutorial.compromises),
         )
 
-    def test_refusals(self):
+    def test_refusals(self) -> None:
         self.assertEqual(
             printed(tutorial.refusals), "Values must ascend. The program says: setting refused: values order (status 65)\n"
         )
 
 
 class Scripts(unittest.TestCase):
-    def test_the_breakpoints_of_lotteries_and_prices(self):
+    def test_the_breakpoints_of_lotteries_and_prices(self) -> None:
         # docs/USING.md.
         told = printed(price_and_lottery.main).splitlines()
         self.assertEqual(told[:2], ["the best price list changes at W = 1 2", "the best mechanism changes at W = 1/2 5/2"])
 
-    def test_the_code_of_the_documentation_runs_and_prints_what_it_says(self):
+    def test_the_code_of_the_documentation_runs_and_prints_what_it_says(self) -> None:
         section = (PYTHON.parent / "docs/USING.md").read_text().split("## In Python, without a process\n")[1].split("\n## ")[0]
         code = "".join(re.findall("```python\n(.*?)```", section, re.S)) + "\n"
         lines = [line for line in code.splitlines() if not re.search("to_pandas|savefig", line)]
@@ -77,6 +79,7 @@ class Scripts(unittest.TestCase):
         for shown in (
             "GeneralOptimal 5/2\n",
             "{2: Fraction(3, 8), 3: Fraction(3, 8), 6: Fraction(7, 8)}\n",
+            "\nanswer,1,general,optimal\n",
             "63/16\n",
             "0 71/25\n",
             "True\n",

@@ -1,0 +1,127 @@
+"""What stands in for the proved library: the programs of second-opinion/, which share nothing with mechdes but its formats.
+
+They find, check, list and report. `audit` and `run` are made here of their parts, by docs/FORMATS.md.
+"""
+
+import itertools
+import pathlib
+import sys
+import tempfile
+from collections.abc import Callable, Sequence
+
+from mechdes import Reply
+
+sys.path.append(str(pathlib.Path(__file__).resolve().parent.parent.parent / "second-opinion"))
+
+from second_opinion import (  # noqa: E402
+    answer,
+    auction,
+    auction_answer,
+    checking,
+    command,
+    finding,
+    listing,
+    program,
+    reporting,
+    setting,
+)
+from second_opinion.setting import Refused  # noqa: E402
+
+Told = tuple[int, str]
+
+
+def _read(names: Sequence[str]) -> tuple[setting.GeneralSetting | setting.AuctionSetting, object]:
+    """A setting and an answer to it, from their files."""
+    its = setting.read_setting(command.read_file(names[0], setting.FILE_LIMIT))
+    reader = auction_answer if isinstance(its, setting.AuctionSetting) else answer
+    return its, reader.read_answer(command.read_file(names[1], answer.FILE_LIMIT), its)
+
+
+def audit(words: Sequence[str]) -> Told:
+    """The command `audit SETTING ANSWER`."""
+    its, said = _read(words)
+    broken = program.broken(its, reporting.table_of(said, "mechanism"))
+    return (0, "admissible\n") if broken is None else (20, ",".join(map(str, ("broken", *broken))) + "\n")
+
+
+def run(words: Sequence[str]) -> Told:
+    """The command `run SETTING ANSWER PROFILE DRAW1 DRAW2`."""
+    its, said = _read(words)
+    draw = _auction_draw if isinstance(its, setting.AuctionSetting) else _general_draw
+    return 0, draw(its, said, words[2].split(","), int(words[3]), int(words[4]))
+
+
+def _first_over(numbers: Sequence[int], draw: int) -> int | None:
+    """The first place up to which the numbers add to more than a draw."""
+    return next((place for place, total in enumerate(itertools.accumulate(numbers)) if total > draw), None)
+
+
+def _try(holds: bool, what: str) -> None:
+    if not holds:
+        raise Refused(67, f"{what} refused")
+
+
+def _general_draw(its: setting.GeneralSetting, said: object, reports: Sequence[str], first: int, second: int) -> str:
+    mechanism = reporting.table_of(said, "mechanism")
+    names = {tuple(agent.types[kind] for agent, kind in zip(its.agents, profile)): profile for profile in its.profiles()}
+    _try(tuple(reports) in names, "profile")
+    profile = names[tuple(reports)]
+    _try(0 <= first < mechanism.den and second == 0, "draw")
+    drawn = f"outcome,{its.outcomes[_first_over(mechanism.lotteries[profile], first)]}\n"
+    paid = ",".join(map(str, mechanism.pays.get(profile, [])))
+    return drawn + (f"pays,{mechanism.den},{paid}\n" if its.payments else "")
+
+
+def _auction_draw(its: setting.AuctionSetting, said: object, reports: Sequence[str], first: int, second: int) -> str:
+    interim, values = said.interim, list(map(str, its.values))
+    _try(len(reports) == its.bidders and set(reports) <= set(values), "profile")
+    counts = tuple(reports.count(value) for value in values)
+    _try(0 <= first < interim.den * auction.weight_of(its, counts), "draw")
+    place = _first_over(said.masses[counts], first)
+    having = [number for number, report in enumerate(reports, 1) if place is not None and report == values[place]]
+    _try(0 <= second < max(len(having), 1), "draw")
+    paid = ",".join(str(interim.pays[values.index(report)]) for report in reports)
+    return f"outcome,{having[second] if having else 'keep'}\npays,{interim.den},{paid}\n"
+
+
+class SecondOpinion:
+    """Answers as the library does, where second-opinion/ has a command for it; its mechanisms may be others of the same value."""
+
+    _commands: dict[str, Callable[[Sequence[str]], Told]] = {
+        "solve": finding.find,
+        "check": checking.check,
+        "rows": listing.rows,
+        "report": reporting.report,
+        "audit": audit,
+        "run": run,
+    }
+
+    def call(self, words: Sequence[str], setting: bytes = b"", second: bytes = b"") -> Reply:
+        """Carries out a command. Raises `NotImplementedError` for one that second-opinion/ does not have, or another width."""
+        name, *rest = words
+        if "--width" in rest:
+            at = rest.index("--width")
+            if rest[at + 1] != "62":
+                raise NotImplementedError(f"a width of {rest[at + 1]}")
+            del rest[at : at + 2]
+        if name not in self._commands:
+            raise NotImplementedError(name)
+        with tempfile.TemporaryDirectory() as folder:
+            paths = {"setting": pathlib.Path(folder) / "setting", "answer": pathlib.Path(folder) / "answer"}
+            for path, data in zip(paths.values(), (setting, second), strict=True):
+                path.write_bytes(data)
+            given = [str(paths.get(word, word)) for word in rest if word != "--"]
+            status, out, line = command.outcome(self._commands[name], given)
+        return Reply(status, out.encode(), b"" if line is None else f"mechdes: {line}\n".encode())
+
+
+class Changed(SecondOpinion):
+    """The same, with replies of a test's own to some commands: functions of the words and the two files."""
+
+    def __init__(self, **replies: Callable[[Sequence[str], bytes, bytes], Reply]) -> None:
+        self._replies = replies
+
+    def call(self, words: Sequence[str], setting: bytes = b"", second: bytes = b"") -> Reply:
+        """Carries out a command, or has the test's own reply to it."""
+        reply = self._replies.get(words[0], super().call)
+        return reply(words, setting, second)
