@@ -12,6 +12,7 @@ import subprocess
 import sys
 import tempfile
 import time
+import types
 import unittest
 from pathlib import Path
 from unittest import mock
@@ -216,7 +217,9 @@ class OrderTest(Case):
         self.assertEqual(crate.lines, 7)
 
     def shared(self, ready, idle, room=1 << 40, is_alone=True):
-        return libraries.shares(ready, idle, room, is_alone)
+        """Which of some crates begin, with their jobs: each crate is a letter, and one with a capital letter is short."""
+        crates = [types.SimpleNamespace(name=it, lines=libraries.LINES_OF_JOBS - it.isupper()) for it in ready]
+        return [(it.name, jobs) for it, jobs in libraries.shares(crates, idle, room, is_alone)]
 
     def test_processors_are_shared(self):
         self.assertEqual(self.shared("a", 1), [("a", 1)])
@@ -230,6 +233,10 @@ class OrderTest(Case):
         self.assertEqual(self.shared("a", 16), [("a", 4)])
         self.assertEqual(self.shared("a", 0, is_alone=False), [])
         self.assertEqual(self.shared("", 4), [])
+
+    def test_a_short_crate_gets_one_job(self):
+        self.assertEqual(self.shared("A", 4), [("A", 1)])
+        self.assertEqual(self.shared("Ab", 4), [("A", 1), ("b", 3)])
 
     def test_memory_is_looked_at(self):
         self.assertEqual(self.shared("ab", 4, 5_100_000_000), [("a", 2)])
@@ -323,7 +330,7 @@ class BuildTest(Case):
         self.assertTrue(told.replace("\n", "").isprintable())
 
     def test_crates_over_a_common_one_side_by_side(self):
-        made = self.repository()
+        made = self.repository({**SMALL, "md_low": (libraries.LINES_OF_JOBS, "")})
         made.write("md_one", "after", "begins md_two")
         made.write("md_two", "after", "begins md_one")
         self.assertEqual(made.build("md_prog", jobs=2)[0], 0)
@@ -535,7 +542,7 @@ class LauncherTest(Case):
             status, out, told = made.run("mechdes", "solve", "a b", "--run", stdin=file)
         self.assertEqual(status, 7, told)
         self.assertEqual(out, "solve a b --run\nmd_prog: \n")
-        self.assertRegex(made.calls()[0], r"^begins md_prog run --cpu=x86-64-v[23] --jobs 2$")
+        self.assertRegex(made.calls()[0], r"^begins md_prog run --cpu=x86-64-v[23] --jobs 1$")
 
     def test_later_calls_start_no_python(self):
         made = self.built()
