@@ -26,6 +26,8 @@ CALLS = [
     "rows posted-price.toml",
     "rows auction-single.toml",
     "fair welfare-vote.toml",
+    "find too-wide.toml",
+    "findfair welfare-vote.toml",
     "replay too-wide.toml too-wide-pivots.csv",
     "realise two-bidders.toml two-bidders-odds-by-value.csv",
     "realise two-bidders.toml two-bidders-odds-too-often.csv",

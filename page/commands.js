@@ -6,6 +6,7 @@ import {
   auditView,
   checkView,
   drillView,
+  findView,
   ironView,
   makeView,
   realiseView,
@@ -31,8 +32,10 @@ export const FIELDS = {
   number: { label: "Number", hint: "0 to 999999", initial: "2" },
 };
 
-/** `asks` says what a command does, `button` stands on the button that carries it out. `second` names the kind of its second file, and
- * `fields` its further words in order. `makesAnswer` is of those whose text the other commands can read as an answer. */
+/** `asks` says what a command does, `button` stands on the button that carries it out, and `next` on the one that asks it of an answer.
+ * `second` names the kind of its second file, and `fields` its further words in order. `kind` is the kind of setting that it is for, where
+ * it is not for both. `makesAnswer` is of those whose text the other commands can read as an answer, and `tooWide` has the commands to go
+ * on with where numbers grow too wide. */
 export const COMMANDS = [
   {
     word: "solve",
@@ -41,11 +44,22 @@ export const COMMANDS = [
     fields: ["width"],
     view: answerView,
     makesAnswer: true,
+    tooWide: ["find", "iron"],
+  },
+  {
+    word: "find",
+    asks: "Which mechanism is best? For general settings, also where the numbers of solve grow too wide.",
+    button: "Find with longer numbers",
+    kind: "general",
+    fields: [],
+    view: findView,
+    makesAnswer: true,
   },
   {
     word: "check",
     asks: "Is what an answer claims so? Uses nothing of the part that searches.",
     button: "Check",
+    next: "Check this answer",
     second: "answer",
     fields: [],
     view: checkView,
@@ -54,6 +68,8 @@ export const COMMANDS = [
     word: "audit",
     asks: "Does a mechanism meet all conditions, and if not, which one does it break first? For general settings.",
     button: "Audit",
+    next: "Audit its mechanism",
+    kind: "general",
     second: "answer",
     fields: [],
     view: auditView,
@@ -62,6 +78,7 @@ export const COMMANDS = [
     word: "report",
     asks: "What does a mechanism do, and how far is it from truthful?",
     button: "Report",
+    next: "Report on it",
     second: "answer",
     fields: [],
     view: reportView,
@@ -70,6 +87,7 @@ export const COMMANDS = [
     word: "run",
     asks: "Which outcome do two draws give at some reports, and who pays what?",
     button: "Draw the outcome",
+    next: "Draw an outcome",
     second: "answer",
     fields: ["profile", "first", "second"],
     view: runView,
@@ -78,13 +96,24 @@ export const COMMANDS = [
     word: "fair",
     asks: "Under which mechanism does the agent that gets least get most? For general settings.",
     button: "Find the fairest",
+    kind: "general",
     fields: ["width"],
     view: answerView,
+    tooWide: ["findfair"],
+  },
+  {
+    word: "findfair",
+    asks: "The same as fair, also where the numbers of fair grow too wide.",
+    button: "Find the fairest with longer numbers",
+    kind: "general",
+    fields: [],
+    view: findView,
   },
   {
     word: "iron",
     asks: "Which mechanism is best, by virtual values? For auctions, also where the numbers of solve grow too wide.",
     button: "Solve in closed form",
+    kind: "auction",
     fields: [],
     makesAnswer: true,
     view: ironView,
@@ -93,6 +122,7 @@ export const COMMANDS = [
     word: "realise",
     asks: "Does some auction have these odds? For auctions.",
     button: "Realise",
+    kind: "auction",
     second: "odds",
     fields: [],
     view: realiseView,
@@ -134,6 +164,21 @@ export const COMMANDS = [
 /** The command with a word. */
 export function commandOf(word) {
   return COMMANDS.find((command) => command.word === word);
+}
+
+/** Whether a command is for a setting. Where none is known, each may be. */
+export function fits({ kind }, setting) {
+  return kind === undefined || !setting || kind === setting.kind;
+}
+
+const TOO_WIDE = 12;
+const OF_MECHANISMS = ["check", "audit", "report", "run"];
+const OF_ANSWERS = { 0: OF_MECHANISMS, 10: ["check"], 11: OF_MECHANISMS };
+
+/** The commands that may follow where a command ended with a status. */
+export function nextCommands({ makesAnswer, tooWide = [] }, status, setting) {
+  const words = status === TOO_WIDE ? tooWide : (makesAnswer && OF_ANSWERS[status]) || [];
+  return words.map(commandOf).filter((command) => fits(command, setting));
 }
 
 /** The words of a call, as they would stand behind the program's name. */

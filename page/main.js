@@ -1,6 +1,6 @@
 // The page: it begins with a setting of the gallery, asks the library what the user asks, and shows what it says.
 
-import { commandOf, explained, wordsOf } from "./commands.js";
+import { explained, nextCommands, wordsOf } from "./commands.js";
 import { breakable, button, byId, make } from "./dom.js";
 import { Editor, save } from "./editor.js";
 import { Engine, Interrupted, canRun, unpacked } from "./engine.js";
@@ -108,7 +108,7 @@ class Page {
     byId("stale").hidden = command.takesNoSetting === true || settingText === this.editor.text;
     byId("answer").dataset.status = told.status;
     byId("progress").textContent = `${found.large}. Status ${told.status}, after ${secondsText(told.seconds)}.`;
-    if (command.makesAnswer && !isRefused) {
+    if (command.makesAnswer && told.out.startsWith("answer,")) {
       this.question.takes("answer", told.out);
     }
     comesIntoView(byId("answer"));
@@ -137,33 +137,25 @@ class Page {
     return [...names, ...levels];
   }
 
-  /** What may be done next with an answer. */
+  /** What may be done next. */
   further(command, told) {
     if (command.makesSetting && told.status === 0) {
       return [make("p", {}, button("Put it into the editor", () => this.editor.takes(told.out)))];
     }
-    if (!command.makesAnswer || told.status >= REFUSED_FROM) {
-      return [];
+    const next = nextCommands(command, told.status, this.editor.setting).map((each) =>
+      button(each.next ?? each.button, () => this.goesOnWith(each)),
+    );
+    return next.length > 0 ? [make("p", { class: "buttons" }, next)] : [];
+  }
+
+  /** Asks a command, or turns to it where it wants further words. */
+  goesOnWith({ word, fields: [first] }) {
+    this.question.shows(word);
+    if (first) {
+      byId(`field-${first}`).focus();
+    } else {
+      this.asks();
     }
-    const hasMechanism = told.status === 0 || told.status === 11;
-    const isAuction = this.editor.setting?.kind === "auction";
-    const next = [
-      button("Check this answer", () => this.asksNext("check")),
-      hasMechanism && !isAuction && button("Audit its mechanism", () => this.asksNext("audit")),
-      hasMechanism && button("Report on it", () => this.asksNext("report")),
-      hasMechanism && button("Draw an outcome", () => this.turnsTo("run")),
-    ];
-    return [make("p", { class: "buttons" }, next)];
-  }
-
-  asksNext(word) {
-    this.question.shows(word);
-    this.asks();
-  }
-
-  turnsTo(word) {
-    this.question.shows(word);
-    byId(`field-${commandOf(word).fields[0]}`).focus();
   }
 }
 

@@ -1,6 +1,6 @@
 // The question: which command, its second file, and its further words.
 
-import { COMMANDS, FIELDS, SECONDS, commandOf } from "./commands.js";
+import { COMMANDS, FIELDS, SECONDS, commandOf, fits } from "./commands.js";
 import { button, byId, make } from "./dom.js";
 import { opensFile, save } from "./editor.js";
 
@@ -91,9 +91,20 @@ export class Question {
     if (setting) {
       this.setting = setting;
       this.begins(setting);
+      this.offers(setting);
     }
     if (this.command.second) {
       this.fillSamples();
+    }
+  }
+
+  /** Offers the commands that fit a setting, and no others. */
+  offers(setting) {
+    for (const input of byId("commands").querySelectorAll("input")) {
+      input.parentElement.hidden = !fits(commandOf(input.value), setting);
+    }
+    if (!fits(this.command, setting)) {
+      this.shows("solve");
     }
   }
 

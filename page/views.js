@@ -79,13 +79,22 @@ export function answerView(records, setting, names = []) {
   return view(found, mechanismParts(records, setting), multipliersPart(records, names), widePart(records));
 }
 
-/** What `iron` prints: an answer, or that the multipliers that show its rule to be best are too long. */
-export function ironView(records, setting, names = []) {
-  if (firstWith(records, "answer")) {
-    return answerView(records, setting, names);
-  }
-  return view(verdict("Undecided", "The multipliers that show the best rule to be best need more than 62 bits, so that nothing is answered."));
+/** A view of an answer, or of the words that tell why there is none. */
+function answerOr(words) {
+  return (records, setting, names = []) =>
+    firstWith(records, "answer") ? answerView(records, setting, names) : view(verdict("Undecided", words));
 }
+
+/** What `iron` prints: an answer, or that the multipliers that show its rule to be best are too long. */
+export const ironView = answerOr(
+  "The multipliers that show the best rule to be best need more than 62 bits, so that nothing is answered.",
+);
+
+/** What `find` and `findfair` print: an answer, or that none was found. */
+export const findView = answerOr(
+  "No answer was found, though numbers may have 126 bits on the way. This says nothing of the setting: it may have a best " +
+    "mechanism, or none.",
+);
 
 /** A mechanism's chances and payments. Where the page cannot read the setting, there is the text alone. */
 function mechanismParts(records, setting) {

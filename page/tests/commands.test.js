@@ -2,7 +2,7 @@ import assert from "node:assert/strict";
 import { readFileSync } from "node:fs";
 import { test } from "node:test";
 
-import { COMMANDS, FIELDS, SECONDS, commandOf, explained, wordsOf } from "../commands.js";
+import { COMMANDS, FIELDS, SECONDS, commandOf, explained, fits, nextCommands, wordsOf } from "../commands.js";
 
 const repository = (name) => readFileSync(new URL(`../../${name}`, import.meta.url), "utf8");
 
@@ -20,6 +20,7 @@ test("the words of a call", () => {
   const values = { width: "", profile: "low", first: "0", second: "1", number: "7" };
   for (const [word, words] of [
     ["solve", "solve setting"],
+    ["find", "find setting"],
     ["check", "check setting second"],
     ["run", "run setting second low 0 1"],
     ["make", "make 7"],
@@ -27,6 +28,32 @@ test("the words of a call", () => {
     assert.equal(wordsOf(commandOf(word), values).join(" "), words);
   }
   assert.equal(wordsOf(commandOf("solve"), { ...values, width: "9" }).join(" "), "solve setting --width 9");
+});
+
+test("commands that do not fit a setting are not offered", () => {
+  const left = (setting) => COMMANDS.filter((command) => !fits(command, setting)).map(({ word }) => word);
+  assert.deepEqual(left({ kind: "general" }), ["iron", "realise"]);
+  assert.deepEqual(left({ kind: "auction" }), ["find", "audit", "fair", "findfair"]);
+  assert.deepEqual(left(null), []);
+});
+
+test("what may follow an answer, and where numbers grow too wide", () => {
+  for (const [word, status, kind, words] of [
+    ["solve", 12, "general", "find"],
+    ["solve", 12, "auction", "iron"],
+    ["fair", 12, "general", "findfair"],
+    ["find", 0, "general", "check audit report run"],
+    ["find", 10, "general", "check"],
+    ["find", 22, "general", ""],
+    ["solve", 11, "general", "check audit report run"],
+    ["solve", 0, "auction", "check report run"],
+    ["findfair", 0, "general", ""],
+    ["solve", 65, "general", ""],
+    ["check", 0, "general", ""],
+  ]) {
+    const next = nextCommands(commandOf(word), status, { kind }).map((command) => command.word);
+    assert.equal(next.join(" "), words, `${word} ${status} ${kind}`);
+  }
 });
 
 test("a refusal is told in a sentence", () => {

@@ -334,7 +334,8 @@ class WidePath:
 
 @dataclasses.dataclass(frozen=True, kw_only=True)
 class TooWide(Answer):
-    """Numbers grew too wide on each path: nothing is known of the setting. Of an auction ask `iron`."""
+    """Numbers grew too wide on each path: nothing is known of the setting. Of an auction ask `iron`, of a general setting `find`, and
+    after `fair` `find_fair`."""
 
     word = "toowide"
     setting: AnySetting = dataclasses.field(repr=False)
@@ -364,11 +365,11 @@ class TooWide(Answer):
 
 @dataclasses.dataclass(frozen=True, kw_only=True)
 class Undecided(Answer):
-    """`iron`: the multipliers in closed form have more than 62 bits."""
+    """`iron`: the multipliers in closed form have more than 62 bits. `find` and `find_fair`: nothing was found, and nothing is said of
+    the setting. The kind is that of the setting."""
 
     word = "undecided"
-    setting: Auction = dataclasses.field(repr=False)
-    kind: str = "auction"
+    setting: AnySetting = dataclasses.field(repr=False)
 
     def records(self) -> Iterator[Record]:
         yield (self.word,)

@@ -93,7 +93,8 @@ def _printed(expected: set[int], words: Sequence[str], setting: bytes = b"", sec
     return out.decode()
 
 
-_KINDS = {"solve": ("general", "auction"), "iron": ("auction",)}  # those of another command have its name
+# Those of another command have its name.
+_KINDS = {"solve": ("general", "auction"), "find": ("general",), "findfair": ("fair",), "iron": ("auction",)}
 
 
 def _answered(
@@ -104,7 +105,9 @@ def _answered(
     text = _printed(expected, words, given)
     named = setting if isinstance(setting, (Setting, Auction)) else read_setting(given)
     answer = read_answer(named, text, units)
-    if type(answer) not in kinds or answer.kind not in _KINDS.get(words[0], (words[0],)):
+    # That nothing is decided has one text for all commands.
+    is_its = isinstance(answer, Undecided) or answer.kind in _KINDS.get(words[0], (words[0],))
+    if type(answer) not in kinds or not is_its:
         raise AnswerNotRead(f"an answer that {words[0]} does not give: {answer.kind}, {type(answer).__name__}")
     return answer
 
@@ -133,6 +136,19 @@ def solve(setting: SettingLike, width: int = 62) -> GeneralOptimal | AuctionOpti
     `width` bits came on the way."""
     kinds = (GeneralOptimal, AuctionOptimal, Infeasible, Unbounded, TooWide)
     return _answered(["solve", "setting", *_width(width)], setting, {0, 10, 11, 12}, kinds)
+
+
+def find(setting: SettingLike) -> GeneralOptimal | Infeasible | Unbounded | Undecided:
+    """The best mechanism of a general setting, as `solve` gives it, but with longer numbers on the way: most settings for which
+    `solve` is too wide have an answer here. Where several mechanisms are best it may be another one. Undecided says nothing of the
+    setting."""
+    return _answered(["find", "setting"], setting, {0, 10, 11, 22}, (GeneralOptimal, Infeasible, Unbounded, Undecided))
+
+
+def find_fair(setting: SettingLike) -> Fairest | Infeasible | Unbounded | Undecided:
+    """The fairest mechanism of a general setting, as `fair` gives it, but found as `find` finds the best one (the command
+    `findfair`)."""
+    return _answered(["findfair", "setting"], setting, {0, 10, 11, 22}, (Fairest, Infeasible, Unbounded, Undecided))
 
 
 def fair(setting: SettingLike, width: int = 62) -> Fairest | Infeasible | Unbounded | TooWide:
@@ -181,7 +197,7 @@ def read(setting: SettingLike, answer: AnswerLike, units: int | None = None) -> 
 
 
 def check(setting: SettingLike, answer: AnswerLike) -> Verdict:
-    """Whether what an answer of `solve` or `iron` claims is so. It uses nothing of the part that searches."""
+    """Whether what an answer of `solve`, `find` or `iron` claims is so. It uses nothing of the part that searches."""
     words = ["check", "setting", "answer"]
     return read_verdict(_printed({0, 20, 22}, words, setting_bytes(setting), answer_bytes(setting, answer)))
 
@@ -290,6 +306,8 @@ def drill(number: int) -> Drill:
 Command: TypeAlias = Callable[..., Any]
 _COMMANDS: tuple[Command, ...] = (
     solve,
+    find,
+    find_fair,
     fair,
     asym,
     units,

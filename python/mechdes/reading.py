@@ -305,10 +305,10 @@ def read_answer(setting: AnySetting, text: str, units: int | None = None) -> Ans
     none, or does not fit the setting. The program's own conditions (`check`) are not tried.
     """
     records = Records(text)
-    if records.word() == "undecided" and isinstance(setting, Auction):
+    if records.word() == "undecided":
         records.take("undecided", 0)
         records.nothing()
-        return Undecided(setting=setting)
+        return Undecided(setting=setting, kind="auction" if isinstance(setting, Auction) else "general")
     version, kind, word = records.take("answer", 3)
     if kind not in (*_GENERAL, *_AUCTION):
         raise UnknownAnswer(f"an answer of an unknown kind: {kind}, {word}")
@@ -458,7 +458,7 @@ def _worst(records: Records, setting: AnySetting, fields: list[str], is_gain: bo
     return Worst(names[0], names[1], amount, names[2] if is_gain else None, tuple(names[-1].split("+")) if each else None)
 
 
-_ANSWERS = ("solve", "fair", "asym", "units", "determ", "iron")
+_ANSWERS = ("solve", "find", "fair", "findfair", "asym", "units", "determ", "iron")
 _OF_SETTINGS: dict[str, Callable[[Any, str], Printed]] = {"realise": read_realised, "run": read_draw, "report": read_report}
 _ALONE: dict[str, Callable[[str], Printed]] = {
     "check": read_verdict,

@@ -19,6 +19,7 @@ from second_opinion import (  # noqa: E402
     auction_answer,
     checking,
     command,
+    fairness,
     finding,
     listing,
     program,
@@ -37,10 +38,17 @@ def _read(names: Sequence[str]) -> tuple[setting.GeneralSetting | setting.Auctio
     return its, reader.read_answer(command.read_file(names[1], answer.FILE_LIMIT), its)
 
 
+def _mechanism_of(said: object) -> answer.Mechanism:
+    """The mechanism of an answer about a general setting."""
+    if not hasattr(said, "mechanism"):
+        raise Refused(66, reporting.NO_TABLE)
+    return said.mechanism
+
+
 def audit(words: Sequence[str]) -> Told:
     """The command `audit SETTING ANSWER`."""
     its, said = _read(words)
-    broken = program.broken(its, reporting.table_of(said, "mechanism"))
+    broken = program.broken(its, _mechanism_of(said))
     return (0, "admissible\n") if broken is None else (20, ",".join(map(str, ("broken", *broken))) + "\n")
 
 
@@ -49,6 +57,28 @@ def run(words: Sequence[str]) -> Told:
     its, said = _read(words)
     draw = _auction_draw if isinstance(its, setting.AuctionSetting) else _general_draw
     return 0, draw(its, said, words[2].split(","), int(words[3]), int(words[4]))
+
+
+def find(words: Sequence[str]) -> Told:
+    """The command `find SETTING`, which is for general settings alone."""
+    if isinstance(setting.read_setting(command.read_file(words[0], setting.FILE_LIMIT)), setting.AuctionSetting):
+        raise Refused(65, "setting refused: other kind")
+    return _or_undecided(finding.find, words)
+
+
+def find_fair(words: Sequence[str]) -> Told:
+    """The command `findfair SETTING`."""
+    return _or_undecided(fairness.findfair, words)
+
+
+def _or_undecided(search: Callable[[Sequence[str]], Told], words: Sequence[str]) -> Told:
+    """What a search finds, or undecided where no file can hold it."""
+    try:
+        return search(words)
+    except Refused as refused:
+        if refused.status != 1:
+            raise
+        return 22, "undecided\n"
 
 
 def _first_over(numbers: Sequence[int], draw: int) -> int | None:
@@ -62,7 +92,7 @@ def _try(holds: bool, what: str) -> None:
 
 
 def _general_draw(its: setting.GeneralSetting, said: object, reports: Sequence[str], first: int, second: int) -> str:
-    mechanism = reporting.table_of(said, "mechanism")
+    mechanism = _mechanism_of(said)
     names = {tuple(agent.types[kind] for agent, kind in zip(its.agents, profile)): profile for profile in its.profiles()}
     _try(tuple(reports) in names, "profile")
     profile = names[tuple(reports)]
@@ -89,6 +119,8 @@ class SecondOpinion:
 
     _commands: dict[str, Callable[[Sequence[str]], Told]] = {
         "solve": finding.find,
+        "find": find,
+        "findfair": find_fair,
         "check": checking.check,
         "rows": listing.rows,
         "report": reporting.report,

@@ -35,6 +35,17 @@ class Solving(unittest.TestCase):
         self.assertIs(type(mechdes.solve(example("auction-beyond"))), mechdes.TooWide)
         self.assertIs(type(mechdes.solve(example("divorce"), width=4)), mechdes.TooWide)
 
+    def test_longer_numbers_on_the_way(self) -> None:
+        setting = example("village-bus")
+        found, fairest = mechdes.find(setting), mechdes.find_fair(setting)
+        self.assertEqual((type(found), found.value), (mechdes.GeneralOptimal, Fraction(1282241, 10240)))
+        self.assertTrue(mechdes.check(setting, found))
+        self.assertEqual((type(fairest), fairest.value), (mechdes.Fairest, Fraction(74292765, 1189504)))
+        self.assertTrue(mechdes.audit(setting, fairest))
+        for command in (mechdes.find, mechdes.find_fair):
+            self.assertIs(type(command(example("two-claims"))), mechdes.Infeasible)
+            self.assertIs(type(command(example("unbounded-revenue"))), mechdes.Unbounded)
+
     @needs_library
     def test_the_other_searches(self) -> None:
         self.assertEqual(mechdes.fair(example("fair-split")).value, Fraction(4, 5))
@@ -286,6 +297,9 @@ class Refused(unittest.TestCase):
         )
         self.refuses(mechdes.WordRefused, 67, "profile refused", lambda: mechdes.run(setting, answer, ["middle"], 0))
         self.refuses(mechdes.WordRefused, 67, "draw refused", lambda: mechdes.run(setting, answer, ["low"], -1))
+        auction, line = example("auction-ironed"), "setting refused: other kind"
+        self.refuses(mechdes.SettingRefused, 65, line, lambda: mechdes.find(auction))
+        self.refuses(mechdes.SettingRefused, 65, line, lambda: mechdes.find_fair(auction))
 
     @needs_library
     def test_refusals_of_further_commands(self) -> None:
@@ -352,6 +366,9 @@ class Wiring(unittest.TestCase):
                 (["units", "--width", "62", "--", "setting", "3"], auction, b""),
             ),
             (22, "undecided\n", mechdes.iron, [auction], mechdes.Undecided, (["iron", "setting"], auction, b"")),
+            (22, "undecided\n", mechdes.find, [goods], mechdes.Undecided, (["find", "setting"], goods, b"")),
+            (22, "undecided\n", mechdes.find_fair, [goods], mechdes.Undecided, (["findfair", "setting"], goods, b"")),
+            (0, fairest, mechdes.find_fair, [split], mechdes.Fairest, (["findfair", "setting"], split, b"")),
             (
                 20,
                 "rejected,16\n",
@@ -403,8 +420,10 @@ class Wiring(unittest.TestCase):
         infeasible = "answer,1,fair,infeasible\nrow,0,1\nend\n"
         for status, printed, named in ((0, fairest, "fair, Fairest"), (10, infeasible, "fair, Infeasible")):
             reply = mechdes.Reply(status, printed.encode(), b"")
-            with self.subTest(named), self.assertRaisesRegex(mechdes.AnswerNotRead, f"solve does not give: {named}"):
-                self.told(reply, mechdes.solve, example("fair-split"))
+            for command in (mechdes.solve, mechdes.find):
+                refused = f"{command.__name__} does not give: {named}"
+                with self.subTest(refused), self.assertRaisesRegex(mechdes.AnswerNotRead, refused):
+                    self.told(reply, command, example("fair-split"))
 
 
 if __name__ == "__main__":

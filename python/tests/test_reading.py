@@ -170,10 +170,10 @@ class Answers(unittest.TestCase):
 
     def test_undecided(self) -> None:
         found = mechdes.read(EXAMPLES / "auction-beyond.toml", "undecided\n")
-        self.assertEqual((type(found), found.word), (mechdes.Undecided, "undecided"))
+        self.assertEqual((type(found), found.kind, found.word), (mechdes.Undecided, "auction", "undecided"))
 
     def test_every_stored_answer_is_read_and_comes_back_from_a_pickle(self) -> None:
-        for ending in ("-answer", "-fairest", "-rule"):
+        for ending in ("-answer", "-found", "-fairest", "-rule"):
             for path in sorted(EXAMPLES.glob(f"*{ending}.csv")):
                 with self.subTest(path.name):
                     found = mechdes.read(EXAMPLES / f"{path.stem.removesuffix(ending)}.toml", path)

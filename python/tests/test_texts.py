@@ -168,6 +168,13 @@ class Made(Texts):
         self.assertEqual(type(self.again("iron", "undecided\n", auction)), mechdes.Undecided)
         self.assertEqual(type(self.again("iron", text("auction-ironed-answer.csv"), auction)), mechdes.AuctionOptimal)
 
+    def test_searches_with_longer_numbers(self) -> None:
+        setting = mechdes.read_setting(example("fair-split"))
+        for command, printed, kind in (("find", "fair-split-answer.csv", "general"), ("findfair", "fair-split-fairest.csv", "fair")):
+            self.assertEqual(self.again(command, text(printed), setting).kind, kind)
+            undecided = self.again(command, "undecided\n", setting)
+            self.assertEqual((type(undecided), undecided.kind), (mechdes.Undecided, "general"))
+
     def test_replays(self) -> None:
         found = self.again("replay", "basis,0,1,3\nbasis,1,2,9\nrule,1\nagain,0\nend\n")
         self.assertTrue(found)

@@ -292,8 +292,8 @@ def read_begun_path(records: Records) -> Path:
     return pivots, (row, column, num, records.integer(5, 1, GREATEST_WIDE))
 
 
-def write_answer(answer: FoundAnswer, setting: GeneralSetting) -> str:
-    """The text of an optimal, infeasible or unbounded answer. Rows whose multipliers are 0 are left out."""
+def write_answer(answer: FoundAnswer, setting: GeneralSetting, kind: str = "general") -> str:
+    """The text of an optimal, infeasible or unbounded answer of a kind. Rows whose multipliers are 0 are left out."""
     lines: list[str] = []
 
     def record(word: str, *fields: object) -> None:
@@ -310,14 +310,14 @@ def write_answer(answer: FoundAnswer, setting: GeneralSetting) -> str:
         lists("pay", its.pays)
 
     if isinstance(answer, OptimalAnswer):
-        record("answer", 1, "general", "optimal")
+        record("answer", 1, kind, "optimal")
         record("value", *answer.value)
         mechanism(answer.mechanism)
         record("bound", answer.bound)
     elif isinstance(answer, InfeasibleAnswer):
-        record("answer", 1, "general", "infeasible")
+        record("answer", 1, kind, "infeasible")
     else:
-        record("answer", 1, "general", "unbounded")
+        record("answer", 1, kind, "unbounded")
         mechanism(answer.mechanism)
         lists("ray", answer.rays)
     for index, pair in sorted(getattr(answer, "multipliers", {}).items()):

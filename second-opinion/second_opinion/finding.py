@@ -6,8 +6,9 @@ others, so that no row is exact, and a payment is one variable of any sign. The 
 """
 
 import math
-from collections.abc import Callable
+from collections.abc import Callable, Sequence
 from fractions import Fraction
+from functools import partial
 
 from second_opinion import answer, auction_answer, auction_finding, command, setting
 from second_opinion.answer import FoundAnswer, InfeasibleAnswer, Mechanism, OptimalAnswer, UnboundedAnswer
@@ -17,6 +18,8 @@ from second_opinion.simplex import Dictionary, Infeasible, Unbounded
 
 STATUSES = {OptimalAnswer: 0, InfeasibleAnswer: 10, UnboundedAnswer: 11}
 
+Worth = Callable[[GeneralSetting, Mechanism], tuple[int, int]]  # a value over the mechanism's denominator, as `value_of` has it
+
 
 def find(words: list[str]) -> tuple[int, str]:
     """The command `find SETTING`."""
@@ -24,32 +27,41 @@ def find(words: list[str]) -> tuple[int, str]:
     its = setting.read_setting(command.read_file(name, setting.FILE_LIMIT))
     if isinstance(its, AuctionSetting):
         sold = auction_finding.found_answer(its)
-        status, is_wide, text = 0, auction_answer.has_wide_number(sold), auction_answer.write_answer(sold)
-    else:
-        found = found_answer(its)
-        status, is_wide, text = STATUSES[type(found)], answer.has_wide_number(found), answer.write_answer(found, its)
+        return written(0, auction_answer.has_wide_number(sold), auction_answer.write_answer(sold))
+    return written_answer(its, found_answer(its), "general")
+
+
+def written_answer(its: GeneralSetting, found: FoundAnswer, kind: str) -> tuple[int, str]:
+    """The status and the text of an answer about a general setting, whose first record names the kind."""
+    return written(STATUSES[type(found)], answer.has_wide_number(found), answer.write_answer(found, its, kind))
+
+
+def written(status: int, is_wide: bool, text: str) -> tuple[int, str]:
+    """The status and the text, where a file can hold the answer."""
     if is_wide:
         raise setting.Refused(1, "a number of the answer has more than 62 bits")
     return status, text
 
 
 def found_answer(setting: GeneralSetting) -> FoundAnswer:
-    """An optimal, infeasible or unbounded answer about a setting, with numbers of any size. Where one is too wide for a
-    file, multipliers with fewer digits are looked for a second time and harder."""
-    program = program_of(setting)
-    dictionary = dictionary_of(setting, program)
-    answer_of: Callable[[GeneralSetting, Program, Dictionary, int], FoundAnswer] = optimal_answer
+    """An optimal, infeasible or unbounded answer about a setting, with numbers of any size."""
+    return found_by(setting, program_of(setting), [], value_of)
+
+
+def found_by(setting: GeneralSetting, program: Program, further: Sequence[int], worth: Worth) -> FoundAnswer:
+    """The same by a program that may have further columns of any sign, and a value of its own. Where an answer is too wide for
+    a file, multipliers with fewer digits are looked for a second time and harder."""
+    dictionary = dictionary_of(setting, program, further)
+    answer_of: Callable[[int], FoundAnswer] = partial(optimal_answer, setting, program, dictionary, worth)
     try:
         dictionary.solve()
         dictionary.shorten_point()
     except Infeasible:
-        answer_of = infeasible_answer
+        answer_of = partial(infeasible_answer, setting, program, dictionary)
     except Unbounded as caught:
         return UnboundedAnswer(mechanism_of(setting, dictionary), rays_of(setting, caught.ray))
-    found = answer_of(setting, program, dictionary, 0)
-    if answer.has_wide_number(found):
-        found = answer_of(setting, program, dictionary, 25)
-    return found
+    found = answer_of(0)
+    return answer_of(25) if answer.has_wide_number(found) else found
 
 
 def infeasible_answer(setting: GeneralSetting, program: Program, dictionary: Dictionary, rounds: int) -> InfeasibleAnswer:
@@ -60,10 +72,12 @@ def infeasible_answer(setting: GeneralSetting, program: Program, dictionary: Dic
     return InfeasibleAnswer({index: (face // divisor, 0) for index, face in faces.items()})
 
 
-def optimal_answer(setting: GeneralSetting, program: Program, dictionary: Dictionary, rounds: int) -> OptimalAnswer:
+def optimal_answer(
+    setting: GeneralSetting, program: Program, dictionary: Dictionary, worth: Worth, rounds: int
+) -> OptimalAnswer:
     """The answer at an optimum, with its value and multipliers in least terms."""
     mechanism = mechanism_of(setting, dictionary)
-    amount, total = value_of(setting, mechanism)
+    amount, total = worth(setting, mechanism)
     value = Fraction(amount, total * mechanism.den)
     bound, weights = dictionary.short_multipliers(rounds)
     mains = full_multipliers(setting, program, weights, bound)
@@ -72,8 +86,8 @@ def optimal_answer(setting: GeneralSetting, program: Program, dictionary: Dictio
     return OptimalAnswer((value.numerator, value.denominator), mechanism, bound // divisor, multipliers)
 
 
-def dictionary_of(setting: GeneralSetting, program: Program) -> Dictionary:
-    """The first dictionary: the chance of one outcome at every profile, and no payments."""
+def dictionary_of(setting: GeneralSetting, program: Program, further: Sequence[int]) -> Dictionary:
+    """The first dictionary: the chance of one outcome at every profile, no payments, and 0 in the further columns."""
     profiles = list(setting.profiles())
     outcomes = range(len(setting.outcomes))
     payments: list[int] = []
@@ -90,7 +104,8 @@ def dictionary_of(setting: GeneralSetting, program: Program) -> Dictionary:
         for outcome in outcomes:
             if outcome != base:
                 bases[chance_column(setting, profile, outcome)] = chance_column(setting, profile, base)
-    columns = [*bases, *payments]
+    free = [*payments, *further]
+    columns = [*bases, *free]
 
     def without_bases(terms: dict[int, int]) -> tuple[int, list[int]]:
         """The constant and the numbers of a sum, written without the chances that are 1 less the others."""
@@ -105,7 +120,7 @@ def dictionary_of(setting: GeneralSetting, program: Program) -> Dictionary:
     for profile in profiles:
         column = chance_column(setting, profile, base)
         rows[column] = 1, [-1 if bases.get(other) == column else 0 for other in columns]
-    return Dictionary(rows, without_bases(program.cost), columns, payments)
+    return Dictionary(rows, without_bases(program.cost), columns, free)
 
 
 def mechanism_of(setting: GeneralSetting, dictionary: Dictionary) -> Mechanism:
@@ -144,6 +159,7 @@ def full_multipliers(setting: GeneralSetting, program: Program, weights: dict[in
     """The multipliers of all rows, from the weights of the variables. That of a profile's row is the least with which no
     chance of the profile falls short: the greatest of what their columns need."""
     conditions = [(index, row) for index, row in enumerate(program.rows) if not row.exact]
+    of_profiles = [index for index, row in enumerate(program.rows) if row.exact]
     multipliers = {index: weights.get(program.columns + index, 0) for index, _ in conditions}
     needed = {column: bound * number for column, number in program.cost.items()}
     for index, row in conditions:
@@ -152,5 +168,5 @@ def full_multipliers(setting: GeneralSetting, program: Program, weights: dict[in
                 needed[column] = needed.get(column, 0) - multipliers[index] * number
     for profile in setting.profiles():
         columns = (chance_column(setting, profile, outcome) for outcome in range(len(setting.outcomes)))
-        multipliers[len(conditions) + setting.rank(profile)] = max(needed.get(column, 0) for column in columns)
+        multipliers[of_profiles[setting.rank(profile)]] = max(needed.get(column, 0) for column in columns)
     return {index: number for index, number in multipliers.items() if number}

@@ -4,6 +4,7 @@ pub mod GreatestLaws
 pub mod TypeLaws
 pub mod AdmissibleLaws
 pub mod MechanismLaws
+pub mod ExpectedLaws
 pub mod TightLaws
 pub mod ToldLaws
 pub mod RecordLaws

@@ -1,12 +1,15 @@
 -- What a report says of the mechanisms of its auction, with any denominator and numbers of any size.
 use Rattle.std.specs.Prelude.{◌↔◌}
+use Rattle.md_setting.specs.Setting.{GeneralSetting}
 use Rattle.md_setting.specs.Auction.{SymmetricAuction}
 use Rattle.md_setting.specs.General.{general_of}
 use Rattle.md_mech.specs.declared.mechanism.Mechanism.{Mechanism}
 use Rattle.md_mech.specs.Mechanism.{IsMechanism}
 use Rattle.md_mech.specs.Admissible.{IsAdmissible}
+use Rattle.md_mech.specs.Value.{IsValueOf}
 use Rattle.md_border.specs.declared.interim.Interim.{Interim}
 use Rattle.md_border.specs.Odds.{HasOdds, HasPays}
+use Rattle.md_report.specs.Averages.{IsRevenue, IsWelfare}
 use Rattle.md_auction_report.specs.declared.auction_report.AuctionReport.{AuctionReport}
 use Rattle.md_auction_report.specs.Admissible.{MissesNothing}
 
@@ -16,3 +19,15 @@ abbrev pub JudgesMechanisms : SymmetricAuction → Interim → AuctionReport →
 JudgesMechanisms a interim report =
     (m : Mechanism) → IsMechanism (general_of a) m → HasOdds a m interim.den interim.odds → HasPays a m interim.den interim.pays
     → IsAdmissible (general_of a) m ↔ MissesNothing report
+
+-- the mechanism has the told value, and over all profiles the told revenue and welfare
+pub record TellsExpected (s : GeneralSetting) (m : Mechanism) (report : AuctionReport) : Type 0 where
+  pub value : IsValueOf s m report.value
+  pub revenue : IsRevenue s m report.revenue
+  pub welfare : IsWelfare s m report.welfare
+
+-- so has each mechanism with the odds and the payments
+abbrev pub TellsMechanisms : SymmetricAuction → Interim → AuctionReport → Type 0
+TellsMechanisms a interim report =
+    (m : Mechanism) → IsMechanism (general_of a) m → HasOdds a m interim.den interim.odds → HasPays a m interim.den interim.pays
+    → TellsExpected (general_of a) m report

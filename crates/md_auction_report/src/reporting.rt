@@ -5,7 +5,7 @@ ghost use Rattle.md_setting.specs.AuctionShaped.{IsAuction};
 ghost use Rattle.md_lp.specs.Cuts.{AreCuts};
 ghost use Rattle.md_border.specs.Odds.{IsInterim};
 ghost use Rattle.md_auction_report.specs.Admissible.{IsTruthfulAndRational, MissesNothing, IsToldWhole};
-ghost use Rattle.md_auction_report.specs.Mechanisms.{JudgesMechanisms};
+ghost use Rattle.md_auction_report.specs.Mechanisms.{JudgesMechanisms, TellsMechanisms};
 ghost use Rattle.md_auction_report.specs.ReportOf.{IsAuctionReportOf};
 ghost use Rattle.md_auction_report.specs.Tellable.{IsAbout};
 
@@ -46,6 +46,9 @@ impl AuctionReport {
 
         // Each mechanism of the auction with the odds and payments is admissible exactly there.
         ensures mechanisms { IfOk result (JudgesMechanisms auction.now interim.now) }
+
+        // Value, revenue and welfare are those of each such mechanism.
+        ensures expected { IfOk result (TellsMechanisms auction.now interim.now) }
         ensures shaped { IfOk result (λ _. IsAuction auction.now) }
     {
         let report = made(alloc, auction, interim, cuts)?;

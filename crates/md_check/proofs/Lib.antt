@@ -1,3 +1,5 @@
 pub mod SameVerdict
 pub mod VerdictLaws
 pub mod AuctionLaws
+pub mod OneVerdict
+pub mod OneAuctionVerdict

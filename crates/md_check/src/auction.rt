@@ -17,6 +17,7 @@ ghost use Rattle.md_answer.specs.declared.answer.Answer.TheVariants.{AuctionOpti
 ghost use Rattle.md_answer.specs.AuctionAnswerTo.{IsAuctionAnswer};
 ghost use Rattle.md_answer.specs.ReducedRows.{reduced_rows};
 ghost use Rattle.md_claims.specs.AuctionCertificates.{auction_certificate};
+ghost use Rattle.md_check.specs.declared.verdict.Verdict.{Verdict};
 ghost use Rattle.md_check.specs.declared.verdict.Verdict.TheVariants.{Valid, Rejected};
 ghost use Rattle.md_check.specs.AuctionVerdicts.{AddUp, IsAuctionOptimalVerdict, IsAuctionVerdict, AuctionClaimHolds};
 
@@ -42,6 +43,7 @@ pub(crate) fn check_auction(
 ) -> Result<Verdict, NoMemory>
     requires { IsAuctionAnswer auction.now answer.now }
     ensures verdict { IfOk result (IsAuctionVerdict auction.now answer.now) }
+    ensures only { IfOk result (λ verdict. (other : Verdict) → IsAuctionVerdict auction.now answer.now other → other ≡ verdict) }
     ensures claim { IfOk result (λ verdict. verdict ≡ Valid → AuctionClaimHolds auction.now answer.now) }
 {
     match answer {
@@ -77,6 +79,7 @@ fn check_optimal(
     requires cuts { AreCuts (value_count auction.now) cuts.now }
     requires bound { IsBoundOver (reduced_rows auction.now cuts.now) bound.now }
     ensures verdict { IfOk result (IsAuctionOptimalVerdict auction.now value.now interim.now masses.now cuts.now bound.now) }
+    ensures only { IfOk result (λ verdict. (other : Verdict) → IsAuctionOptimalVerdict auction.now value.now interim.now masses.now cuts.now bound.now other → other ≡ verdict) }
     ensures claim { IfOk result (λ verdict. verdict ≡ Valid → AuctionClaimHolds auction.now (AuctionOptimal value.now interim.now masses.now cuts.now bound.now)) }
 {
     if let Some(reject) = other_mass(auction, interim, masses) {

@@ -14,11 +14,12 @@ ghost use Rattle.md_answer.specs.AnswerTo.{IsAnswerTo, IsBoundFor};
 ghost use Rattle.md_answer.specs.AuctionAnswerTo.{IsAuctionAnswer};
 ghost use Rattle.md_parts.specs.Fitting.{IsFraction, AreMultipliers, IsRayFor};
 ghost use Rattle.md_setting.specs.Rows.{row_count};
+ghost use Rattle.md_check.specs.declared.verdict.Verdict.{Verdict};
 ghost use Rattle.md_check.specs.declared.verdict.Verdict.TheVariants.{Valid, Undecided};
 ghost use Rattle.md_claims.specs.Certificates.{optimal_certificate, unbounded_certificate};
 ghost use Rattle.md_check.specs.Certificates.{HasMetPoint, Judges, IsJudged};
 ghost use Rattle.md_check.specs.AuctionVerdicts.{IsAuctionVerdict, IsSoundAuction, AuctionClaimHolds};
-ghost use Rattle.md_check.specs.Verdicts.{IsVerdict, IsSound, ClaimsNothing, ClaimHolds};
+ghost use Rattle.md_check.specs.Verdicts.{IsOptimalVerdict, IsVerdict, IsSound, ClaimsNothing, ClaimHolds};
 
 use crate::auction::check_auction;
 use crate::faults::verdict_by;
@@ -42,6 +43,10 @@ pub fn check(alloc: Global, file: &SettingFile, answer: &Answer) -> Result<Verdi
     ensures auction_verdict { WhereAuction (λ a. IfOk result (IsAuctionVerdict a answer.now)) file.now }
     ensures undecided { IfOk result (λ verdict. (verdict ≡ Undecided) ↔ ClaimsNothing answer.now) }
 
+    // No other verdict is right.
+    ensures only { WhereGeneral (λ s. IfOk result (λ verdict. (other : Verdict) → IsVerdict s answer.now other → other ≡ verdict)) file.now }
+    ensures auction_only { WhereAuction (λ a. IfOk result (λ verdict. (other : Verdict) → IsAuctionVerdict a answer.now other → other ≡ verdict)) file.now }
+
     // Where all conditions hold nothing else is answered, and what the answer claims is so.
     ensures sound { WhereGeneral (λ s. IfOk result (λ verdict. (p : Program) → IsProgramOf s p → IsSound s p answer.now → verdict ≡ Valid)) file.now }
     ensures auction_sound { WhereAuction (λ a. IfOk result (λ verdict. (p : Program) → IsSoundAuction a p answer.now → verdict ≡ Valid)) file.now }
@@ -58,6 +63,7 @@ pub fn check(alloc: Global, file: &SettingFile, answer: &Answer) -> Result<Verdi
 fn check_general(alloc: Global, setting: &Setting, answer: &Answer) -> Result<Verdict, NoMemory>
     requires { IsAnswerTo setting.now answer.now }
     ensures verdict { IfOk result (IsVerdict setting.now answer.now) }
+    ensures only { IfOk result (λ verdict. (other : Verdict) → IsVerdict setting.now answer.now other → other ≡ verdict) }
     ensures claim { IfOk result (λ verdict. verdict ≡ Valid → ClaimHolds setting.now answer.now) }
 {
     match answer {
@@ -85,6 +91,7 @@ fn check_optimal(
     requires accepted { IsAccepted setting.now mechanism.now }
     requires bound { IsBoundFor setting.now bound.now }
     ensures verdict { IfOk result (IsVerdict setting.now (Optimal value.now mechanism.now bound.now)) }
+    ensures only { IfOk result (λ verdict. (other : Verdict) → IsOptimalVerdict setting.now value.now mechanism.now bound.now other → other ≡ verdict) }
     ensures claim { IfOk result (λ verdict. verdict ≡ Valid → ClaimHolds setting.now (Optimal value.now mechanism.now bound.now)) }
 {
     if let Some(broken) = audit(setting, mechanism) {

@@ -1,9 +1,10 @@
 -- What the answer of the solver to an auction shows, by its kind.
 use Rattle.std.proofs.Common.{◌≡◌, ℕ, List, Ok, None, Some, inl, inr, arith}
 use Rattle.md_num.specs.declared.frac.Frac.{Frac}
-use Rattle.md_setting.specs.Auction.{SymmetricAuction}
+use Rattle.md_setting.specs.Auction.{SymmetricAuction, value_count}
 use Rattle.md_lp.specs.Program.{Program}
 use Rattle.md_lp.specs.declared.wide.Wide.{Wide}
+use Rattle.md_lp.proofs.CutLaws.{cuts-fewer}
 use Rattle.md_border.specs.declared.interim.Interim.{Interim}
 use Rattle.md_expost.specs.declared.masses.Masses.{Masses}
 use Rattle.md_cert.specs.declared.bound.Bound.{Bound}
@@ -11,6 +12,7 @@ use Rattle.md_cuts.specs.AuctionCuts.{auction_cutting}
 use Rattle.md_cut_runs.specs.CutRuns.{EndsSettled, EndsWide}
 use Rattle.md_cut_runs.specs.declared.optimum.Optimum.{Optimum}
 use Rattle.md_answer.specs.AuctionAnswers.{auction_answer_of}
+use Rattle.md_answer.specs.AuctionAnswerTo.{IsAuctionAnswer}
 use Rattle.md_answer.specs.declared.answer.Answer.{Answer}
 use Rattle.md_answer.specs.declared.answer.Answer.TheVariants.{Table, Optimal, Infeasible, Unbounded, AuctionOptimal, TooWide}
 use Rattle.md_check.specs.AuctionVerdicts.{IsAuctionVerdict}
@@ -26,6 +28,7 @@ pub record IsFoundFor (a : SymmetricAuction) (width : ℕ) (answer : Answer) : T
   pub certified : (p : Program) → IsCertifiedAuction a p answer
   pub settled : (cuts : List ℕ) (optimum : Optimum) → EndsSettled (auction_cutting a) width cuts optimum → ClaimsAuctionOptimal answer
   pub wide : (cuts : List ℕ) (first second : Wide) → EndsWide (auction_cutting a) width cuts first second → answer ≡ TooWide cuts first (Some second)
+  pub fits : IsAuctionAnswer a answer
 
 module _ (a : SymmetricAuction) (width : ℕ) where
   -- the checker finds an optimal answer valid
@@ -57,6 +60,8 @@ module _ (a : SymmetricAuction) (width : ℕ) where
             rule = h.optimal.rule;
             is_value = h.optimal.is_value;
             valid = valid value interim masses cuts bound h;
+            distinct = h.fits.4;
+            few = cuts-fewer (value_count a) cuts h.fits.4;
           };
           too_wide = λ other. absurd (omega (arith, is, other));
           one_of = inl is;
@@ -69,7 +74,15 @@ module _ (a : SymmetricAuction) (width : ℕ) where
     of_too_wide cuts first second h is reads =
         record {
           optimal = λ other. absurd (omega (arith, is, other));
-          too_wide = λ _. record { cuts = cuts; first = first; second = second; read_back = reads; ends = h.solved };
+          too_wide = λ _. record {
+            cuts = cuts;
+            first = first;
+            second = second;
+            read_back = reads;
+            ends = h.solved;
+            distinct = h.fits.0;
+            few = cuts-fewer (value_count a) cuts h.fits.0;
+          };
           one_of = inr is;
           settled = λ others optimum ends. absurd (h.settled others optimum ends);
           wide = λ others first_other second_other ends. is;

@@ -12,16 +12,17 @@ use Rattle.md_simplex.specs.declared.simplex_error.SimplexError.TheVariants as e
 use Rattle.md_simplex.specs.declared.step.Step.{Step}
 use Rattle.md_simplex.specs.declared.step.Step.TheVariants as steps
 use Rattle.md_simplex.specs.Runs.{IsLeft, IsTaken, MeetsWideBasis}
-use Rattle.md_question.specs.Findings.{ClaimsInfeasible, WhereInfeasible, WhereOptimal, WhereUnbounded}
+use Rattle.md_question.specs.Findings.{ClaimsInfeasible, ClaimsUnbounded, WhereInfeasible, WhereOptimal, WhereUnbounded}
 use Rattle.md_question.specs.Shown.{IsShown, IsSo}
 use Rattle.md_question.specs.declared.finding.Finding.{Finding}
 use Rattle.md_question.specs.declared.finding.Finding.TheVariants.{Optimal, Infeasible, Unbounded}
 use Rattle.md_question_solve.specs.Found.{ClaimsEnd, IsFound, IsWideFor}
+use Rattle.md_fair.specs.Bounds.{HasNoLeastBound}
 use Rattle.md_fair.specs.FairProgram.{IsFairProgram}
 use Rattle.md_fair.specs.Fairest.{GrowsFair, IsOptimalFair}
 use Rattle.md_fair.specs.FairQuestion.{fair_question}
 use Rattle.md_fair.specs.Least.{IsLeastValueOf}
-use Rattle.md_cli_best.specs.Fair.{IsFairSaying, status_of_fair, text_of_fair, text_of_wide}
+use Rattle.md_cli_best.specs.Fair.{IsFairSaying, status_of_finding, text_of_fair, text_of_wide}
 use Rattle.md_cli_best.specs.Headline.{IsEndStatus}
 use Rattle.md_cli_driver.specs.Saying.{Saying}
 
@@ -38,6 +39,7 @@ pub record IsShownFair (s : GeneralSetting) (width : ℕ) (answer : Finding) : T
   pub wide : (p : Program) → IsFairProgram s p → MeetsWideBasis Forward p width → MeetsWideBasis Backward p width → ⊥
   pub taken : (p : Program) (order : Order) (pivots : List Pivot) (step : Step) → IsFairProgram s p → IsTaken order p width pivots step → ClaimsEnd step answer
   pub none : ClaimsInfeasible answer ↔ IsInfeasible s
+  pub no_bound : ClaimsUnbounded answer ↔ HasNoLeastBound s
 
 -- the claim is so
 so : (s : GeneralSetting) (width : ℕ) (answer : Finding) → IsShownFair s width answer → IsSo (fair_question s) answer
@@ -46,7 +48,7 @@ so s width (Infeasible face) h = h.infeasible
 so s width (Unbounded m ray) h = h.unbounded
 
 -- the status tells the end of the path
-end-status : (status : ℕ) (answer : Finding) → status ≡ status_of_fair answer → (step : Step) → ClaimsEnd step answer → IsEndStatus step status
+end-status : (status : ℕ) (answer : Finding) → status ≡ status_of_finding answer → (step : Step) → ClaimsEnd step answer → IsEndStatus step status
 end-status status (Optimal value m bound) is steps.Optimal h = is
 end-status status (Optimal value m bound) is steps.Infeasible h = absurd h
 end-status status (Optimal value m bound) is (steps.Unbounded column) h = absurd h
@@ -61,15 +63,22 @@ end-status status (Unbounded m ray) is (steps.Unbounded column) h = is
 end-status status (Unbounded m ray) is (steps.Pivot pivot) h = absurd h
 
 -- it is 10 exactly where no mechanism is admissible
-none-status : (s : GeneralSetting) (status : ℕ) (answer : Finding) → status ≡ status_of_fair answer → ClaimsInfeasible answer ↔ IsInfeasible s
+pub none-status : (s : GeneralSetting) (status : ℕ) (answer : Finding) → status ≡ status_of_finding answer → ClaimsInfeasible answer ↔ IsInfeasible s
     → (status ≡ 10) ↔ IsInfeasible s
 none-status s status (Optimal value m bound) is h = (λ other. absurd (omega (arith, is, other)), λ none. absurd (h.1 none))
 none-status s status (Infeasible face) is h = (λ _. h.0 tt, λ _. is)
 none-status s status (Unbounded m ray) is h = (λ other. absurd (omega (arith, is, other)), λ none. absurd (h.1 none))
 
+-- it is 11 exactly where the leasts have no bound
+no_bound-status : (s : GeneralSetting) (status : ℕ) (answer : Finding) → status ≡ status_of_finding answer → ClaimsUnbounded answer ↔ HasNoLeastBound s
+    → (status ≡ 11) ↔ HasNoLeastBound s
+no_bound-status s status (Optimal value m bound) is h = (λ other. absurd (omega (arith, is, other)), λ none. absurd (h.1 none))
+no_bound-status s status (Infeasible face) is h = (λ other. absurd (omega (arith, is, other)), λ none. absurd (h.1 none))
+no_bound-status s status (Unbounded m ray) is h = (λ _. h.0 tt, λ _. is)
+
 -- an answer
 pub of_answer : (s : GeneralSetting) (width : ℕ) (saying : Saying) (answer : Finding) → IsShownFair s width answer
-    → saying.status ≡ status_of_fair answer → saying.text ≡ text_of_fair s answer → IsFairSaying s width saying
+    → saying.status ≡ status_of_finding answer → saying.text ≡ text_of_fair s answer → IsFairSaying s width saying
 of_answer s width saying answer h is text =
     record {
       told = inl (record {
@@ -85,6 +94,7 @@ of_answer s width saying answer h is text =
       wide = λ p program forward backward. absurd (h.wide p program forward backward);
       taken = λ p order pivots step program way. end-status saying.status answer is step (h.taken p order pivots step program way);
       none = λ _. none-status s saying.status answer is h.none;
+      no_bound = λ _. no_bound-status s saying.status answer is h.no_bound;
     }
 
 -- no error but want of memory is that
@@ -111,4 +121,5 @@ of_wide s width saying first second wide left taken is text =
       wide = λ p program forward backward. is;
       taken = λ p order pivots step program way. absurd (not_memory first second (taken p order pivots step program way));
       none = λ other. absurd (other is);
+      no_bound = λ other. absurd (other is);
     }

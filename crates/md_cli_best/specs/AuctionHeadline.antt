@@ -1,8 +1,9 @@
 -- What `solve` prints of an auction, in the words of mechanisms. Each text is read back by the rules for answer files.
-use Rattle.std.specs.Prelude.{◌≡◌, ◌⊎◌, ℕ, List, Ok, Some}
+use Rattle.std.specs.Prelude.{◌≡◌, ◌⊎◌, ℕ, ◌<◌, ◌^◌, List, length, Ok, Some}
 use Rattle.md_num.specs.declared.frac.Frac.{Frac}
-use Rattle.md_setting.specs.Auction.{SymmetricAuction}
+use Rattle.md_setting.specs.Auction.{SymmetricAuction, value_count}
 use Rattle.md_setting.specs.General.{general_of}
+use Rattle.md_lp.specs.Cuts.{AreCuts}
 use Rattle.md_lp.specs.declared.wide.Wide.{Wide}
 use Rattle.md_mech.specs.Value.{IsValueOf}
 use Rattle.md_border.specs.declared.interim.Interim.{Interim}
@@ -20,7 +21,8 @@ use Rattle.md_check.specs.declared.verdict.Verdict.TheVariants.{Valid}
 
 -- A mass table, which gives at most one item at each counts. Its mechanism with the payments is admissible, no admissible
 -- mechanism of the auction has a greater objective, whatever its denominator and however it treats the bidders, and it has
--- exactly the odds and payments, and the value; the checker finds the answer valid.
+-- exactly the odds and payments, and the value; the checker finds the answer valid. No cut comes twice, and they are fewer than
+-- the sets of values.
 pub record PrintsAuctionOptimal (a : SymmetricAuction) (text : List ℕ) : Type 0 where
   pub value : Frac
   pub interim : Interim
@@ -32,15 +34,19 @@ pub record PrintsAuctionOptimal (a : SymmetricAuction) (text : List ℕ) : Type 
   pub rule : IsOptimalRule a interim masses
   pub is_value : IsValueOf (general_of a) (mechanism_in a interim masses) value
   pub valid : IsAuctionVerdict a (AuctionOptimal value interim masses cuts bound) Valid
+  pub distinct : AreCuts (value_count a) cuts
+  pub few : length cuts < 2 ^ value_count a
 
 -- the cuts of the last program of the auction's cut run, and of its forward path and of its backward one the pivots to the
--- first wide basis and the first wide entry of that
+-- first wide basis and the first wide entry of that; no cut comes twice, and they are fewer than the sets of values
 pub record PrintsAuctionTooWide (a : SymmetricAuction) (width : ℕ) (text : List ℕ) : Type 0 where
   pub cuts : List ℕ
   pub first : Wide
   pub second : Wide
   pub read_back : auction_answer_of a text ≡ Ok (TooWide cuts first (Some second))
   pub ends : EndsWide (auction_cutting a) width cuts first second
+  pub distinct : AreCuts (value_count a) cuts
+  pub few : length cuts < 2 ^ value_count a
 
 -- What is printed with a status, and which status it is: 12 where the cut run ends with a program that has no taken path, and
 -- 0 where it ends with odds at which no set of values is over. Each auction has an optimal mechanism, so that no other comes.

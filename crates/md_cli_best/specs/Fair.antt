@@ -20,6 +20,7 @@ use Rattle.md_question.specs.Shown.{IsShown, IsSo}
 use Rattle.md_question.specs.declared.finding.Finding.{Finding}
 use Rattle.md_question.specs.declared.finding.Finding.TheVariants.{Optimal, Infeasible, Unbounded}
 use Rattle.md_question_solve.specs.Found.{IsFound, IsWideFor}
+use Rattle.md_fair.specs.Bounds.{HasNoLeastBound}
 use Rattle.md_fair.specs.FairProgram.{IsFairProgram}
 use Rattle.md_fair.specs.FairQuestion.{fair_question, fair_rows}
 use Rattle.md_cli_best.specs.Headline.{IsEndStatus}
@@ -53,10 +54,10 @@ text_of_wide first second = text_of_records (records_about (codes "toowide") (wi
 -- ---- an answer
 
 -- the status of each kind of answer
-abbrev pub status_of_fair : Finding → ℕ
-status_of_fair (Optimal value mechanism bound) = 0
-status_of_fair (Infeasible face) = 10
-status_of_fair (Unbounded mechanism ray) = 11
+abbrev pub status_of_finding : Finding → ℕ
+status_of_finding (Optimal value mechanism bound) = 0
+status_of_finding (Infeasible face) = 10
+status_of_finding (Unbounded mechanism ray) = 11
 
 -- The one answer of a setting within a width, its status and its text. What it claims is so, over mechanisms of any
 -- denominator: that its mechanism is the fairest and has this value, that none is admissible, or that the least which an
@@ -68,7 +69,7 @@ pub record IsFairestSaying (s : GeneralSetting) (width : ℕ) (saying : Saying) 
   pub shows : IsSo (fair_question s) answer
   pub admissible : WhereUnbounded (λ mechanism ray. IsAdmissible s mechanism) answer
   pub certified : (p : Program) → IsFairProgram s p → IsShown (fair_question s) p answer
-  pub status : saying.status ≡ status_of_fair answer
+  pub status : saying.status ≡ status_of_finding answer
   pub text : saying.text ≡ text_of_fair s answer
 
 -- ---- no answer within the width
@@ -92,8 +93,9 @@ pub record IsFairSaying (s : GeneralSetting) (width : ℕ) (saying : Saying) : T
   -- where both paths of the fair program come to a wide basis, it is 12, and where a path is taken, it tells how that ends
   pub wide : (p : Program) → IsFairProgram s p → MeetsWideBasis Forward p width → MeetsWideBasis Backward p width → saying.status ≡ 12
   pub taken : (p : Program) (order : Order) (pivots : List Pivot) (step : Step) → IsFairProgram s p → IsTaken order p width pivots step → IsEndStatus step saying.status
-  -- where it is not 12, it tells exactly where no mechanism is admissible
+  -- where it is not 12, it tells exactly where no mechanism is admissible, and where the leasts of the admissible ones have no bound
   pub none : saying.status ≢ 12 → (saying.status ≡ 10) ↔ IsInfeasible s
+  pub no_bound : saying.status ≢ 12 → (saying.status ≡ 11) ↔ HasNoLeastBound s
 
 abbrev pub IsFair : ℕ → SettingFile → Saying → Type 0
 IsFair width file saying = WhereGeneral (λ s. IsFairSaying s width saying) file

@@ -1,19 +1,33 @@
 -- What `iron` says of an auction.
-use Rattle.std.specs.Prelude.{◌≡◌, ◌⊎◌, ℕ, List}
+use Rattle.std.specs.Prelude.{◌≡◌, ◌⊎◌, ℕ, pos, ◌≤ℤ◌, List}
+use Rattle.md_math.specs.Sums.{sum_to}
+use Rattle.md_space.specs.Profiles.{IsProfile}
 use Rattle.md_setting.specs.Auction.{SymmetricAuction}
+use Rattle.md_setting.specs.General.{general_of}
+use Rattle.md_setting.specs.Meaning.{agent_count, sizes_of}
 use Rattle.md_setting.specs.declared.file.SettingFile.{SettingFile}
 use Rattle.md_setting.specs.declared.file.SettingFile.TheVariants.{General, Auction}
-use Rattle.md_iron.specs.ClosedForms.{HasLongMultipliers, IsClosedForm, IsOneForm}
+use Rattle.md_mech.specs.declared.mechanism.Mechanism.{Mechanism}
+use Rattle.md_mech.specs.Mechanism.{pay_of}
+use Rattle.md_mech.specs.Optimal.{IsOptimal}
+use Rattle.md_mech.specs.Value.{IsValueOf}
+use Rattle.md_claims.specs.AuctionClaims.{mechanism_in}
+use Rattle.md_iron.specs.ClosedForms.{HasLongMultipliers, IsClosedForm, IsOneForm, PaysWithinValue}
 use Rattle.md_cli_best.specs.AuctionHeadline.{PrintsAuctionOptimal}
 use Rattle.md_cli_driver.specs.Saying.{Saying}
 use Rattle.md_cli_judge.specs.Verdicts.{undecided_text}
 
 -- an answer whose mechanism is optimal and which the checker finds valid; it is that of the pools that the rule names, and no other
--- value, odds, payments and cuts are
+-- value, odds, payments and cuts are. The value is that of every optimal mechanism of the auction. Each value pays from nothing to
+-- what the item is worth to it, as often as it has it; so payments add to at least 0 at each profile.
 pub record PrintsClosedForm (a : SymmetricAuction) (text : List ℕ) : Type 0 where
   pub prints : PrintsAuctionOptimal a text
   pub closed : IsClosedForm a prints.value prints.interim prints.masses prints.cuts prints.bound
   pub one : IsOneForm a prints.value prints.interim prints.cuts
+  pub same_value : (m : Mechanism) → IsOptimal (general_of a) m → IsValueOf (general_of a) m prints.value
+  pub pays : PaysWithinValue a prints.interim
+  pub no_deficit : (t : List ℕ) → IsProfile (sizes_of (general_of a)) t
+      → pos 0 ≤ℤ sum_to (agent_count (general_of a)) (λ i. pay_of (general_of a) (mechanism_in a prints.interim prints.masses) i t)
 
 -- An answer with 0; or that nothing is answered with 22, and then the multipliers that certify the pools that the rule names have
 -- more than 62 bits over each denominator.

@@ -2,6 +2,7 @@ pub mod Headline
 pub mod AuctionHeadline
 pub mod Solving
 pub mod Fair
+pub mod Finding
 pub mod Ironing
 pub mod Numbers
 pub mod Making

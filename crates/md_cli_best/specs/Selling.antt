@@ -1,17 +1,22 @@
 -- What `asym` says of a general setting: the best mechanism of a sale, or that the setting is none.
-use Rattle.std.specs.Prelude.{◌≡◌, ◌⊎◌, ℕ, List, codes}
+use Rattle.std.specs.Prelude.{◌≡◌, ◌⊎◌, ℕ, ℤ, List, codes}
+use Rattle.md_math.specs.Lists.{number_at}
 use Rattle.md_setting.specs.Setting.{GeneralSetting}
 use Rattle.md_setting.specs.ByKind.{WhereGeneral}
 use Rattle.md_setting.specs.declared.file.SettingFile.{SettingFile}
+use Rattle.md_lp.specs.Program.{Program}
 use Rattle.md_lp.specs.declared.wide.Wide.{Wide}
 use Rattle.md_mech.specs.Optimal.{IsOptimal}
 use Rattle.md_mech.specs.Value.{IsValueOf}
+use Rattle.md_cert.specs.Certified.{Certified}
+use Rattle.md_cert.specs.declared.certificate.Certificate.TheVariants.{Optimal}
 use Rattle.md_cut_runs.specs.CutRuns.{EndsSettled, EndsWide}
 use Rattle.md_cut_runs.specs.declared.optimum.Optimum.{Optimum}
+use Rattle.md_asym_sale.specs.ProgramOf.{IsSaleProgram}
 use Rattle.md_asym_sale.specs.Sale.{IsSale}
 use Rattle.md_asym_tables.specs.Odds.{AreOdds, HasOdds, HasPays}
 use Rattle.md_asym_tables.specs.Tables.{IsProfileTable, Implements}
-use Rattle.md_asym.specs.SaleCuts.{sale_cutting}
+use Rattle.md_asym.specs.SaleCuts.{odds_in, pays_in, sale_cutting}
 use Rattle.md_asym.specs.Solved.{IsSolvedSale, mechanism_in}
 use Rattle.md_asym.specs.declared.asym_answer.AsymAnswer.{AsymAnswer}
 use Rattle.md_cli_driver.specs.declared.refusal.Refusal.TheVariants as refusal
@@ -22,12 +27,36 @@ use Rattle.md_cli_best.specs.WideTexts.{text_of_wide}
 
 -- ---- a sale
 
--- The cut run of the sale ends with this answer. At each profile its masses add to at most the weight of the profile, and those
--- of each pair to its demand. The mechanism of the masses, in which each bidder pays by its type, has the odds and payments and
--- the value, and no admissible mechanism of the setting, of any denominator, has a greater objective.
+-- the cut run of the sale ends with this answer, whose mechanism is optimal and has the value
+pub record IsSaleAnswer (s : GeneralSetting) (width : ℕ) (answer : AsymAnswer) : Type 0 where
+  pub solved : IsSolvedSale s width answer
+  pub optimal : IsOptimal s (mechanism_in s answer)
+  pub value : IsValueOf s (mechanism_in s answer) answer.value
+
+-- two answers differ in nothing but their masses
+pub record IsSameButMasses (answer other : AsymAnswer) : Type 0 where
+  pub value : answer.value ≡ other.value
+  pub cuts : answer.cuts ≡ other.cuts
+  pub den : answer.den ≡ other.den
+  pub odds : answer.odds ≡ other.odds
+  pub pays : answer.pays ≡ other.pays
+  pub bound : answer.bound ≡ other.bound
+
+-- the odds and payments are those of a point of the program, and the multipliers show that none is greater
+pub record IsCertifiedSale (s : GeneralSetting) (p : Program) (answer : AsymAnswer) : Type 0 where
+  pub point : List ℤ
+  pub odds : answer.odds ≡ odds_in s (number_at point)
+  pub pays : answer.pays ≡ pays_in s (number_at point)
+  pub certified : Certified p (Optimal answer.den point answer.bound)
+
+-- The cut run of the sale ends with this answer, of which all but the masses is fixed. At each profile its masses add to at most
+-- the weight of the profile, and those of each pair to its demand. The mechanism of the masses, in which each bidder pays by its
+-- type, has the odds and payments and the value, and no admissible mechanism of the setting, of any denominator, has a greater
+-- objective. The multipliers show it, in whatever terms the program of the cuts is written.
 pub record IsSoldBest (s : GeneralSetting) (width : ℕ) (saying : Saying) : Type 0 where
   pub answer : AsymAnswer
   pub solved : IsSolvedSale s width answer
+  pub only : (other : AsymAnswer) → IsSaleAnswer s width other → IsSameButMasses answer other
   pub fits : AreOdds s answer.den answer.odds
   pub table : IsProfileTable s answer.den answer.masses
   pub implements : Implements s answer.odds answer.masses
@@ -35,15 +64,17 @@ pub record IsSoldBest (s : GeneralSetting) (width : ℕ) (saying : Saying) : Typ
   pub odds : HasOdds s (mechanism_in s answer) answer.den answer.odds
   pub pays : HasPays s (mechanism_in s answer) answer.den answer.pays
   pub value : IsValueOf s (mechanism_in s answer) answer.value
+  pub certified : (p : Program) → IsSaleProgram s answer.cuts p → IsCertifiedSale s p answer
   pub status : saying.status ≡ 0
   pub text : saying.text ≡ text_of_sale s answer
 
--- the cut run comes to a program each path of which has a wide basis: these are its cuts and the first such bases
+-- the cut run comes to a program each path of which has a wide basis: these are its cuts and the first such bases, and no others are
 pub record IsSoldTooWide (s : GeneralSetting) (width : ℕ) (saying : Saying) : Type 0 where
   pub cuts : List ℕ
   pub first : Wide
   pub second : Wide
   pub wide : EndsWide (sale_cutting s) width cuts first second
+  pub only : (others : List ℕ) (forward backward : Wide) → EndsWide (sale_cutting s) width others forward backward → (cuts ≡ others) × (first ≡ forward) × (second ≡ backward)
   pub status : saying.status ≡ 12
   pub text : saying.text ≡ text_of_wide (codes "asym") cuts first second
 

@@ -57,6 +57,7 @@ fn sold(alloc: Global, setting: &Setting, width: Width) -> Result<Answered, NoMe
     ensures selling { IfOk result (λ answered. IsSelling setting.now width (said answered)) }
     ensures status { IfOk result (λ answered. IsAsymStatus answered.status) }
 {
+    let _shaped = setting.total();
     match solve_asym(alloc, setting, width) {
         Ok(answer) => Ok(Answered {
             status: DONE,

@@ -1,6 +1,6 @@
 //! The command `fair`: the fairest mechanism of a setting, or why there is none.
 ghost use Rattle.std.specs.Prelude.{◌≡◌, IfOk};
-ghost use Rattle.md_cli_best.specs.Fair.{IsFair, IsFairSaying, status_of_fair};
+ghost use Rattle.md_cli_best.specs.Fair.{IsFair, IsFairSaying, status_of_finding};
 ghost use Rattle.md_cli_best.specs.Headline.{IsSolveStatus};
 ghost use Rattle.md_cli_driver.specs.Reading.{is_general};
 ghost use Rattle.md_cli_driver.specs.Saying.{said};
@@ -56,9 +56,9 @@ fn fairest(alloc: Global, setting: &Setting, width: Width) -> Result<Answered, N
     }
 }
 
-// The status that tells which kind of answer it is.
-fn status(answer: &FairAnswer) -> u8
-    ensures value { result ≡ status_of_fair answer.now }
+/// The status that tells which kind of answer it is.
+pub(crate) fn status(answer: &FairAnswer) -> u8
+    ensures value { result ≡ status_of_finding answer.now }
     ensures own { IsSolveStatus result }
 {
     match answer {

@@ -45,6 +45,7 @@ fn sold(alloc: Global, auction: &Auction, units: u32, width: Width) -> Result<An
     ensures selling { IfOk result (λ answered. IsUnitSelling auction.now units width (said answered)) }
     ensures status { IfOk result (λ answered. IsUnitsStatus answered.status) }
 {
+    let _shaped = auction.kinds();
     match solve_units(alloc, auction, units, width) {
         Ok(answer) => Ok(Answered {
             status: DONE,

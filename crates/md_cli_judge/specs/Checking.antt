@@ -1,11 +1,12 @@
 -- What `check` says of a setting and of the answer that a second file says.
-use Rattle.std.specs.Prelude.{◌≡◌, ◌⊎◌, ℕ}
+use Rattle.std.specs.Prelude.{◌≡◌, ◌⊎◌, ◌↔◌, ℕ}
 use Rattle.md_setting.specs.declared.file.SettingFile.{SettingFile}
 use Rattle.md_setting.specs.declared.file.SettingFile.TheVariants.{General, Auction}
 use Rattle.md_answer.specs.declared.answer.Answer.{Answer}
 use Rattle.md_check.specs.declared.verdict.Verdict.{Verdict}
-use Rattle.md_check.specs.AuctionVerdicts.{IsAuctionVerdict}
-use Rattle.md_check.specs.Verdicts.{IsVerdict}
+use Rattle.md_check.specs.declared.verdict.Verdict.TheVariants.{Valid, Undecided}
+use Rattle.md_check.specs.AuctionVerdicts.{AuctionClaimHolds, IsAuctionVerdict}
+use Rattle.md_check.specs.Verdicts.{ClaimHolds, ClaimsNothing, IsVerdict}
 use Rattle.md_cli_driver.specs.Saying.{Saying}
 use Rattle.md_cli_judge.specs.Verdicts.{TellsVerdict}
 
@@ -14,10 +15,19 @@ abbrev pub IsVerdictOn : SettingFile → Answer → Verdict → Type 0
 IsVerdictOn (General s) answer verdict = IsVerdict s answer verdict
 IsVerdictOn (Auction a) answer verdict = IsAuctionVerdict a answer verdict
 
--- the verdict on an answer, and what is said of it
+-- what an answer claims is so, over mechanisms of any denominator, with numbers of any size
+abbrev pub ClaimHoldsOf : SettingFile → Answer → Type 0
+ClaimHoldsOf (General s) answer = ClaimHolds s answer
+ClaimHoldsOf (Auction a) answer = AuctionClaimHolds a answer
+
+-- The one verdict on an answer, and what is said of it. Where the answer is valid, what it claims is so; it stays undecided
+-- exactly where it claims nothing.
 pub record IsCheck (file : SettingFile) (answer : Answer) (saying : Saying) : Type 0 where
   pub verdict : Verdict
   pub is_verdict : IsVerdictOn file answer verdict
+  pub only : (other : Verdict) → IsVerdictOn file answer other → other ≡ verdict
+  pub claim : verdict ≡ Valid → ClaimHoldsOf file answer
+  pub undecided : (verdict ≡ Undecided) ↔ ClaimsNothing answer
   pub told : TellsVerdict file verdict saying
 
 -- the statuses of what is answered

@@ -114,7 +114,8 @@ draw_refused draws.Memory = refusal.Memory
 -- ---- what is said
 
 -- What two draws give of the answer at the profile that the text names. Over all first draws that may be, each outcome comes
--- as often as its chance says; of an auction each value does by the first draw, and each bidder with it by the second.
+-- as often as its chance says; of an auction each value does by the first draw, and each bidder with it by the second, so that
+-- it is the mechanism of the masses that is drawn.
 pub record IsDrawnSaying (file : SettingFile) (answer : Answer) (profile : List ℕ) (first second : ℤ) (saying : Saying) : Type 0 where
   pub reports : List ℕ
   pub named : AreNamesOf file (parts_of profile) reports

@@ -8,7 +8,7 @@ use Rattle.md_setting.specs.declared.file.SettingFile.TheVariants.{General, Auct
 use Rattle.md_mech.specs.declared.mechanism.Mechanism.{Mechanism}
 use Rattle.md_mech.specs.Mechanism.{IsMechanism}
 use Rattle.md_border.specs.declared.interim.Interim.{Interim}
-use Rattle.md_border.specs.Odds.{HasOdds, excess_of}
+use Rattle.md_border.specs.Odds.{HasOdds, HasPays, excess_of}
 use Rattle.md_expost.specs.declared.masses.Masses.{Masses}
 use Rattle.md_expost.specs.Masses.{AreMasses}
 use Rattle.md_expost.specs.Implementing.{Implements}
@@ -38,8 +38,8 @@ odds_in (Auction a) bytes = odds_or_refusal (odds_of a bytes)
 abbrev pub table_rows : SymmetricAuction → Masses → List (List (List ℕ))
 table_rows a y = number_row (codes "realise") (y.den ∷ []) ∷ (mass_rows a y ++ end_row ∷ [])
 
--- A mass table with exactly the odds. With any payments by kind it makes a mechanism of the auction, which has them
--- (Border 1991).
+-- A mass table with exactly the odds. With any payments by kind it makes a mechanism of the auction, which has them and the
+-- payments (Border 1991).
 pub record IsTableSaying (a : SymmetricAuction) (interim : Interim) (saying : Saying) : Type 0 where
   pub masses : Masses
   pub table : AreMasses a masses
@@ -47,6 +47,7 @@ pub record IsTableSaying (a : SymmetricAuction) (interim : Interim) (saying : Sa
   pub border : MeetsBorder a interim
   pub mechanism : (pays : List ℤ) → IsMechanism (general_of a) (mechanism_of a masses pays)
   pub has_odds : (pays : List ℤ) → HasOdds a (mechanism_of a masses pays) interim.den interim.odds
+  pub has_pays : (pays : List ℤ) → HasPays a (mechanism_of a masses pays) masses.den pays
   pub status : saying.status ≡ 0
   pub text : saying.text ≡ text_of_records (table_rows a masses)
 

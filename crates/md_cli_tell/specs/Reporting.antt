@@ -20,7 +20,7 @@ use Rattle.md_report.specs.Records.{report_text}
 use Rattle.md_report.specs.ReportOf.{IsReportOf}
 use Rattle.md_auction_report.specs.declared.auction_report.AuctionReport.{AuctionReport}
 use Rattle.md_auction_report.specs.Admissible.{IsTruthfulAndRational, IsToldWhole as IsAuctionToldWhole, MissesNothing as MissesNothingOfAuction}
-use Rattle.md_auction_report.specs.Mechanisms.{JudgesMechanisms}
+use Rattle.md_auction_report.specs.Mechanisms.{JudgesMechanisms, TellsMechanisms}
 use Rattle.md_auction_report.specs.Records.{report_text as auction_report_text}
 use Rattle.md_auction_report.specs.ReportOf.{IsAuctionReportOf}
 use Rattle.md_cli_driver.specs.Saying.{Saying}
@@ -43,13 +43,15 @@ JudgesTables a interim report =
 
 -- The text tells what interim odds and payments do, against the reduced program with some cuts. They meet all conditions on
 -- truth and on taking part exactly where the text tells neither a gain nor a loss above 0. Exactly there each mechanism of the
--- auction with these odds and payments is admissible, and so is that of each mass table with the odds.
+-- auction with these odds and payments is admissible, and so is that of each mass table with the odds. The value, the revenue and
+-- the welfare that it tells are those of each mechanism with the odds and payments.
 pub record IsInterimText (a : SymmetricAuction) (interim : Interim) (cuts : List ℕ) (text : List ℕ) : Type 0 where
   pub report : AuctionReport
   pub is_report : IsAuctionReportOf a interim cuts report
   pub whole : IsAuctionToldWhole a report
   pub admissible : IsTruthfulAndRational a interim ↔ MissesNothingOfAuction report
   pub mechanisms : JudgesMechanisms a interim report
+  pub expected : TellsMechanisms a interim report
   pub tables : JudgesTables a interim report
   pub told : text ≡ auction_report_text a cuts report
 

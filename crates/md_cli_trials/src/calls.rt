@@ -60,7 +60,7 @@ static FILES: [(&str, &str); 16] = [
 ];
 
 /// The calls. The last ones are refused.
-pub(crate) static CALLS: [Call; 34] = [
+pub(crate) static CALLS: [Call; 36] = [
     (&["audit", "one", "one-table"], 2, 0, "admissible\n"),
     (
         &["audit", "price", "above"],
@@ -83,6 +83,18 @@ pub(crate) static CALLS: [Call; 34] = [
         1,
         10,
         "answer,1,fair,infeasible\nrow,0,1\nend\n",
+    ),
+    (
+        &["find", "price"],
+        1,
+        0,
+        "answer,1,general,optimal\nvalue,3,2\n",
+    ),
+    (
+        &["findfair", "vote"],
+        1,
+        0,
+        "answer,1,fair,optimal\nvalue,3,4\n",
     ),
     (
         &["rows", "reach"],

@@ -1,6 +1,9 @@
 //! The fairest mechanisms of settings, over files in memory. What each has is worked out by hand.
 use crate::auction_tests::is_told;
-use crate::test_settings::{OUT_OF_REACH, POSTED_PRICE_FRONT, TAKING, TWO_BIDDERS, WELFARE_VOTE};
+use crate::test_settings::{
+    OUT_OF_REACH, POSTED_PRICE_FRONT, RICH_AND_POOR, TAKING, TWO_BIDDERS, UNEQUAL_GOOD,
+    WELFARE_VOTE,
+};
 use crate::tests::words;
 use md_ports::{MemShelf, MemSink};
 use md_top::mechdes;
@@ -29,21 +32,20 @@ static CASES: [Case; 7] = [
         "answer,1,fair,optimal\nvalue,3,4\ntable,1\nlottery,l,l,1,0\nlottery,l,r,0,1\nlottery,r,l,0,1\nlottery,r,r,0,1\nbound,2\nrow,8,0,2\nrow,9,0,1\nrow,10,0,1\nrow,11,0,2\nrow,12,0,1\nrow,13,0,1\nend\n",
         "",
     ),
-    // A good that is worth 2 to the first agent and 1 to the second, and is not paid for. The first gets it with the chance p, and
-    // twice p is 1 less p where p is 1 of 3: both get 2 of 3.
+    // The first agent gets the good with the chance p, and twice p is 1 less p where p is 1 of 3: both get 2 of 3.
     (
-        "format = \"mechanism-setting\"\nversion = 1\nkind = \"general\"\ntruth = \"dominant\"\nrational = \"ex-post\"\npayments = false\noutcomes = [\"first\", \"second\"]\n",
-        "[[agent]]\nname = \"one\"\ntypes = [\"t\"]\nweights = [1]\nutility = [[2, 0]]\n[[agent]]\nname = \"two\"\ntypes = [\"t\"]\nweights = [1]\nutility = [[0, 1]]\n",
+        UNEQUAL_GOOD,
+        "",
         "62",
         0,
         "answer,1,fair,optimal\nvalue,2,3\ntable,3\nlottery,t,t,1,2\nbound,",
         "",
     ),
-    // Two agents, of whom the first has 3. What one pays the other may grow without an end, but both together have no more than 3:
-    // the first pays half of it to the second.
+    // What one pays the other may grow without an end, but both together have no more than 3: the first pays half of it to the
+    // second.
     (
-        "format = \"mechanism-setting\"\nversion = 1\nkind = \"general\"\ntruth = \"dominant\"\nrational = \"none\"\npayments = true\nno_deficit = true\noutcomes = [\"only\"]\n",
-        "[[agent]]\nname = \"rich\"\ntypes = [\"t\"]\nweights = [1]\nutility = [[3]]\n[[agent]]\nname = \"poor\"\ntypes = [\"t\"]\nweights = [1]\nutility = [[0]]\n",
+        RICH_AND_POOR,
+        "",
         "62",
         0,
         "answer,1,fair,optimal\nvalue,3,2\ntable,2\nlottery,t,t,2\npay,t,t,3,-3\nbound,",

@@ -48,6 +48,14 @@ pub(crate) const TAKING: &str =
 pub(crate) const WELFARE_VOTE: &str =
     "format = \"mechanism-setting\"\nversion = 1\nkind = \"general\"\ntruth = \"dominant\"\nrational = \"none\"\npayments = false\noutcomes = [\"a\", \"b\"]\n[objective]\nwelfare = 1\n[[agent]]\nname = \"first\"\ntypes = [\"l\", \"r\"]\nweights = [1, 1]\nutility = [[1, 0], [0, 1]]\n[[agent]]\nname = \"second\"\ntypes = [\"l\", \"r\"]\nweights = [1, 1]\nutility = [[1, 0], [0, 1]]\n";
 
+// A good that is worth 2 to the first agent and 1 to the second, and is not paid for.
+pub(crate) const UNEQUAL_GOOD: &str =
+    "format = \"mechanism-setting\"\nversion = 1\nkind = \"general\"\ntruth = \"dominant\"\nrational = \"ex-post\"\npayments = false\noutcomes = [\"first\", \"second\"]\n[[agent]]\nname = \"one\"\ntypes = [\"t\"]\nweights = [1]\nutility = [[2, 0]]\n[[agent]]\nname = \"two\"\ntypes = [\"t\"]\nweights = [1]\nutility = [[0, 1]]\n";
+
+// Two agents, of whom the first has 3. One may pay the other.
+pub(crate) const RICH_AND_POOR: &str =
+    "format = \"mechanism-setting\"\nversion = 1\nkind = \"general\"\ntruth = \"dominant\"\nrational = \"none\"\npayments = true\nno_deficit = true\noutcomes = [\"only\"]\n[[agent]]\nname = \"rich\"\ntypes = [\"t\"]\nweights = [1]\nutility = [[3]]\n[[agent]]\nname = \"poor\"\ntypes = [\"t\"]\nweights = [1]\nutility = [[0]]\n";
+
 // One item for two bidders whose values are independent, where truth is dominant.
 pub(crate) const INDEPENDENT: &str =
     "format = \"mechanism-setting\"\nversion = 1\nkind = \"general\"\ntruth = \"dominant\"\nrational = \"ex-post\"\npayments = true\noutcomes = [\"keep\", \"first\", \"second\"]\n[objective]\nrevenue = 1\n[[agent]]\nname = \"one\"\ntypes = [\"v1\", \"v2\"]\nweights = [1, 1]\nutility = [[0, 1, 0], [0, 2, 0]]\n[[agent]]\nname = \"two\"\ntypes = [\"v1\", \"v2\"]\nweights = [1, 1]\nutility = [[0, 0, 1], [0, 0, 2]]\n";

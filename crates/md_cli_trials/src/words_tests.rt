@@ -10,7 +10,7 @@ const READ: &str = "mechdes: read fault\n";
 
 // Words, the status, and what is said. Words that are a command over files say that these could not be read, since no file has
 // their names.
-static WORDS: [(&[&str], u8, &str); 64] = [
+static WORDS: [(&[&str], u8, &str); 74] = [
     (&["make", "1000000"], 67, NUMBER),
     (&["drill", "1000000"], 67, NUMBER),
     (&["make", "--", "-1"], 67, NUMBER),
@@ -59,10 +59,13 @@ static WORDS: [(&[&str], u8, &str); 64] = [
     (&["Audit", "a", "b"], 64, USAGE),
     (&["realize", "a", "b"], 64, USAGE),
     (&["fairest", "a"], 64, USAGE),
+    (&["findbest", "a"], 64, USAGE),
     (&["asymmetric", "a"], 64, USAGE),
     // Names that are missing or too many. Any text may be a name, an empty one too, and no file has these.
     (&["rows", ""], 70, READ),
     (&["rows", "--", "-1"], 70, READ),
+    (&["find", ""], 70, READ),
+    (&["findfair", "--", "-1"], 70, READ),
     (&["rows", "-1"], 64, USAGE),
     (&["audit", "a"], 64, USAGE),
     (&["audit", "a", "b", "c"], 64, USAGE),
@@ -70,10 +73,14 @@ static WORDS: [(&[&str], u8, &str); 64] = [
     (&["iron"], 64, USAGE),
     (&["iron", "a", "b"], 64, USAGE),
     (&["fair", "a", "b"], 64, USAGE),
+    (&["find", "a", "b"], 64, USAGE),
+    (&["findfair", "a", "b"], 64, USAGE),
     (&["asym", "a", "b"], 64, USAGE),
     (&["determ", "a", "b"], 64, USAGE),
     (&["determcheck", "a"], 64, USAGE),
     (&["solve"], 64, USAGE),
+    (&["find"], 64, USAGE),
+    (&["findfair"], 64, USAGE),
     // Widths of 4 to 62 bits, once, where a path is taken.
     (&["solve", "--width=61", "a"], 70, READ),
     (&["replay", "a", "--width", "62", "b"], 70, READ),
@@ -85,6 +92,9 @@ static WORDS: [(&[&str], u8, &str); 64] = [
     (&["solve", "a", "--width", "4", "--width", "4"], 64, USAGE),
     (&["solve", "--help"], 64, USAGE),
     (&["rows", "a", "--width", "4"], 64, USAGE),
+    (&["find", "a", "--width", "62"], 64, USAGE),
+    (&["find", "a", "--width", "3"], 64, USAGE),
+    (&["findfair", "--width=62", "a"], 64, USAGE),
     (&["report", "a", "b", "--width", "4"], 64, USAGE),
     (&["determcheck", "a", "b", "--width", "4"], 64, USAGE),
 ];

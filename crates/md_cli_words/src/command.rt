@@ -21,6 +21,10 @@ pub enum Command {
     Realise,
     /// `fair SETTING [--width W]` finds the fairest mechanism of a setting within a width.
     Fair,
+    /// `find SETTING` finds the best mechanism of a setting, off the stated paths too.
+    Find,
+    /// `findfair SETTING` finds the fairest mechanism of a setting, off the stated paths too.
+    FindFair,
     /// `asym SETTING [--width W]` solves the sale of one item to bidders who differ within a width.
     Asym,
     /// `units SETTING NUMBER [--width W]` sells so many units to the bidders of an auction within a width.
@@ -60,6 +64,8 @@ fn named(word: &str) -> Option<Command>
         "replay" => Some(Command::Replay),
         "realise" => Some(Command::Realise),
         "fair" => Some(Command::Fair),
+        "find" => Some(Command::Find),
+        "findfair" => Some(Command::FindFair),
         "asym" => Some(Command::Asym),
         "units" => Some(Command::Units),
         "determ" => Some(Command::Determ),
@@ -78,7 +84,7 @@ pub(crate) fn form(command: Command) -> Form
     ensures { result ≡ form_of command }
 {
     match command {
-        Command::Rows | Command::Iron => Form::One,
+        Command::Rows | Command::Find | Command::FindFair | Command::Iron => Form::One,
         Command::Solve | Command::Fair | Command::Asym | Command::Determ => Form::OneWidth,
         Command::Audit
         | Command::Check

@@ -3,6 +3,7 @@ pub mod SameNumbers
 pub mod PointLaws
 pub mod LeastLaws
 pub mod Claims
+pub mod BoundLaws
 pub mod TermForms
 pub mod CostLaws
 pub mod Sizes

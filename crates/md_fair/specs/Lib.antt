@@ -1,6 +1,7 @@
 pub mod Mean
 pub mod Least
 pub mod Fairest
+pub mod Bounds
 pub mod FairProgram
 pub mod FairPoints
 pub mod Law

@@ -12,4 +12,4 @@ mod terms;
 pub use md_question::Finding as FairAnswer;
 pub use means::least;
 pub use program::fair_program;
-pub use solving::solve_fair;
+pub use solving::{find_fair, solve_fair};

@@ -1,5 +1,5 @@
 //! The fairest mechanism, found.
-ghost use Rattle.std.specs.Prelude.{◌≡◌, ◌↔◌, List, IfErr, IfOk, MatchResult};
+ghost use Rattle.std.specs.Prelude.{◌≡◌, ◌↔◌, List, IfErr, IfOk, IfSome, MatchResult};
 ghost use Rattle.md_lp.specs.Program.{Program};
 ghost use Rattle.md_lp.specs.declared.pivot.Pivot.{Pivot};
 ghost use Rattle.md_lp.specs.declared.wide.Wide.{Wide};
@@ -10,20 +10,22 @@ ghost use Rattle.md_simplex.specs.declared.order.Order.{Order};
 ghost use Rattle.md_simplex.specs.declared.simplex_error.SimplexError.{SimplexError};
 ghost use Rattle.md_simplex.specs.declared.step.Step.{Step};
 ghost use Rattle.md_simplex.specs.Runs.{IsFirstWideOf, IsLeft, IsTaken, MeetsWideBasis, TellsOf};
-ghost use Rattle.md_question.specs.Findings.{ClaimsInfeasible, WhereInfeasible, WhereOptimal, WhereUnbounded};
+ghost use Rattle.md_question.specs.Certified.{IsCertifiedFinding};
+ghost use Rattle.md_question.specs.Findings.{ClaimsInfeasible, ClaimsUnbounded, WhereInfeasible, WhereOptimal, WhereUnbounded};
 ghost use Rattle.md_question.specs.Shown.{IsFindingTo, IsShown};
 ghost use Rattle.md_question.specs.declared.finding.Finding.{Finding};
 ghost use Rattle.md_question_solve.specs.Found.{ClaimsEnd, IsFound, IsFoundBy, IsLeftFor};
 ghost use Rattle.md_question_solve.specs.Readings.{HasFractions};
+ghost use Rattle.md_fair.specs.Bounds.{HasNoLeastBound};
 ghost use Rattle.md_fair.specs.FairProgram.{IsFairProgram};
 ghost use Rattle.md_fair.specs.FairQuestion.{fair_question};
 ghost use Rattle.md_fair.specs.Fairest.{GrowsFair, IsOptimalFair};
 ghost use Rattle.md_fair.specs.Least.{HasLeast, IsLeastValueOf};
 
 use crate::question::Fairest;
-use md_num::Width;
+use md_num::{NoMemory, Width};
 use md_question::Finding;
-use md_question_solve::solve_question;
+use md_question_solve::{find_question, solve_question};
 use md_setting::Setting;
 use md_simplex::SimplexError;
 use std::alloc::Global;
@@ -51,9 +53,10 @@ pub fn solve_fair(alloc: Global, setting: &Setting, width: Width) -> Result<Find
     ensures admissible { IfOk result (WhereUnbounded (λ mechanism ray. IsAdmissible setting.now mechanism)) }
     ensures has_least { (mechanism : Mechanism) → HasLeast setting.now mechanism }
 
-    // Where a path is taken, the claim is that of its end.
+    // Where a path is taken, the claim is that of its end, and it is made wherever it is so.
     ensures taken { (p : Program) (order : Order) (pivots : List Pivot) (step : Step) → IsFairProgram setting.now p → IsTaken order p width pivots step → MatchResult result (ClaimsEnd step) (λ error. error ≡ SimplexError.Memory) }
     ensures none { IfOk result (λ answer. ClaimsInfeasible answer ↔ IsInfeasible setting.now) }
+    ensures no_bound { IfOk result (λ answer. ClaimsUnbounded answer ↔ HasNoLeastBound setting.now) }
 
     // Where a basis of each path is wide there is no answer. The first one of each is told, and nothing else, and it is told
     // nowhere else.
@@ -73,4 +76,15 @@ pub fn solve_fair(alloc: Global, setting: &Setting, width: Width) -> Result<Find
     let _shaped = setting.space();
     let fairest = Fairest { setting };
     solve_question(alloc, &fairest, width)
+}
+
+/// Finds the fairest mechanism of a setting, if the fair program has a certificate that is found off the two stated paths too.
+///
+/// # Errors
+/// Nothing but want of memory.
+pub fn find_fair(alloc: Global, setting: &Setting) -> Result<Option<Finding>, NoMemory>
+    ensures { IfOk result (λ found. IfSome found (IsCertifiedFinding (fair_question setting.now))) }
+{
+    let fairest = Fairest { setting };
+    find_question(alloc, &fairest)
 }

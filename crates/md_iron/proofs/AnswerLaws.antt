@@ -1,5 +1,5 @@
 -- An answer in closed form: its certificate, and its sizes.
-use Rattle.std.proofs.Common.{◌≡◌, ℕ, ◌-◌, ◌^◌, ◌<◌, ℤ, pos, ◌≤ℤ◌, ◌<ℤ◌, List, length, sym, ap, subst, ◌∙◌, arith}
+use Rattle.std.proofs.Common.{◌≡◌, ℕ, ◌-◌, ◌^◌, ◌<◌, ℤ, pos, ◌*ℤ◌, ◌≤ℤ◌, ◌<ℤ◌, List, length, sym, ap, subst, ◌∙◌, arith}
 use Rattle.std.proofs.lemmas.Int.{ints}
 use Rattle.std.proofs.lemmas.List.{length-map}
 use Rattle.md_math.specs.Lists.{number_at}
@@ -24,14 +24,16 @@ use Rattle.md_parts.specs.Fitting.{IsBoundOver}
 use Rattle.md_claims.specs.AuctionCertificates.{auction_certificate}
 use Rattle.md_iron_values.specs.Pools.{Pools}
 use Rattle.md_iron_values.specs.VirtualValues.{IsPooledAuction}
-use Rattle.md_iron_values.specs.Odds.{interim_of}
+use Rattle.md_iron_values.specs.Odds.{interim_of, odds_in, pay_in_pools}
 use Rattle.md_iron_values.specs.Cuts.{cuts_of}
 use Rattle.md_iron_laws.specs.Rows.{rows_of}
 use Rattle.md_answer.specs.AuctionAnswerTo.{IsAuctionAnswer}
 use Rattle.md_answer.specs.declared.answer.Answer.TheVariants.{AuctionOptimal}
+use Rattle.md_iron_values.proofs.AuctionLaws.{pays-bounds}
 use Rattle.md_iron_values.proofs.DemandLaws.{excess-none}
 use Rattle.md_iron_laws.proofs.Lists.{closed-certified}
 use Rattle.md_iron_laws.proofs.Printed.{printed-point}
+use Rattle.md_iron.specs.ClosedForms.{PaysWithinValue}
 use Rattle.md_iron.specs.ShortBounds.{IsBoundIn, IsClosedBound}
 use Rattle.md_iron.proofs.BoundLaws.{rows-count}
 use Rattle.md_iron.proofs.ConditionRows.{condition_in, conditions-rows}
@@ -39,6 +41,23 @@ use Rattle.md_iron.proofs.ConditionRows.{condition_in, conditions-rows}
 -- no set of values asks for more than there is
 pub pools-border : (a : SymmetricAuction) (pools : Pools) (interim : Interim) → IsAuction a → IsPooledAuction a pools → interim ≡ interim_of a pools → MeetsBorder a interim
 pools-border a pools interim shaped pooled e = subst (MeetsBorder a) (sym e) (record { none_over = λ set b. excess-none a pools shaped pooled set })
+
+-- each value pays from nothing to what the item is worth to it
+pub pools-pay : (a : SymmetricAuction) (pools : Pools) (interim : Interim) → IsAuction a → IsPooledAuction a pools → interim ≡ interim_of a pools → PaysWithinValue a interim
+pools-pay a pools interim shaped pooled e =
+    subst (PaysWithinValue a) (sym e)
+    (record {
+      nonneg = λ v b. subst (λ z. pos 0 ≤ℤ z) (sym (paid v b)) (pays-bounds a pools shaped pooled v b).0;
+      at_most = λ v b.
+          subst (λ z. z ≤ℤ (number_at a.values v *ℤ number_at (interim_of a pools).odds v)) (sym (paid v b))
+          (subst (λ q. pay_in_pools a pools v ≤ℤ (number_at a.values v *ℤ q)) (sym (won v b)) (pays-bounds a pools shaped pooled v b).1);
+    })
+  where
+    won : (v : ℕ) → v < value_count a → number_at (interim_of a pools).odds v ≡ odds_in a pools v
+    won v b = get_or-list_to (value_count a) (odds_in a pools) v (pos 0) b
+
+    paid : (v : ℕ) → v < value_count a → number_at (interim_of a pools).pays v ≡ pay_in_pools a pools v
+    paid v b = get_or-list_to (value_count a) (pay_in_pools a pools) v (pos 0) b
 
 -- the multipliers with the point of the pools are a certificate
 pub closed-certificate : (a : SymmetricAuction) (pools : Pools) (p : Program) (interim : Interim) (bound : Bound) → IsAuction a → IsPooledAuction a pools → interim ≡ interim_of a pools → IsReducedProgram a 1 (cuts_of (value_count a) pools) p

@@ -1,5 +1,6 @@
 -- Optimal auctions in closed form (Myerson 1981): what is answered of one, and why nothing is.
-use Rattle.std.specs.Prelude.{◌≡◌, ℕ, List}
+use Rattle.std.specs.Prelude.{◌≡◌, ℕ, ◌<◌, pos, ◌*ℤ◌, ◌≤ℤ◌, List}
+use Rattle.md_math.specs.Lists.{number_at}
 use Rattle.md_num.specs.declared.frac.Frac.{Frac}
 use Rattle.md_setting.specs.Auction.{SymmetricAuction, value_count}
 use Rattle.md_border.specs.declared.interim.Interim.{Interim}
@@ -45,3 +46,12 @@ pub record IsOneForm (a : SymmetricAuction) (value : Frac) (interim : Interim) (
 abbrev pub IsOneAnswer : SymmetricAuction → Answer → Type 0
 IsOneAnswer a (AuctionOptimal value interim masses cuts bound) = IsOneForm a value interim cuts
 IsOneAnswer a _ = ⊥
+
+-- each value pays from nothing to what the item is worth to it, as often as it has it
+pub record PaysWithinValue (a : SymmetricAuction) (interim : Interim) : Type 0 where
+  pub nonneg : (v : ℕ) → v < value_count a → pos 0 ≤ℤ number_at interim.pays v
+  pub at_most : (v : ℕ) → v < value_count a → number_at interim.pays v ≤ℤ (number_at a.values v *ℤ number_at interim.odds v)
+
+abbrev pub IsPaidWithinValue : SymmetricAuction → Answer → Type 0
+IsPaidWithinValue a (AuctionOptimal value interim masses cuts bound) = PaysWithinValue a interim
+IsPaidWithinValue a _ = ⊥

@@ -6,7 +6,7 @@ ghost use Rattle.md_expost.specs.Implementing.{Implements};
 ghost use Rattle.md_expost.specs.Masses.{AreMasses};
 ghost use Rattle.md_expost.specs.WorstSets.{MeetsBorder};
 ghost use Rattle.md_answer.specs.AuctionAnswerTo.{IsAuctionAnswer};
-ghost use Rattle.md_iron.specs.ClosedForms.{HasLongMultipliers, IsClosedAnswer, IsOneAnswer};
+ghost use Rattle.md_iron.specs.ClosedForms.{HasLongMultipliers, IsClosedAnswer, IsOneAnswer, IsPaidWithinValue};
 
 use crate::bounds::closed_bound;
 use md_answer::Answer;
@@ -21,6 +21,7 @@ use std::alloc::Global;
 pub(crate) fn closed_answer(alloc: Global, auction: &Auction) -> Result<Option<Answer>, NoMemory>
     ensures closed { IfOk result (λ answer. MatchOption answer (HasLongMultipliers auction.now) (IsClosedAnswer auction.now)) }
     ensures one { IfOk result (λ answer. IfSome answer (IsOneAnswer auction.now)) }
+    ensures pays { IfOk result (λ answer. IfSome answer (IsPaidWithinValue auction.now)) }
     ensures writable { IfOk result (λ answer. IfSome answer (IsAuctionAnswer auction.now)) }
     ensures shaped { IfOk result (λ _. IsAuction auction.now) }
 {

@@ -5,7 +5,7 @@ ghost use Rattle.md_answer.specs.AuctionAnswerTo.{IsAuctionAnswer};
 ghost use Rattle.md_check.specs.AuctionVerdicts.{AuctionClaimHolds, IsAuctionVerdict};
 ghost use Rattle.md_check.specs.declared.verdict.Verdict.TheVariants.{Valid};
 ghost use Rattle.md_iron.specs.declared.ironed.Ironed.TheVariants.{Undecided};
-ghost use Rattle.md_iron.specs.ClosedForms.{HasLongMultipliers, IsClosedAnswer, IsOneAnswer};
+ghost use Rattle.md_iron.specs.ClosedForms.{HasLongMultipliers, IsClosedAnswer, IsOneAnswer, IsPaidWithinValue};
 ghost use Rattle.md_iron.specs.Ironings.{WhereOptimal};
 
 use crate::answers::closed_answer;
@@ -27,6 +27,9 @@ pub fn iron(alloc: Global, file: &SettingFile) -> Result<Ironed, NoMemory>
     // multipliers are not too long.
     ensures closed { WhereAuction (λ a. IfOk result (WhereOptimal (IsClosedAnswer a))) file.now }
     ensures one { WhereAuction (λ a. IfOk result (WhereOptimal (IsOneAnswer a))) file.now }
+
+    // Each value pays from nothing to what the item is worth to it, as often as it has it.
+    ensures pays { WhereAuction (λ a. IfOk result (WhereOptimal (IsPaidWithinValue a))) file.now }
 
     // The checker finds the answer valid. Its mechanism is optimal over all mechanisms of the auction, has exactly the odds and
     // payments, and has the value.

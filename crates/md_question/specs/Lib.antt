@@ -2,3 +2,4 @@ pub mod Question
 pub mod Best
 pub mod Findings
 pub mod Shown
+pub mod Certified

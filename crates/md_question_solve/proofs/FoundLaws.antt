@@ -8,7 +8,6 @@ use Rattle.md_lp.specs.Program.{Program, row_count}
 use Rattle.md_lp.specs.declared.pivot.Pivot.{Pivot}
 use Rattle.md_lp.specs.declared.wide.Wide.{Wide}
 use Rattle.md_lp.proofs.SamePrograms.{IsSameProgram}
-use Rattle.md_mech.specs.declared.mechanism.Mechanism.{Mechanism}
 use Rattle.md_mech.specs.Accepted.{IsAccepted}
 use Rattle.md_cert.specs.Certified.{Certified}
 use Rattle.md_cert.specs.declared.certificate.Certificate.{Certificate}
@@ -29,12 +28,13 @@ use Rattle.md_simplex.proofs.RunLaws.{decided_first_wide, decided_taken, decided
 use Rattle.md_simplex.proofs.SamePaths.{first_wide-same}
 use Rattle.md_simplex.proofs.SameRuns.{run-same}
 use Rattle.md_parts.specs.Fitting.{IsFraction}
+use Rattle.md_question.specs.Certified.{IsCertifiedFinding}
 use Rattle.md_question.specs.Findings.{WhereOptimal}
 use Rattle.md_question.specs.Question.{IsProgramFor, IsQuestion, Question}
 use Rattle.md_question.specs.Shown.{IsFindingTo, IsShown, IsSo}
 use Rattle.md_question.specs.declared.finding.Finding.{Finding}
 use Rattle.md_question.specs.declared.finding.Finding.TheVariants.{Optimal, Infeasible, Unbounded}
-use Rattle.md_question.proofs.FindingLaws.{program-rows, same_program}
+use Rattle.md_question.proofs.FindingLaws.{exactly_infeasible, program-rows, same_program, shown-every, so-admissible}
 use Rattle.md_question_solve.specs.Found.{ClaimsEnd, HasValueIn, IsFoundBy, IsLeftFor, reading_in}
 use Rattle.md_question_solve.specs.Readings.{FitsReading, HasOwnPoints, TellsCertificate, WhereBest}
 use Rattle.md_question_solve.specs.declared.reading.Reading.{Reading}
@@ -146,6 +146,21 @@ module _ (q : Question) where
 
     pub shown : (p : Program) (width : ℕ) (finding : Finding) → IsProgramFor q p → IsFoundBy q p width finding → IsShown q p finding
     shown p width finding is h = shown-told p h.0.end.certificate finding is (run-certified p width h.0.end h.0.run) h.0.tells
+
+    -- what tells a certificate is a finding that its numbers show
+    pub certified-told : (p : Program) (c : Certificate) (finding : Finding) → IsProgramFor q p → Certified p c → TellsCertificate q.setting c (reading_in finding) → HasValueIn q finding
+        → IsFindingTo q finding → IsCertifiedFinding q finding
+    certified-told p c finding is certified tells value fits =
+        let claim = so-told p c finding is certified tells value in
+        record {
+          program = p;
+          is_program = is;
+          shown = λ r there. shown-every q laws p r finding is there (shown-told p c finding is certified tells);
+          so = claim;
+          admissible = so-admissible q laws finding claim;
+          none = exactly_infeasible q laws finding claim;
+          writable = fits;
+        }
 
     -- ---- one finding
 

@@ -49,8 +49,8 @@ pub fn read_program(
     }
 }
 
-// The reading that tells a certificate of the program.
-fn told(
+/// The reading that tells a certificate of the program.
+pub(crate) fn told(
     alloc: Global,
     setting: &Setting,
     lp: &Lp,

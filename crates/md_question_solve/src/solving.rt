@@ -92,8 +92,8 @@ fn found<Q: Asks>(
     }
 }
 
-// What was read, with the value of the mechanism.
-fn with_value<Q: Asks>(question: &Q, reading: Reading) -> Finding
+/// What was read, with the value of the mechanism.
+pub(crate) fn with_value<Q: Asks>(question: &Q, reading: Reading) -> Finding
     requires { WhereBest (IsAccepted (Q.asked question.now).setting) reading }
     ensures read { reading_in result ≡ reading }
     ensures value { HasValueIn (Q.asked question.now) result }

@@ -41,6 +41,7 @@ pub(crate) fn draw_at(
     requires masses { AreMasses auction.now masses.now }
     ensures drawn { IfOk result (IsAuctionDrawn auction.now interim.now masses.now profile.now d1 d2) }
     ensures refused { IfErr result (IsRefusedBy (AreReports auction.now profile.now) (IsAuctionDraw auction.now masses.now profile.now d1 d2)) }
+    ensures shaped { IsAuction auction.now }
 {
     if !are_reports(auction, profile) {
         return Err(DrawRefusal::Profile);

@@ -77,6 +77,7 @@ fn draw_auction(
     requires answers { IsAuctionAnswer auction.now answer.now }
     ensures drawn { IfOk result (IsDrawn (files.Auction auction.now) answer.now profile.now d1 d2) }
     ensures refused { IfErr result (IsRefused (files.Auction auction.now) answer.now profile.now d1 d2) }
+    ensures lottery { AreLotteries (files.Auction auction.now) answer.now }
 {
     match answer {
         Answer::AuctionOptimal {

@@ -1,6 +1,7 @@
 //! Whether reports are in their ranges.
 ghost use Rattle.std.specs.Prelude.{◌≡◌, ◌<◌, ◌↔◌, IsTrue, length};
 ghost use Rattle.md_space.specs.Profiles.{IsProfile};
+ghost use Rattle.md_setting.specs.AuctionShaped.{IsAuction};
 ghost use Rattle.md_run.specs.OfMasses.{AreReports};
 
 use md_setting::Auction;
@@ -23,7 +24,8 @@ pub(crate) fn is_profile(space: &Space, reports: &[u8]) -> bool
 
 /// Whether a list has the place of a value for each bidder of an auction.
 pub(crate) fn are_reports(auction: &Auction, reports: &[u8]) -> bool
-    ensures { IsTrue result ↔ AreReports auction.now reports.now }
+    ensures reports { IsTrue result ↔ AreReports auction.now reports.now }
+    ensures shaped { IsAuction auction.now }
 {
     if !has_length(reports, auction.bidders()) {
         return false;

@@ -59,8 +59,8 @@ pub(crate) fn solve_general(
     }
 }
 
-// The answer that says what was found.
-fn answer_of(finding: Finding) -> Answer
+/// The answer that says what was found.
+pub fn answer_of(finding: Finding) -> Answer
     ensures { result ≡ answer_of finding }
 {
     match finding {

@@ -5,4 +5,5 @@ mod auctions;
 mod general;
 mod solving;
 
+pub use general::answer_of;
 pub use solving::solve;

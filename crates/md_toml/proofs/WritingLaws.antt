@@ -360,9 +360,14 @@ document_back : (bytes : List ℕ) (ms : Members) → is_utf8 bytes ≡ true →
 document_back bytes ms u e = rw (u, e) refl
 
 -- a text that is read as the document of a file says that file
-pub text_back : (f : SettingFile) (bytes : List ℕ) (ms : Members) → IsAccepted f → is_utf8 bytes ≡ true → ms ≡ file_table f
-    → (members_depth ms ≤ 80 → parse_document bytes ≡ Some ms) → setting_of bytes ≡ Ok f
-text_back f bytes ms accepted text same parsed =
+-- the text says the document of the setting
+pub text_document : (f : SettingFile) (bytes : List ℕ) (ms : Members) → is_utf8 bytes ≡ true → ms ≡ file_table f → (members_depth ms ≤ 80 → parse_document bytes ≡ Some ms)
+    → document_of bytes ≡ Ok (file_table f)
+text_document f bytes ms text same parsed =
     let little : members_depth ms ≤ 80 = omega (arith, ap members_depth same, file-depth f) in
-    on_ok (document_of bytes) (file_table f) (λ members. header_of members >>= λ header. file_of header.kind header.version members) (document_back bytes (file_table f) text (parsed little ∙ ap Some same))
-    ∙ file_back f accepted
+    document_back bytes (file_table f) text (parsed little ∙ ap Some same)
+
+-- which says the setting
+pub text_back : (f : SettingFile) (bytes : List ℕ) → IsAccepted f → document_of bytes ≡ Ok (file_table f) → setting_of bytes ≡ Ok f
+text_back f bytes accepted document =
+    on_ok (document_of bytes) (file_table f) (λ members. header_of members >>= λ header. file_of header.kind header.version members) document ∙ file_back f accepted

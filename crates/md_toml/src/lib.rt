@@ -3,9 +3,11 @@
 
 ghost use Rattle.std.specs.Prelude.{◌≡◌, Ok, IfOk};
 ghost use Rattle.md_toml.specs.Reading.{Gives};
+ghost use Rattle.md_toml.specs.Document.{document_of};
 ghost use Rattle.md_toml.specs.File.{built, built_auction, file_of, setting_of};
 ghost use Rattle.md_setting.specs.Setting.{written};
 ghost use Rattle.md_toml.specs.AuctionText.{said_auction};
+ghost use Rattle.md_toml.specs.Writing.{file_table};
 ghost use Rattle.toml.specs.View.{table_view};
 
 mod auction;
@@ -38,9 +40,12 @@ pub fn read_setting(alloc: Global, bytes: &[u8]) -> Result<SettingFile, SettingR
     read_file(alloc, header, &members)
 }
 
-/// The bytes of a file that says this setting.
+/// The bytes of a file that says this setting, in the first version of the format that can say it.
 pub fn write_setting(alloc: Global, file: &SettingFile) -> Result<Vec<u8>, NoMemory>
     ensures reads_back { IfOk result (λ text. setting_of text.items ≡ Ok file.now) }
+
+    // Its document has the version that the setting needs, and all other keys in one way.
+    ensures document { IfOk result (λ text. document_of text.items ≡ Ok (file_table file.now)) }
 {
     let members = file_table(alloc, file)?;
     // A document without dates is refused where memory ran out, and only there.

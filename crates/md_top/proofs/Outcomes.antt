@@ -1,19 +1,11 @@
 -- What is said of a command, from what came of it.
-use Rattle.std.proofs.Common.{true, false, ◌≡◌, ◌≢◌, ◌<◌, ℕ, List, [], ◌∷◌, ◌++◌, length, Option, Some, None, Err, refl, sym, subst, ap, ◌∙◌, inl, inr, arith}
-use Rattle.std.specs.Prelude.{slice_get, nat_lt, IsSome}
-use Rattle.std.specs.Option.{ForSome}
+use Rattle.std.proofs.Common.{true, false, ◌≡◌, ◌≢◌, ◌<◌, ℕ, List, Option, Some, None, Err, refl, sym, subst, ap, ◌∙◌, inl, inr, arith}
+use Rattle.std.specs.Prelude.{nat_lt, IsSome}
 use Rattle.std.proofs.lemmas.Bool.Decides.{nat_tests}
-use Rattle.md_setting.specs.Setting.{GeneralSetting}
-use Rattle.md_mech.specs.declared.broken.Broken.{Broken}
-use Rattle.md_mech.specs.declared.mechanism.Mechanism.{Mechanism}
-use Rattle.md_mech.specs.Rows.{IsFirstBroken, conditions_of}
-use Rattle.md_mech.specs.RowName.{name_of}
 use Rattle.md_cli_driver.specs.declared.refusal.Refusal.{Refusal}
 use Rattle.md_cli_driver.specs.declared.refusal.Refusal.TheVariants as refusal
 use Rattle.md_cli_driver.specs.Refused.{HasMadeLine, IsTold, refused, status_of}
-use Rattle.md_cli_judge.specs.Auditing.{IsBrokenSaying, broken_text}
 use Rattle.md_top.specs.Reply.{IsReply, IsSaidBy, IsSaidOfOrder, work_of}
-use Rattle.md_cli_driver.specs.Saying.{Saying}
 use Rattle.md_cli_driver.specs.Works.{IsCarriedOut, IsOutcome}
 use Rattle.md_cli_driver.proofs.Works.{err_same, memory_fault}
 use Rattle.md_cli_words.specs.Words.{Order}

@@ -1,5 +1,5 @@
 -- The promises of a call, from what it says and to whom.
-use Rattle.std.proofs.Common.{true, false, ◌≡◌, ◌<◌, ◌≤◌, ℕ, suc, List, Option, Some, None, Result, Ok, Err, sym, ap, ◌∙◌, subst, inl, inr, arith}
+use Rattle.std.proofs.Common.{Bool, true, false, ◌≡◌, ◌<◌, ◌≤◌, ℕ, suc, List, Option, Some, None, Result, Ok, Err, sym, ap, ◌∙◌, subst, inl, inr, arith}
 use mathlib.Core.Logic.{⊎_elim}
 use Rattle.std.specs.Prelude.{◌⊎◌, nat_lt, MatchResult}
 use Rattle.std.specs.Option.{ForSome}
@@ -8,16 +8,18 @@ use Rattle.md_ports.specs.Faults.{Rose}
 use Rattle.md_cli_words.specs.Commands.{command_in}
 use Rattle.md_cli_words.specs.Words.{Order, command_of}
 use Rattle.md_cli_words.specs.declared.command.Command.{Command}
-use Rattle.md_cli_words.specs.declared.command.Command.TheVariants.{Audit, Rows, Check, Solve, Replay, Realise, Fair, Asym, Units, Determ, DetermCheck, Run, Report, Iron, Make, Drill}
+use Rattle.md_cli_words.specs.declared.command.Command.TheVariants.{Audit, Rows, Check, Solve, Replay, Realise, Fair, Find, FindFair, Asym, Units, Determ, DetermCheck, Run, Report, Iron, Make, Drill}
 use Rattle.md_setting.specs.declared.file.SettingFile.{SettingFile}
 use Rattle.md_setting.specs.declared.file.SettingFile.TheVariants.{General, Auction}
 use Rattle.md_cli_driver.specs.declared.refusal.Refusal.{Refusal}
 use Rattle.md_cli_driver.specs.declared.refusal.Refusal.TheVariants as refusal
-use Rattle.md_top.specs.Promises.{IsComplete, IsFaultless, IsHeadlineBy, IsHeadlineOf, IsPrinted, IsReplied}
+use Rattle.md_top.specs.Promises.{IsComplete, IsFaultless, IsHeadlineBy, IsHeadlineOf, IsPrinted, IsPrintedOf, IsReplied}
 use Rattle.md_cli_driver.specs.Refused.{refused, status_of}
-use Rattle.md_cli_driver.specs.Reading.{is_any, setting_in}
-use Rattle.md_top.specs.Reply.{IsReply, IsSaid, IsSaidBy, IsSaidOfOrder}
-use Rattle.md_cli_driver.specs.Works.{IsSaidOf}
+use Rattle.md_cli_driver.specs.Reading.{is_any, is_general, setting_in}
+use Rattle.md_top.specs.Reply.{IsReply, IsSaid, IsSaidBy, IsSaidOfOrder, IsSaidOfWork}
+use Rattle.md_cli_driver.specs.Works.{IsSaidOf, one_file}
+use Rattle.md_cli_best.specs.Finding.{IsFind, IsFindShownBy, IsFindStatus}
+use Rattle.md_cli_best.specs.Headline.{IsSolveStatus}
 use Rattle.md_cli_best.specs.Solving.{IsShownBy, IsSolve}
 use Rattle.md_cli_driver.specs.Saying.{IsDelivered, IsSent, Saying, SinkChange, is_answer, write_fault}
 
@@ -72,28 +74,46 @@ refused-above e saying status out err is delivered =
 
 -- ---- the headline
 
-module _ (width : ℕ) (saying : Saying) (status : ℕ) (out err : SinkChange) (delivered : IsDelivered saying status out err) where
-  printed : (file : SettingFile) → IsShownBy file width saying.status saying.text → status < 64
-      → ForSome out.before (λ old. ForSome out.after (λ new. IsPrinted file width status old new))
+module _ (Shows : SettingFile → ℕ → List ℕ → Type 0) (saying : Saying) (status : ℕ) (out err : SinkChange) (delivered : IsDelivered saying status out err) where
+  printed : (file : SettingFile) → Shows file saying.status saying.text → status < 64 → ForSome out.before (λ old. ForSome out.after (λ new. IsPrinted (Shows file) status old new))
   printed file h low = λ old before new after.
       ⊎_elim
       (λ answer.
       let sent = ((delivered.answer answer.0).0).whole (λ e. omega (arith, low, e)) in
-      record { text = saying.text; grew = sent.1.0 old before new after; shows = subst (λ n. IsShownBy file width n saying.text) (sym sent.0) h })
+      record { text = saying.text; grew = sent.1.0 old before new after; shows = subst (λ n. Shows file n saying.text) (sym sent.0) h })
       (λ high. absurd (⊎_elim (λ same. omega (arith, same, low, high.1)) (λ part. omega (arith, part.0, low)) (status-of saying status out err delivered)))
       (answer_or_not saying)
 
-  shown : (r : Result SettingFile Refusal) → IsSaidOf (IsSolve width) r saying
-      → MatchResult r (λ file. status < 64 → ForSome out.before (λ old. ForSome out.after (λ new. IsPrinted file width status old new))) (λ e. 64 ≤ status)
-  shown (Ok (General s)) h = printed (General s) h.headline
-  shown (Ok (Auction a)) h = printed (Auction a) h.headline
-  shown (Err e) h = refused-above e saying status out err h delivered
+  -- what is said of a setting shows it
+  shown : (Says : SettingFile → Saying → Type 0) → ((file : SettingFile) → Says file saying → Shows file saying.status saying.text)
+      → (r : Result SettingFile Refusal) → IsSaidOf Says r saying
+      → MatchResult r (λ file. status < 64 → ForSome out.before (λ old. ForSome out.after (λ new. IsPrinted (Shows file) status old new))) (λ e. 64 ≤ status)
+  shown Says shows (Ok file) h = printed file (shows file h)
+  shown Says shows (Err e) h = refused-above e saying status out err h delivered
 
   -- where a refusal was told, nothing was printed
   not_shown : (r : Result SettingFile Refusal) → 64 ≤ status
-      → MatchResult r (λ file. status < 64 → ForSome out.before (λ old. ForSome out.after (λ new. IsPrinted file width status old new))) (λ e. 64 ≤ status)
+      → MatchResult r (λ file. status < 64 → ForSome out.before (λ old. ForSome out.after (λ new. IsPrinted (Shows file) status old new))) (λ e. 64 ≤ status)
   not_shown (Ok file) high = λ low. absurd (omega (arith, high, low))
   not_shown (Err e) high = high
+
+  -- whatever is said of a command over one file
+  printed-of : (serves : SettingFile → Bool) (Says : SettingFile → Saying → Type 0) (IsOwn : ℕ → Type 0) → ((file : SettingFile) → Says file saying → Shows file saying.status saying.text)
+      → (setting second : List ℕ) (content : List ℕ → Option (List ℕ)) (before after : List ℕ → ℕ) → IsSaidOfWork (one_file serves Says IsOwn) setting second content before after saying
+      → IsPrintedOf serves Shows setting content status out
+  printed-of serves Says IsOwn shows setting second content before after (inl reply) = λ bytes told. shown Says shows (setting_in serves bytes) (reply.0.said_of bytes told)
+  printed-of serves Says IsOwn shows setting second content before after (inr (inl fault)) =
+      λ bytes told. not_shown (setting_in serves bytes) (refused-above refusal.ReadFault saying status out err fault.0 delivered)
+  printed-of serves Says IsOwn shows setting second content before after (inr (inr memory)) =
+      λ bytes told. not_shown (setting_in serves bytes) (refused-above refusal.Memory saying status out err memory.0 delivered)
+
+solve-shows : (width : ℕ) (saying : Saying) (file : SettingFile) → IsSolve width file saying → IsShownBy file width saying.status saying.text
+solve-shows width saying (General s) h = h.headline
+solve-shows width saying (Auction a) h = h.headline
+
+find-shows : (saying : Saying) (file : SettingFile) → IsFind file saying → IsFindShownBy file saying.status saying.text
+find-shows saying (General s) h = h.headline
+find-shows saying (Auction a) h = tt
 
 headline-of_command : (command : Command) (order : Order) (content : List ℕ → Option (List ℕ)) (before after : List ℕ → ℕ) (saying : Saying) (status : ℕ) (out err : SinkChange)
     → IsSaidOfOrder (record order { command = command }) content before after saying → IsDelivered saying status out err
@@ -101,12 +121,11 @@ headline-of_command : (command : Command) (order : Order) (content : List ℕ �
 headline-of_command Audit order content before after saying status out err said delivered = tt
 headline-of_command Rows order content before after saying status out err said delivered = tt
 headline-of_command Check order content before after saying status out err said delivered = tt
-headline-of_command Solve order content before after saying status out err (inl reply) delivered =
-    λ bytes told. shown order.width saying status out err delivered (setting_in is_any bytes) (reply.0.said_of bytes told)
-headline-of_command Solve order content before after saying status out err (inr (inl fault)) delivered =
-    λ bytes told. not_shown order.width saying status out err delivered (setting_in is_any bytes) (refused-above refusal.ReadFault saying status out err fault.0 delivered)
-headline-of_command Solve order content before after saying status out err (inr (inr memory)) delivered =
-    λ bytes told. not_shown order.width saying status out err delivered (setting_in is_any bytes) (refused-above refusal.Memory saying status out err memory.0 delivered)
+headline-of_command Solve order content before after saying status out err said delivered =
+    printed-of (λ file. IsShownBy file order.width) saying status out err delivered is_any (IsSolve order.width) IsSolveStatus (solve-shows order.width saying) order.setting order.second content before after said
+headline-of_command Find order content before after saying status out err said delivered =
+    printed-of IsFindShownBy saying status out err delivered is_general IsFind IsFindStatus (find-shows saying) order.setting order.second content before after said
+headline-of_command FindFair order content before after saying status out err said delivered = tt
 headline-of_command Replay order content before after saying status out err said delivered = tt
 headline-of_command Realise order content before after saying status out err said delivered = tt
 headline-of_command Fair order content before after saying status out err said delivered = tt

@@ -1,37 +1,43 @@
 -- What a call promises of its status and its texts, as consequences of what it says.
-use Rattle.std.specs.Prelude.{◌≡◌, ◌≢◌, ◌++◌, ◌<◌, ◌≤◌, ℕ, List, Option, None, Some, MatchResult}
+use Rattle.std.specs.Prelude.{◌≡◌, ◌≢◌, ◌++◌, ◌<◌, ◌≤◌, ℕ, Bool, List, Option, None, Some, MatchResult}
 use Rattle.std.specs.Option.{ForSome}
 use Rattle.md_ports.specs.Faults.{Rose}
 use Rattle.md_cli_words.specs.declared.command.Command.{Command}
-use Rattle.md_cli_words.specs.declared.command.Command.TheVariants.{Audit, Rows, Check, Solve, Replay, Realise, Fair, Asym, Units, Determ, DetermCheck, Run, Report, Iron, Make, Drill}
+use Rattle.md_cli_words.specs.declared.command.Command.TheVariants.{Audit, Rows, Check, Solve, Replay, Realise, Fair, Find, FindFair, Asym, Units, Determ, DetermCheck, Run, Report, Iron, Make, Drill}
 use Rattle.md_cli_words.specs.Words.{Order}
 use Rattle.md_setting.specs.declared.file.SettingFile.{SettingFile}
-use Rattle.md_cli_driver.specs.Reading.{is_any, setting_in}
+use Rattle.md_cli_driver.specs.Reading.{is_any, is_general, setting_in}
 use Rattle.md_top.specs.Reply.{HasFaulted, IsReply}
 use Rattle.md_cli_driver.specs.Saying.{IsDelivered, SinkChange}
+use Rattle.md_cli_best.specs.Finding.{IsFindShownBy}
 use Rattle.md_cli_best.specs.Solving.{IsShownBy}
 
 -- ---- the headline
 
--- the text that was printed, and what it shows
-pub record IsPrinted (file : SettingFile) (width status : ℕ) (old new : List ℕ) : Type 0 where
+-- the text that was printed, and that it shows this by its status
+pub record IsPrinted (Shows : ℕ → List ℕ → Type 0) (status : ℕ) (old new : List ℕ) : Type 0 where
   pub text : List ℕ
   pub grew : new ≡ old ++ text
-  pub shows : IsShownBy file width status text
+  pub shows : Shows status text
 
--- Where a setting is to be solved: whatever its file holds, an answer is printed only of a setting, and shows what the
--- headline says.
-abbrev pub IsHeadlineBy : Command → List ℕ → ℕ → (List ℕ → Option (List ℕ)) → ℕ → SinkChange → Type 0
-IsHeadlineBy Solve setting width content status out =
-    ForSome (content setting) (λ bytes. MatchResult (setting_in is_any bytes)
-    (λ file. status < 64 → ForSome out.before (λ old. ForSome out.after (λ new. IsPrinted file width status old new)))
+-- whatever a file holds, an answer is printed only of a setting that is served, and shows this of it
+abbrev pub IsPrintedOf : (SettingFile → Bool) → (SettingFile → ℕ → List ℕ → Type 0) → List ℕ → (List ℕ → Option (List ℕ)) → ℕ → SinkChange → Type 0
+IsPrintedOf serves Shows setting content status out =
+    ForSome (content setting) (λ bytes. MatchResult (setting_in serves bytes)
+    (λ file. status < 64 → ForSome out.before (λ old. ForSome out.after (λ new. IsPrinted (Shows file) status old new)))
     (λ e. 64 ≤ status))
+
+-- where the best mechanism of a setting is to be found, it shows what the headline says
+abbrev pub IsHeadlineBy : Command → List ℕ → ℕ → (List ℕ → Option (List ℕ)) → ℕ → SinkChange → Type 0
+IsHeadlineBy Solve setting width content status out = IsPrintedOf is_any (λ file. IsShownBy file width) setting content status out
+IsHeadlineBy Find setting width content status out = IsPrintedOf is_general IsFindShownBy setting content status out
 IsHeadlineBy Audit setting width content status out = Unit {0}
 IsHeadlineBy Rows setting width content status out = Unit {0}
 IsHeadlineBy Check setting width content status out = Unit {0}
 IsHeadlineBy Replay setting width content status out = Unit {0}
 IsHeadlineBy Realise setting width content status out = Unit {0}
 IsHeadlineBy Fair setting width content status out = Unit {0}
+IsHeadlineBy FindFair setting width content status out = Unit {0}
 IsHeadlineBy Asym setting width content status out = Unit {0}
 IsHeadlineBy Units setting width content status out = Unit {0}
 IsHeadlineBy Determ setting width content status out = Unit {0}

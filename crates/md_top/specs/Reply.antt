@@ -2,7 +2,7 @@
 use Rattle.std.specs.Prelude.{◌≡◌, ◌⊎◌, ℕ, ℤ, unsigned_abs, Bool, true, false, List, Option, None, Some, IsSome}
 use Rattle.md_cli_words.specs.Commands.{command_in}
 use Rattle.md_cli_words.specs.declared.command.Command.{Command}
-use Rattle.md_cli_words.specs.declared.command.Command.TheVariants.{Audit, Rows, Check, Solve, Replay, Realise, Fair, Asym, Units, Determ, DetermCheck, Run, Report, Iron, Make, Drill}
+use Rattle.md_cli_words.specs.declared.command.Command.TheVariants.{Audit, Rows, Check, Solve, Replay, Realise, Fair, Find, FindFair, Asym, Units, Determ, DetermCheck, Run, Report, Iron, Make, Drill}
 use Rattle.md_cli_words.specs.Words.{Order, command_of}
 use Rattle.md_mech.specs.declared.mechanism.Mechanism.{Mechanism}
 use Rattle.md_border.specs.declared.interim.Interim.{Interim}
@@ -21,6 +21,7 @@ use Rattle.md_cli_best.specs.Solving.{IsSolve}
 use Rattle.md_cli_tell.specs.Replaying.{pivots_in, IsReplay, IsReplayStatus}
 use Rattle.md_cli_tell.specs.Realising.{odds_in, IsRealise, IsRealiseStatus}
 use Rattle.md_cli_best.specs.Fair.{IsFair}
+use Rattle.md_cli_best.specs.Finding.{IsFind, IsFindFair, IsFindStatus}
 use Rattle.md_cli_tell.specs.Drawing.{drawable_in, IsRun, IsRunStatus}
 use Rattle.md_cli_tell.specs.Reporting.{IsReporting, IsReportStatus}
 use Rattle.md_cli_best.specs.Ironing.{IsIron, IsIronStatus}
@@ -49,6 +50,8 @@ work_by Solve order = one_file is_any (IsSolve order.width) IsSolveStatus
 work_by Replay order = two_files Pivots is_any pivots_in (IsReplay order.width) IsReplayStatus
 work_by Realise order = two_files Interim is_auction odds_in IsRealise IsRealiseStatus
 work_by Fair order = one_file is_general (IsFair order.width) IsSolveStatus
+work_by Find order = one_file is_general IsFind IsFindStatus
+work_by FindFair order = one_file is_general IsFindFair IsFindStatus
 work_by Asym order = one_file is_general (IsAsym order.width) IsAsymStatus
 work_by Units order = units_work order.number order.width
 work_by Determ order = one_file is_general (IsDeterm order.width) IsDetermStatus
@@ -74,12 +77,16 @@ HasFaulted order content before after = HasFaultedIn (work_of order) order.setti
 abbrev pub IsQuiet : (List ℕ → ℕ) → (List ℕ → ℕ) → Type 0
 IsQuiet before after = (name : List ℕ) → after name ≡ before name
 
--- What is said of a command: its reply, unless a read of one of its files failed or memory ran out.
-abbrev pub IsSaidOfOrder : Order → (List ℕ → Option (List ℕ)) → (List ℕ → ℕ) → (List ℕ → ℕ) → Saying → Type 0
-IsSaidOfOrder order content before after saying =
-    (IsReply order content saying × IsQuiet before after)
-    ⊎ (((saying ≡ refused refusal.ReadFault) × HasFaulted order content before after)
+-- What is said of the work of a command on files of these names: its reply, unless a read of one of them failed or memory ran out.
+abbrev pub IsSaidOfWork : Work → List ℕ → List ℕ → (List ℕ → Option (List ℕ)) → (List ℕ → ℕ) → (List ℕ → ℕ) → Saying → Type 0
+IsSaidOfWork work setting second content before after saying =
+    (IsReplyTo work setting second content saying × IsQuiet before after)
+    ⊎ (((saying ≡ refused refusal.ReadFault) × HasFaultedIn work setting second content before after)
     ⊎ ((saying ≡ refused refusal.Memory) × IsQuiet before after))
+
+-- what is said of a command
+abbrev pub IsSaidOfOrder : Order → (List ℕ → Option (List ℕ)) → (List ℕ → ℕ) → (List ℕ → ℕ) → Saying → Type 0
+IsSaidOfOrder order content before after saying = IsSaidOfWork (work_of order) order.setting order.second content before after saying
 
 -- What is said of words that are no command: that. Memory may run out before it is known, but only where the first
 -- word names a command.

@@ -4,7 +4,9 @@ ghost use Rattle.md_cli_words.specs.Orders.{asked};
 ghost use Rattle.md_top.specs.Reply.{units_work, work_of};
 ghost use Rattle.md_cli_driver.specs.Works.{IsCarriedOut};
 
-use md_cli_best::{Asym, Determ, Drill, Fair, Iron, Make, Solve, UnitNumber, Units};
+use md_cli_best::{
+    Asym, Determ, Drill, Fair, Find, FindFair, Iron, Make, Solve, UnitNumber, Units,
+};
 use md_cli_driver::{Answered, NumberRefused, Refusal, of_none, of_one, of_two};
 use md_cli_judge::{Audit, Check, DetermCheck};
 use md_cli_tell::{Draw, Realise, Replay, Rows, Tell};
@@ -39,6 +41,8 @@ pub(crate) fn run<F: Shelf>(
         Command::Replay => of_two(alloc, &Replay { width }, setting, second, shelf),
         Command::Realise => of_two(alloc, &Realise, setting, second, shelf),
         Command::Fair => of_one(alloc, &Fair { width }, setting, shelf),
+        Command::Find => of_one(alloc, &Find, setting, shelf),
+        Command::FindFair => of_one(alloc, &FindFair, setting, shelf),
         Command::Asym => of_one(alloc, &Asym { width }, setting, shelf),
         Command::Units => sell_units(alloc, number, width, setting, shelf),
         Command::Determ => of_one(alloc, &Determ { width }, setting, shelf),

@@ -18,6 +18,7 @@ returns-in_ok-answer_text-in-Ok-clause-fair c =
       wide = h.wide;
       taken = h.taken;
       none = h.none;
+      no_bound = h.no_bound;
     } in
     of_answer s c.args.width record { status = c.status.result; text = c.in_ok-answer_text-in-Ok.field-0.items } c.in-Ok.answer shown c.status.ensures.value c.in_ok-answer_text-in-Ok.ensures
 

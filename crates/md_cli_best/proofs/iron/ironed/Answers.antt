@@ -15,6 +15,6 @@ returns-in_ok-write_answer-in-Optimal-clause-iron c =
           let written = rw kind.1 at c.in_ok-write_answer-in-Optimal.ensures in
           rw kind.1 (inl (record {
             status = refl;
-            shows = prints-closed a text answer h.closed h.one h.writable h.valid h.optimal written.auction_reads_back;
+            shows = prints-closed a text answer h.closed h.one h.pays h.writable h.valid h.optimal written.auction_reads_back;
           }))
     ]

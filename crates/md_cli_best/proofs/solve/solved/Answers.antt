@@ -45,6 +45,7 @@ returns-clause-solving c =
             certified = h.auction_certified;
             settled = h.auction_settled;
             wide = h.auction_wide;
+            fits = h.auction_writable;
           } in
           rw kind.1 (record {
             answer = answer;

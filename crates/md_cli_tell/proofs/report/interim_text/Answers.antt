@@ -9,6 +9,7 @@ returns c =
       whole = told.told;
       admissible = told.admissible;
       mechanisms = told.mechanisms;
+      expected = told.expected;
       tables = tables-judged c.args.auction.now c.args.interim.now c.in_ok-report.report told.shaped told.mechanisms;
       told = c.in_ok-text.ensures;
     }

@@ -1,5 +1,5 @@
 use Rattle.md_iron_pools.specs.Pooling.{pools_of}
-use Rattle.md_iron.proofs.AnswerLaws.{closed-writable, pools-border}
+use Rattle.md_iron.proofs.AnswerLaws.{closed-writable, pools-border, pools-pay}
 use Rattle.md_iron.proofs.OneForm.{one-form}
 use Rattle.md_iron.proofs.ShareLaws.{where-some}
 use Rattle.md_iron.proofs.answers.closed_answer.Goals as goal
@@ -29,3 +29,7 @@ returns-clause-closed c = record {
 pub returns-clause-one : goal.returns-clause-one
 returns-clause-one c =
     one-form c.args.auction.now c.auction_worth.result c.in_ok-interim.interim c.in_ok-masses.masses c.in_ok-cuts.cuts c.in-Some.bound c.kinds-shaped.ensures.shaped (returns-clause-closed c)
+
+pub returns-clause-pays : goal.returns-clause-pays
+returns-clause-pays c =
+    pools-pay c.args.auction.now (pools_of c.in_ok-pools.pools) c.in_ok-interim.interim c.kinds-shaped.ensures.shaped c.in_ok-pools.ensures.pooled.pooled c.in_ok-interim.ensures.value

@@ -1,6 +1,6 @@
 use Rattle.std.proofs.Common.{sym, subst}
 use Rattle.md_lp.specs.Program.{row_count}
-use Rattle.md_question_solve.specs.Readings.{FitsReading, HasOwnPoints, TellsRun}
+use Rattle.md_question_solve.specs.Readings.{FitsReading, TellsRun}
 use Rattle.md_question_solve.proofs.FoundLaws.{best-accepted, finding-fits, own-points}
 use Rattle.md_question_solve.proofs.solving.found.Goals as goal
 

@@ -7,15 +7,15 @@ use Rattle.md_expost.proofs.Winners.{value-below}
 use Rattle.md_run.proofs.ReportLaws.{reports-from_places, reports-length}
 use Rattle.md_run.proofs.reports.are_reports.Goals as goal
 
-pub returns-then-not-has_length : goal.returns-then-not-has_length
-returns-then-not-has_length c =
+pub returns-then-not-has_length-clause-reports : goal.returns-then-not-has_length-clause-reports
+returns-then-not-has_length-clause-reports c =
     let a = c.args.auction.now in (
       λ h. not_both h,
       λ p. not_both (c.if-not-has_length.ensures.1 (reports-length a.bidders (value_count a) c.args.reports.now p ∙ sym c.bidders.ensures.count)),
     )
 
-pub returns-then-not-is_below : goal.returns-then-not-is_below
-returns-then-not-is_below c =
+pub returns-then-not-is_below-clause-reports : goal.returns-then-not-is_below-clause-reports
+returns-then-not-is_below-clause-reports c =
     let a = c.args.auction.now in
     let t = c.args.reports.now in
     let long : length t ≡ a.bidders = c.if-not-has_length.ensures.0 refl ∙ c.bidders.ensures.count in (
@@ -24,8 +24,8 @@ returns-then-not-is_below c =
           (value-below a.bidders (value_count a) t c.loop-report.report-index p (omega (arith, c.loop-report-test.true, long))))),
     )
 
-pub returns : goal.returns
-returns c =
+pub returns-clause-reports : goal.returns-clause-reports
+returns-clause-reports c =
     let a = c.args.auction.now in
     let t = c.args.reports.now in
     let end : c.loop-report.report-index ≡ length t = omega (arith, c.loop-report-test.false, c.loop-report.auto.report-index-end) in (

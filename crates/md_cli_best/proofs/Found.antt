@@ -1,0 +1,89 @@
+-- What is said of what was found, by its kind.
+use Rattle.std.proofs.Common.{◌≡◌, ◌↔◌, ℕ, ℤ, List, Ok, inl, inr, arith}
+use Rattle.md_num.specs.declared.frac.Frac.{Frac}
+use Rattle.md_setting.specs.Setting.{GeneralSetting}
+use Rattle.md_mech.specs.declared.mechanism.Mechanism.{Mechanism}
+use Rattle.md_mech.specs.Optimal.{IsOptimal}
+use Rattle.md_mech.specs.Value.{IsValueOf}
+use Rattle.md_cert.specs.declared.bound.Bound.{Bound}
+use Rattle.md_question.specs.Best.{best_question}
+use Rattle.md_question.specs.Certified.{IsCertifiedFinding}
+use Rattle.md_question.specs.Question.{Question}
+use Rattle.md_question.specs.declared.finding.Finding.{Finding}
+use Rattle.md_question.specs.declared.finding.Finding.TheVariants.{Optimal, Infeasible, Unbounded}
+use Rattle.md_answer.specs.Answers.{answer_of}
+use Rattle.md_answer.specs.declared.answer.Answer.TheVariants as answers
+use Rattle.md_check.specs.Verdicts.{IsVerdict}
+use Rattle.md_check.specs.declared.verdict.Verdict.TheVariants.{Valid}
+use Rattle.md_solve.specs.Answered.{ClaimsUnbounded}
+use Rattle.md_solve.specs.Bounds.{HasNoBound}
+use Rattle.md_solve.specs.Solved as solved
+use Rattle.md_cli_driver.specs.Saying.{Saying}
+use Rattle.md_cli_best.specs.Fair.{status_of_finding}
+use Rattle.md_cli_best.specs.Finding.{IsFindHeadline, IsFindingBy, IsFindStatus}
+use Rattle.md_cli_best.specs.Headline.{PrintsInfeasible, PrintsOptimal, PrintsUnbounded}
+use Rattle.md_cli_best.proofs.Fairest.{none-status}
+
+-- ---- by any question
+
+module _ (q : Question) (text_of : Finding → List ℕ) (saying : Saying) where
+  pub said-found : (finding : Finding) → IsCertifiedFinding q finding → saying.status ≡ status_of_finding finding → saying.text ≡ text_of finding → IsFindingBy q text_of saying
+  said-found finding h is text = record {
+    told = inl (record { finding = finding; certified = h; status = is; text = text });
+    none = λ _. none-status q.setting saying.status finding is h.none;
+  }
+
+pub find-status : (status : ℕ) (finding : Finding) → status ≡ status_of_finding finding → IsFindStatus status
+find-status status (Optimal value m bound) is = inl is
+find-status status (Infeasible face) is = inr (inl is)
+find-status status (Unbounded m ray) is = inr (inr (inl is))
+
+-- ---- by the setting's own
+
+module _ (s : GeneralSetting) where
+  valid : (finding : Finding) → IsCertifiedFinding (best_question s) finding → IsVerdict s (solved.answer_of finding) Valid
+  valid (Optimal value m bound) h =
+      let best : IsOptimal s m = h.so.0 in
+      let is_value : IsValueOf s m value = h.so.1 in
+      (record { admissible = best.admissible; value = is_value.is_value }, record { program = h.program; is_program = h.is_program; holds = h.shown })
+  valid (Infeasible face) h = record { program = h.program; is_program = h.is_program; holds = h.shown }
+  valid (Unbounded m ray) h = (h.admissible, record { program = h.program; is_program = h.is_program; holds = h.shown })
+
+  module _ (text : List ℕ) where
+    prints-optimal : (value : Frac) (m : Mechanism) (bound : Bound) → IsCertifiedFinding (best_question s) (Optimal value m bound)
+        → answer_of s text ≡ Ok (answers.Optimal value m bound) → PrintsOptimal s text
+    prints-optimal value m bound h reads =
+        record { value = value; mechanism = m; bound = bound; read_back = reads; optimal = h.so.0; is_value = h.so.1; valid = valid (Optimal value m bound) h }
+
+    prints-infeasible : (face : List ℤ) → IsCertifiedFinding (best_question s) (Infeasible face) → answer_of s text ≡ Ok (answers.Infeasible face) → PrintsInfeasible s text
+    prints-infeasible face h reads = record { face = face; read_back = reads; infeasible = h.so; valid = valid (Infeasible face) h }
+
+    prints-unbounded : (m : Mechanism) (ray : List ℤ) → IsCertifiedFinding (best_question s) (Unbounded m ray) → answer_of s text ≡ Ok (answers.Unbounded m ray) → PrintsUnbounded s text
+    prints-unbounded m ray h reads = record { mechanism = m; ray = ray; read_back = reads; grows = h.so; valid = valid (Unbounded m ray) h }
+
+    pub headline-found : (status : ℕ) (finding : Finding) → IsCertifiedFinding (best_question s) finding → ClaimsUnbounded (solved.answer_of finding) ↔ HasNoBound s
+        → status ≡ status_of_finding finding → answer_of s text ≡ Ok (solved.answer_of finding) → IsFindHeadline s status text
+    headline-found status (Optimal value m bound) h unbounded is reads = record {
+      optimal = λ _. prints-optimal value m bound h reads;
+      infeasible = λ other. absurd (omega (arith, is, other));
+      unbounded = λ other. absurd (omega (arith, is, other));
+      one_of = find-status status (Optimal value m bound) is;
+      none = λ _. none-status s status (Optimal value m bound) is h.none;
+      no_bound = λ _. (λ other. absurd (omega (arith, is, other)), λ none. absurd (unbounded.1 none));
+    }
+    headline-found status (Infeasible face) h unbounded is reads = record {
+      optimal = λ other. absurd (omega (arith, is, other));
+      infeasible = λ _. prints-infeasible face h reads;
+      unbounded = λ other. absurd (omega (arith, is, other));
+      one_of = find-status status (Infeasible face) is;
+      none = λ _. none-status s status (Infeasible face) is h.none;
+      no_bound = λ _. (λ other. absurd (omega (arith, is, other)), λ none. absurd (unbounded.1 none));
+    }
+    headline-found status (Unbounded m ray) h unbounded is reads = record {
+      optimal = λ other. absurd (omega (arith, is, other));
+      infeasible = λ other. absurd (omega (arith, is, other));
+      unbounded = λ _. prints-unbounded m ray h reads;
+      one_of = find-status status (Unbounded m ray) is;
+      none = λ _. none-status s status (Unbounded m ray) is h.none;
+      no_bound = λ _. (λ _. unbounded.0 tt, λ _. is);
+    }

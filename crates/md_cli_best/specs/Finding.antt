@@ -1,0 +1,72 @@
+-- What `find` and `findfair` say of a general setting: what is found off the two stated paths too, or that nothing was.
+use Rattle.std.specs.Prelude.{◌≡◌, ◌≢◌, ◌⊎◌, ◌↔◌, ℕ, List}
+use Rattle.md_setting.specs.Setting.{GeneralSetting}
+use Rattle.md_setting.specs.ByKind.{WhereGeneral}
+use Rattle.md_setting.specs.declared.file.SettingFile.{SettingFile}
+use Rattle.md_mech.specs.Optimal.{IsInfeasible}
+use Rattle.md_question.specs.Best.{best_question}
+use Rattle.md_question.specs.Certified.{IsCertifiedFinding}
+use Rattle.md_question.specs.Question.{Question}
+use Rattle.md_question.specs.declared.finding.Finding.{Finding}
+use Rattle.md_answer.specs.Rows.{text_of_answer}
+use Rattle.md_solve.specs.Bounds.{HasNoBound}
+use Rattle.md_solve.specs.Solved.{answer_of}
+use Rattle.md_fair.specs.FairQuestion.{fair_question}
+use Rattle.md_cli_driver.specs.Saying.{Saying}
+use Rattle.md_cli_judge.specs.Verdicts.{undecided_text}
+use Rattle.md_cli_best.specs.Fair.{status_of_finding, text_of_fair}
+use Rattle.md_cli_best.specs.Headline.{PrintsInfeasible, PrintsOptimal, PrintsUnbounded}
+
+-- ---- a question
+
+-- What was found, in its records and with the status of its kind: what it claims is so, and its numbers show it. Which finding it
+-- is of several is not said.
+pub record IsFound (q : Question) (text_of : Finding → List ℕ) (saying : Saying) : Type 0 where
+  pub finding : Finding
+  pub certified : IsCertifiedFinding q finding
+  pub status : saying.status ≡ status_of_finding finding
+  pub text : saying.text ≡ text_of finding
+
+-- that nothing was, of which nothing follows
+pub record IsNotFound (saying : Saying) : Type 0 where
+  pub status : saying.status ≡ 22
+  pub text : saying.text ≡ undecided_text
+
+-- One of these. Where it is not 22, the status tells exactly where no mechanism is admissible.
+pub record IsFindingBy (q : Question) (text_of : Finding → List ℕ) (saying : Saying) : Type 0 where
+  pub told : IsFound q text_of saying ⊎ IsNotFound saying
+  pub none : saying.status ≢ 22 → (saying.status ≡ 10) ↔ IsInfeasible q.setting
+
+-- the statuses of what is answered
+abbrev pub IsFindStatus : ℕ → Type 0
+IsFindStatus status = (status ≡ 0) ⊎ ((status ≡ 10) ⊎ ((status ≡ 11) ⊎ (status ≡ 22)))
+
+-- ---- `find`
+
+-- in the words of mechanisms: what is printed with a status, and which status it is
+pub record IsFindHeadline (s : GeneralSetting) (status : ℕ) (text : List ℕ) : Type 0 where
+  pub optimal : status ≡ 0 → PrintsOptimal s text
+  pub infeasible : status ≡ 10 → PrintsInfeasible s text
+  pub unbounded : status ≡ 11 → PrintsUnbounded s text
+  pub one_of : IsFindStatus status
+  -- where it is not 22, it tells exactly where no mechanism is admissible, and where the values of the admissible ones have no bound
+  pub none : status ≢ 22 → (status ≡ 10) ↔ IsInfeasible s
+  pub no_bound : status ≢ 22 → (status ≡ 11) ↔ HasNoBound s
+
+-- the best mechanism of a setting, in the records of an answer of `solve`
+pub record IsFinding (s : GeneralSetting) (saying : Saying) : Type 0 where
+  pub told : IsFindingBy (best_question s) (λ finding. text_of_answer s (answer_of finding)) saying
+  pub headline : IsFindHeadline s saying.status saying.text
+
+abbrev pub IsFind : SettingFile → Saying → Type 0
+IsFind file saying = WhereGeneral (λ s. IsFinding s saying) file
+
+-- what is shown by a text that was printed with a status
+abbrev pub IsFindShownBy : SettingFile → ℕ → List ℕ → Type 0
+IsFindShownBy file status text = WhereGeneral (λ s. IsFindHeadline s status text) file
+
+-- ---- `findfair`
+
+-- the fairest mechanism of a setting, in the records of `fair`
+abbrev pub IsFindFair : SettingFile → Saying → Type 0
+IsFindFair file saying = WhereGeneral (λ s. IsFindingBy (fair_question s) (text_of_fair s) saying) file

@@ -1,0 +1,114 @@
+//! The commands `find` and `findfair`: the best or the fairest mechanism of a setting, where it is found off the stated paths too.
+ghost use Rattle.std.specs.Prelude.{◌≡◌, IfOk};
+ghost use Rattle.md_setting.specs.ByKind.{IsGeneral, WhereGeneral};
+ghost use Rattle.md_question.specs.Best.{best_question};
+ghost use Rattle.md_question.specs.Certified.{IsCertifiedFinding};
+ghost use Rattle.md_cli_best.specs.Finding.{IsFind, IsFindFair, IsFindStatus, IsNotFound};
+ghost use Rattle.md_cli_driver.specs.Reading.{is_general};
+ghost use Rattle.md_cli_driver.specs.Saying.{said};
+
+use crate::fair::status;
+use crate::fair_text::answer_text;
+use md_answer::write_answer;
+use md_cli_driver::{Answered, OneFile, Refusal, UNDECIDED, general, is_general};
+use md_fair::find_fair;
+use md_num::NoMemory;
+use md_question::Finding;
+use md_question_solve::find_question;
+use md_setting::SettingFile;
+use md_solve::answer_of;
+use std::alloc::Global;
+
+/// `find SETTING`
+#[derive(Drop)]
+pub struct Find;
+
+impl OneFile for Find {
+    ghost is_served = { is_general };
+
+    ghost says = { λ _. IsFind };
+
+    ghost own = { IsFindStatus };
+
+    fn serves(&self, file: &SettingFile) -> bool {
+        is_general(file)
+    }
+
+    fn answer(&self, alloc: Global, file: &SettingFile) -> Result<Answered, Refusal> {
+        Ok(best(alloc, file)?)
+    }
+}
+
+/// `findfair SETTING`
+#[derive(Drop)]
+pub struct FindFair;
+
+impl OneFile for FindFair {
+    ghost is_served = { is_general };
+
+    ghost says = { λ _. IsFindFair };
+
+    ghost own = { IsFindStatus };
+
+    fn serves(&self, file: &SettingFile) -> bool {
+        is_general(file)
+    }
+
+    fn answer(&self, alloc: Global, file: &SettingFile) -> Result<Answered, Refusal> {
+        Ok(fairest(alloc, file)?)
+    }
+}
+
+// The best mechanism of a setting that is found, or that none was.
+fn best(alloc: Global, file: &SettingFile) -> Result<Answered, NoMemory>
+    requires { IsGeneral file.now }
+    ensures find { IfOk result (λ answered. IsFind file.now (said answered)) }
+    ensures status { IfOk result (λ answered. IsFindStatus answered.status) }
+{
+    match find_question(alloc, general(file))? {
+        Some(finding) => best_found(alloc, file, finding),
+        None => not_found(alloc),
+    }
+}
+
+// The best mechanism that was found of a setting, as `solve` tells it.
+fn best_found(alloc: Global, file: &SettingFile, finding: Finding) -> Result<Answered, NoMemory>
+    requires general { IsGeneral file.now }
+    requires certified { WhereGeneral (λ s. IsCertifiedFinding (best_question s) finding) file.now }
+    ensures find { IfOk result (λ answered. IsFind file.now (said answered)) }
+    ensures status { IfOk result (λ answered. IsFindStatus answered.status) }
+{
+    let _shaped = general(file).space();
+    let status = status(&finding);
+    let answer = answer_of(finding);
+    Ok(Answered {
+        status,
+        text: write_answer(alloc, file, &answer)?,
+    })
+}
+
+// The fairest mechanism of a setting that is found, or that none was.
+fn fairest(alloc: Global, file: &SettingFile) -> Result<Answered, NoMemory>
+    requires { IsGeneral file.now }
+    ensures find { IfOk result (λ answered. IsFindFair file.now (said answered)) }
+    ensures status { IfOk result (λ answered. IsFindStatus answered.status) }
+{
+    let setting = general(file);
+    match find_fair(alloc, setting)? {
+        Some(finding) => Ok(Answered {
+            status: status(&finding),
+            text: answer_text(alloc, setting, &finding)?,
+        }),
+        None => not_found(alloc),
+    }
+}
+
+// That nothing was found.
+fn not_found(alloc: Global) -> Result<Answered, NoMemory>
+    ensures { IfOk result (λ answered. IsNotFound (said answered)) }
+{
+    Ok(Answered {
+        status: UNDECIDED,
+        text: b"undecided\n".to_vec(alloc)?,
+    })
+}

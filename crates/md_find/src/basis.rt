@@ -1,0 +1,187 @@
+//! Which columns are basic, and where the others stand.
+ghost use Rattle.std.specs.Prelude.{◌<◌};
+ghost use Rattle.md_lp.specs.Program.{row_count};
+
+use md_lp::{Lp, RowKind};
+use md_num::NoMemory;
+use std::alloc::Global;
+
+/// The columns at the kept places and then those of the basis, one for each row. A column is one of the program, the slack of a row, or a start column.
+#[derive(Drop)]
+pub struct Basis {
+    columns: usize,
+    kept: usize,
+    order: Vec<usize>,
+    seat: Vec<usize>,
+    units: Vec<usize>,
+}
+
+/// Whether the first basis has a start column for a row: where the row has no slack, or is multiplied by -1.
+pub fn needs_start(lp: &Lp, row: u32) -> bool
+    requires { row < row_count lp.now }
+{
+    lp.kind(row) == RowKind::Exact || lp.right(row) < 0
+}
+
+// The columns of the first basis, while they are numbered row by row.
+#[derive(Drop)]
+struct Numbering {
+    kept: Vec<usize>,
+    units: Vec<usize>,
+    slack: usize,
+    start: usize,
+}
+
+impl Numbering {
+    // Gives a row its columns. A slack that is not basic is kept.
+    fn add_row(&mut self, lp: &Lp, row: u32) -> Result<(), NoMemory>
+        requires { row < row_count lp.now }
+    {
+        let needs_start = needs_start(lp, row);
+        if needs_start {
+            self.units.push(self.start)?;
+            self.start = self.start.saturating_add(1);
+        } else {
+            self.units.push(self.slack)?;
+        }
+        if lp.kind(row) == RowKind::AtMost {
+            if needs_start {
+                self.kept.push(self.slack)?;
+            }
+            self.slack = self.slack.saturating_add(1);
+        }
+        Ok(())
+    }
+}
+
+// How many program and slack columns there are.
+fn column_count(lp: &Lp) -> usize {
+    let mut columns = lp.columns() as usize;
+    for row in 0..lp.rows() {
+        if lp.kind(row) == RowKind::AtMost {
+            columns = columns.saturating_add(1);
+        }
+    }
+    columns
+}
+
+// The numbers below a count.
+fn numbers_below(alloc: Global, count: usize) -> Result<Vec<usize>, NoMemory> {
+    let mut numbers = Vec::new(alloc);
+    for number in 0..count {
+        numbers.push(number)?;
+    }
+    Ok(numbers)
+}
+
+// The columns of the first basis.
+fn number_columns(alloc: Global, lp: &Lp) -> Result<Numbering, NoMemory> {
+    let mut numbering = Numbering {
+        kept: numbers_below(alloc, lp.columns() as usize)?,
+        units: Vec::new(alloc),
+        slack: lp.columns() as usize,
+        start: column_count(lp),
+    };
+    for row in 0..lp.rows() {
+        numbering.add_row(lp, row)?;
+    }
+    Ok(numbering)
+}
+
+// One list behind another.
+fn joined(alloc: Global, first: &[usize], second: &[usize]) -> Result<Vec<usize>, NoMemory> {
+    let mut numbers = Vec::from_slice(alloc, first)?;
+    for number in second {
+        numbers.push(*number)?;
+    }
+    Ok(numbers)
+}
+
+// At which place each column stands.
+fn seats(alloc: Global, order: &[usize]) -> Result<Vec<usize>, NoMemory> {
+    let mut seat = vec![in alloc; 0; order.len()]?;
+    for place in 0..order.len() {
+        let column = order[place];
+        if column < seat.len() {
+            seat[column] = place;
+        }
+    }
+    Ok(seat)
+}
+
+impl Basis {
+    /// The first basis: of each row the slack, or a start column where it needs one.
+    pub fn new(alloc: Global, lp: &Lp) -> Result<Basis, NoMemory> {
+        let numbering = number_columns(alloc, lp)?;
+        let order = joined(alloc, numbering.kept.as_slice(), numbering.units.as_slice())?;
+        Ok(Basis {
+            columns: column_count(lp),
+            kept: numbering.kept.len(),
+            seat: seats(alloc, order.as_slice())?,
+            order,
+            units: numbering.units,
+        })
+    }
+
+    /// How many program and slack columns there are.
+    pub fn columns(&self) -> usize {
+        self.columns
+    }
+
+    /// How many columns are not basic.
+    pub fn kept(&self) -> usize {
+        self.kept
+    }
+
+    /// Where a column stands: below the number of kept places at one of them, and else in the basis.
+    pub fn seat(&self, column: usize) -> usize {
+        if column < self.seat.len() {
+            self.seat[column]
+        } else {
+            0
+        }
+    }
+
+    /// The kept place of a column that is not basic.
+    pub fn place(&self, column: usize) -> Option<usize> {
+        let seat = self.seat(column);
+        if seat < self.kept { Some(seat) } else { None }
+    }
+
+    /// The row of a column that is basic.
+    pub fn row(&self, column: usize) -> Option<usize> {
+        self.seat(column).checked_sub(self.kept)
+    }
+
+    /// The column that a row had in the first basis.
+    pub fn unit(&self, row: usize) -> usize {
+        if row < self.units.len() {
+            self.units[row]
+        } else {
+            0
+        }
+    }
+
+    /// Whether a column is a start column.
+    pub fn is_start(&self, column: usize) -> bool {
+        column >= self.columns
+    }
+
+    /// Lets the column at a place and the one that is basic at a row change places. It answers whether there are such.
+    pub fn exchange(&mut self, row: usize, place: usize) -> bool {
+        let other = self.kept.saturating_add(row);
+        if place >= self.order.len() || other >= self.order.len() {
+            return false;
+        }
+        let entering = self.order[place];
+        let leaving = self.order[other];
+        if entering >= self.seat.len() || leaving >= self.seat.len() {
+            return false;
+        }
+        self.order[place] = leaving;
+        self.order[other] = entering;
+        self.seat[leaving] = place;
+        self.seat[entering] = other;
+        true
+    }
+}

@@ -1,0 +1,62 @@
+//! Rows of one width, and pivots among them.
+use crate::row::Row;
+use md_num::NoMemory;
+use std::alloc::Global;
+
+/// Rows, each over a denominator of its own. A row past the last one has zeros.
+#[derive(Drop)]
+pub struct Table {
+    rows: Vec<Row>,
+}
+
+impl Table {
+    /// The table with no row.
+    pub fn new(alloc: Global) -> Table {
+        Table {
+            rows: Vec::new(alloc),
+        }
+    }
+
+    /// Appends a row.
+    pub fn push(&mut self, row: Row) -> Result<(), NoMemory> {
+        self.rows.push(row)?;
+        Ok(())
+    }
+
+    /// The number of a row at a place, over the denominator of the row.
+    pub fn number(&self, row: usize, place: usize) -> i128 {
+        if row < self.rows.len() {
+            self.rows[row].number(place)
+        } else {
+            0
+        }
+    }
+
+    /// The denominator of a row.
+    pub fn den(&self, row: usize) -> i128 {
+        if row < self.rows.len() {
+            self.rows[row].den()
+        } else {
+            1
+        }
+    }
+
+    /// Makes the column at a place basic at a row: the row is turned, and so much of it is taken from each other row that nothing is left there. It answers whether it could, in numbers of up to 126 bits.
+    pub fn pivot(&mut self, alloc: Global, row: usize, place: usize) -> Result<bool, NoMemory> {
+        if row >= self.rows.len() || !self.rows[row].turn(place) {
+            return Ok(false);
+        }
+        let turned = self.rows[row].copy(alloc)?;
+        Ok(self.eliminate(&turned, row, place))
+    }
+
+    // Takes a turned row from each other one.
+    fn eliminate(&mut self, turned: &Row, row: usize, place: usize) -> bool {
+        for other in 0..self.rows.len() {
+            if other != row && !self.rows[other].eliminate(turned, place) {
+                return false;
+            }
+        }
+        true
+    }
+}
