@@ -195,12 +195,17 @@ class Case(unittest.TestCase):
 
 
 class OrderTest(Case):
-    def test_a_chain_is_weighed_by_lines(self):
+    def test_a_chain_is_weighed(self):
         rows = {"low": (10, ""), "long": (30, "low"), "next": (5, "long"), "short": (20, "low std"), "top": (1, "short next")}
         made = self.repository(rows)
         crates = libraries.crates_of(made.top, "top", "a kit")
         order = libraries.chains(crates, {it: it.lines for it in crates})
         self.assertEqual({it.name: order[it] for it in order}, {"low": 46, "long": 36, "next": 6, "short": 21, "top": 1})
+
+    def test_a_crate_weighs_its_lines_and_a_part_of_those_below(self):
+        made = self.repository({"low": (400, ""), "mid": (200, "low"), "top": (10, "mid")})
+        crates = libraries.crates_of(made.top, "top", "a kit")
+        self.assertEqual([it.weight for it in crates], [400, 220, 40])
 
     def test_only_what_is_below_is_read(self):
         made = self.repository({"low": (1, ""), "beside": (1, "low"), "top": (1, "low"), "above": (1, "top")})
@@ -261,9 +266,9 @@ class TimeTest(Case):
         run = object.__new__(libraries.Run)
         run.crate, run.jobs, run.seconds = builder.crates[0], 1, lambda: 1000 * libraries.SECONDS_A_LINE
         builder.running = [run]
-        self.assertRegex(builder.progress(), "about 10 minutes left$")
+        self.assertRegex(builder.progress(), "about 4 minutes left$")
         run.seconds = lambda: 5000 * libraries.SECONDS_A_LINE
-        self.assertRegex(builder.progress(), "about 20 minutes left$")
+        self.assertRegex(builder.progress(), "about 8 minutes left$")
 
     def test_what_is_left_goes_by_lines_and_by_the_longest_chain(self):
         made = self.repository({"low": (100, ""), "one": (300, "low"), "two": (300, "low"), "top": (50, "one two")})
@@ -278,20 +283,20 @@ class TimeTest(Case):
         said = [libraries.in_words(it) for it in (10, 40, 61, 100, 3600)]
         self.assertEqual(said, ["less than a minute", "about 1 minute", "about 1 minute", "about 2 minutes", "about 60 minutes"])
 
-    def test_the_share_goes_by_lines_and_never_falls(self):
+    def test_the_share_goes_by_weight_and_never_falls(self):
         made = self.repository({"low": (100, ""), "mid": (300, "low"), "top": (600, "mid")})
         low, mid, _ = crates = libraries.crates_of(made.top, "top", "a kit")
         builder = libraries.Builder(crates, "rt", 1, None)
         builder.done = {low}
-        self.assertRegex(builder.progress(), r"^10 % of all lines are proved, .* left$")
+        self.assertRegex(builder.progress(), r"^9 % of the work is done, .* left$")
         run = object.__new__(libraries.Run)
         run.crate, run.jobs, run.seconds = mid, 1, lambda: 100 * libraries.SECONDS_A_LINE
         builder.running = [run]
-        self.assertRegex(builder.progress(), "^20 %")
+        self.assertRegex(builder.progress(), "^19 %")
         builder.pace.add(10**6, 10**6)
-        self.assertRegex(builder.progress(), "^20 %")
+        self.assertRegex(builder.progress(), "^19 %")
         run.seconds = lambda: 10**6
-        self.assertRegex(builder.progress(), "^37 %")
+        self.assertRegex(builder.progress(), "^36 %")
 
     def test_only_a_proof_from_nothing_is_measured(self):
         said = "logic=proved functions=1\n"
@@ -322,9 +327,9 @@ class BuildTest(Case):
         self.assertEqual(begun, [f"begins md_low {lib}", f"begins md_two {lib}", f"begins md_one {lib}", "begins md_prog run --jobs 1"])
         lines = told.splitlines()
         plan = "mechdes: proving and building 4 crates with 115 lines, one at a time; "
-        self.assertEqual(lines[0], plan + "0 % of all lines are proved, less than a minute left")
-        shares = [int(re.search(r"(\d+) % of all lines are proved", it)[1]) for it in lines[:-1]]
-        self.assertEqual(shares, [0, 17, 69, 95])
+        self.assertEqual(lines[0], plan + "0 % of the work is done, less than a minute left")
+        shares = [int(re.search(r"(\d+) % of the work is done", it)[1]) for it in lines[:-1]]
+        self.assertEqual(shares, [0, 16, 66, 91])
         self.assertRegex(lines[1], r"^mechdes: md_low is proved \(\d+ s\); ")
         self.assertRegex(lines[-1], "^mechdes: all is proved and built ")
         self.assertTrue(told.replace("\n", "").isprintable())
@@ -378,7 +383,7 @@ class BuildTest(Case):
         often = mock.patch.multiple(libraries, SECONDS_BETWEEN_LINES=0.1, SECONDS_BETWEEN_LOOKS=0.02)
         with path, often, mock.patch.object(libraries, "tell", tell):
             self.assertTrue(libraries.build(made.top, "md_low"))
-        self.assertRegex(told[1], r"^\d+ % of all lines are proved, less than a minute left; at work: md_low$")
+        self.assertRegex(told[1], r"^\d+ % of the work is done, less than a minute left; at work: md_low$")
 
     def test_a_static_library(self):
         made = self.repository({"md_low": (20, ""), "md_embed staticlib": (5, "md_low")})
@@ -532,7 +537,7 @@ class LauncherTest(Case):
             status, out, told = made.run("mechdes", *words)
             self.assertEqual((status, told), (0, ""), words)
             self.assertEqual({*re.findall("^    ([a-z]+) [A-Z]", out, re.M)}, {*commands}, out)
-            self.assertIn("\nfind a best rule\n    solve SETTING: of any setting or auction\n", out)
+            self.assertIn("\nfind a best rule\n    find SETTING: of any setting but an auction\n", out)
         self.assertEqual(made.calls(), [])
         self.assertEqual(made.run("mechdes", "help", "solve")[:2], (7, "help solve\n"))
 
