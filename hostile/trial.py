@@ -28,6 +28,7 @@ CALLS = [
     "fair welfare-vote.toml",
     "find too-wide.toml",
     "findfair welfare-vote.toml",
+    "faircheck welfare-vote.toml welfare-vote-fairest.csv",
     "replay too-wide.toml too-wide-pivots.csv",
     "realise two-bidders.toml two-bidders-odds-by-value.csv",
     "realise two-bidders.toml two-bidders-odds-too-often.csv",

@@ -202,6 +202,12 @@ def check(setting: SettingLike, answer: AnswerLike) -> Verdict:
     return read_verdict(_printed({0, 20, 22}, words, setting_bytes(setting), answer_bytes(setting, answer)))
 
 
+def faircheck(setting: SettingLike, answer: AnswerLike) -> Verdict:
+    """Whether what an answer of `fair` or `find_fair` claims is so. It uses nothing of the part that searches."""
+    words = ["faircheck", "setting", "answer"]
+    return read_verdict(_printed({0, 20, 22}, words, setting_bytes(setting), answer_bytes(setting, answer)))
+
+
 def determcheck(setting: SettingLike, answer: AnswerLike) -> Verdict:
     """Whether what an answer of `determ` claims is so.
 
@@ -314,6 +320,7 @@ _COMMANDS: tuple[Command, ...] = (
     determ,
     iron,
     check,
+    faircheck,
     determcheck,
     audit,
     rows,

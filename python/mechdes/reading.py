@@ -322,7 +322,7 @@ def read_answer(setting: AnySetting, text: str, units: int | None = None) -> Ans
 
 
 def read_verdict(text: str) -> Verdict:
-    """What `check` or `determcheck` prints."""
+    """What `check`, `faircheck` or `determcheck` prints."""
     records = Records(text)
     word = records.word()
     if word not in ("valid", "undecided", "rejected"):
@@ -462,6 +462,7 @@ _ANSWERS = ("solve", "find", "fair", "findfair", "asym", "units", "determ", "iro
 _OF_SETTINGS: dict[str, Callable[[Any, str], Printed]] = {"realise": read_realised, "run": read_draw, "report": read_report}
 _ALONE: dict[str, Callable[[str], Printed]] = {
     "check": read_verdict,
+    "faircheck": read_verdict,
     "determcheck": read_verdict,
     "audit": read_audit,
     "rows": read_program,

@@ -87,6 +87,12 @@ class Checking(unittest.TestCase):
         rejected = mechdes.check(example("posted-price"), answer)
         self.assertEqual((rejected.condition, rejected.name, rejected.numbers), (1, "truth/buyer/high/low/high", (-1, 0)))
 
+    def test_the_fairest_mechanism_is_checked(self) -> None:
+        setting, answer = example("fair-split"), text("fair-split-fairest.csv")
+        self.assertTrue(mechdes.faircheck(setting, answer))
+        rejected = mechdes.faircheck(setting, answer.replace("value,4,5", "value,1,1"))
+        self.assertEqual((bool(rejected), rejected.condition, rejected.numbers), (False, 2, (4, 5)))
+
     @needs_library
     def test_the_tree_of_determ_is_checked(self) -> None:
         setting, answer = example("two-goods"), mechdes.determ(example("two-goods"))
@@ -369,6 +375,14 @@ class Wiring(unittest.TestCase):
             (22, "undecided\n", mechdes.find, [goods], mechdes.Undecided, (["find", "setting"], goods, b"")),
             (22, "undecided\n", mechdes.find_fair, [goods], mechdes.Undecided, (["findfair", "setting"], goods, b"")),
             (0, fairest, mechdes.find_fair, [split], mechdes.Fairest, (["findfair", "setting"], split, b"")),
+            (
+                20,
+                "rejected,2,4,5\n",
+                mechdes.faircheck,
+                [split, fairest],
+                mechdes.Verdict,
+                (["faircheck", "setting", "answer"], split, fairest.encode()),
+            ),
             (
                 20,
                 "rejected,16\n",

@@ -203,11 +203,12 @@ class Made(Texts):
             ("rejected,4,0,-1,0", False),
             ("rejected,5,7", False),
             ("rejected,6,1,2,3,4", False),
+            ("rejected,11,-9223372036854775808", False),
             ("rejected,12,rational/a/t,-1,0", False),
             ("rejected,16", False),
         ):
             with self.subTest(printed):
-                for command in ("check", "determcheck"):
+                for command in ("check", "faircheck", "determcheck"):
                     found = self.again(command, printed + "\n")
                     self.assertEqual((bool(found), str(found)), (truth, printed))
         self.assertFalse(self.again("audit", "broken,deficit/low+low,-2,0\n"))

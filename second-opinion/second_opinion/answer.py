@@ -172,46 +172,59 @@ def begun(data: bytes, kind: str, words: Mapping[str, Iterable[str]]) -> tuple[R
 def read_answer(data: bytes, setting: GeneralSetting) -> Answer:
     """The answer about a general setting that the bytes of a file state, or `Refused`."""
     records, word, version = begun(data, "general", {"1": READERS, "2": ["toowide"]})
-    answer = READERS[word](records, setting, version)
+    return read_begun(records, word, setting, setting.condition_count() + setting.profile_count(), int(version))
+
+
+def read_fair_answer(data: bytes, setting: GeneralSetting) -> Answer:
+    """The same of the fairest mechanism: a row of the fair program for each agent comes behind those of the setting, and an
+    answer that is too wide has two paths in either version."""
+    records, word, _ = begun(data, "fair", {"1": [word for word in READERS if word != "table"], "2": ["toowide"]})
+    rows = setting.condition_count() + setting.profile_count() + len(setting.agents)
+    return read_begun(records, word, setting, rows, 2)
+
+
+def read_begun(records: Records, word: str, setting: GeneralSetting, rows: int, paths: int) -> Answer:
+    """What follows the first record, with multipliers of so many rows, or so many paths."""
+    answer = READERS[word](records, setting, rows, paths)
     records.finish()
     return answer
 
 
-def read_table(records: Records, setting: GeneralSetting, version: str) -> TableAnswer:
+def read_table(records: Records, setting: GeneralSetting, rows: int, paths: int) -> TableAnswer:
     mechanism = read_mechanism(records, setting)
     records.expect(end=1)
     return TableAnswer(mechanism)
 
 
-def read_optimal(records: Records, setting: GeneralSetting, version: str) -> OptimalAnswer:
+def read_optimal(records: Records, setting: GeneralSetting, rows: int, paths: int) -> OptimalAnswer:
     value = read_value(records)
     mechanism = read_mechanism(records, setting)
     records.expect(bound=2)
     bound = records.integer(2, 1, GREATEST)
-    return OptimalAnswer(value, mechanism, bound, read_multipliers(records, setting, 2))
+    return OptimalAnswer(value, mechanism, bound, read_rows(records, rows, 2))
 
 
-def read_infeasible(records: Records, setting: GeneralSetting, version: str) -> InfeasibleAnswer:
-    return InfeasibleAnswer(read_multipliers(records, setting, 1))
+def read_infeasible(records: Records, setting: GeneralSetting, rows: int, paths: int) -> InfeasibleAnswer:
+    return InfeasibleAnswer(read_rows(records, rows, 1))
 
 
-def read_unbounded(records: Records, setting: GeneralSetting, version: str) -> UnboundedAnswer:
+def read_unbounded(records: Records, setting: GeneralSetting, rows: int, paths: int) -> UnboundedAnswer:
     mechanism = read_mechanism(records, setting)
     rays = read_lists(records, setting, "ray") if setting.payments else {}
     records.expect(end=1)
     return UnboundedAnswer(mechanism, rays)
 
 
-def read_too_wide(records: Records, setting: GeneralSetting, version: str) -> TooWideAnswer:
-    paths = [read_path(records)]
-    if version == "2":
+def read_too_wide(records: Records, setting: GeneralSetting, rows: int, paths: int) -> TooWideAnswer:
+    found = [read_path(records)]
+    while len(found) < paths:
         records.expect(again=1)
-        paths.append(read_path(records))
+        found.append(read_path(records))
     records.expect(end=1)
-    return TooWideAnswer(paths)
+    return TooWideAnswer(found)
 
 
-READERS: dict[str, Callable[[Records, GeneralSetting, str], Answer]] = {
+READERS: dict[str, Callable[[Records, GeneralSetting, int, int], Answer]] = {
     "table": read_table,
     "optimal": read_optimal,
     "infeasible": read_infeasible,
@@ -255,11 +268,6 @@ def read_named(records: Records, setting: GeneralSetting, profile: Profile, leas
     for place, (agent, kind) in enumerate(zip(setting.agents, profile), 2):
         records.word(place, agent.types[kind])
     return records.integers(2 + len(setting.agents), least)
-
-
-def read_multipliers(records: Records, setting: GeneralSetting, count: int) -> dict[int, Pair]:
-    """The multipliers of a general setting's rows."""
-    return read_rows(records, setting.condition_count() + setting.profile_count(), count)
 
 
 def read_rows(records: Records, rows: int, count: int) -> dict[int, Pair]:

@@ -13,6 +13,7 @@ from second_opinion.program import Program, broken, point_of, program_of, sum_ov
 from second_opinion.setting import AuctionSetting, GeneralSetting, Setting
 
 Failed = tuple[int | str, ...]  # the number of a condition, with what is printed
+UNDECIDED = (22, "undecided")
 
 
 def check(words: list[str]) -> tuple[int, str]:
@@ -26,21 +27,21 @@ def check(words: list[str]) -> tuple[int, str]:
 
 
 def verdict(its: Setting, said: Answer | AuctionAnswer) -> tuple[int, str]:
-    """The status and the line for an answer: 0 and `valid`, 20 and the first condition that fails, or 22."""
-    failed: Failed | None
+    """The status and the line for an answer, which says nothing that could be checked where it is of no kind below."""
     if isinstance(its, AuctionSetting) and isinstance(said, AuctionAnswer):
-        failed = failed_auction(its, said)
-    elif isinstance(its, GeneralSetting) and isinstance(said, OptimalAnswer):
-        failed = failed_optimal(its, said)
-    elif isinstance(its, GeneralSetting) and isinstance(said, InfeasibleAnswer):
-        failed = failed_infeasible(its, said)
-    elif isinstance(its, GeneralSetting) and isinstance(said, UnboundedAnswer):
-        failed = failed_unbounded(its, said)
-    else:
-        return 22, "undecided"
-    if failed is None:
-        return 0, "valid"
-    return 20, "rejected," + ",".join(map(str, failed))
+        return told(failed_auction(its, said))
+    if isinstance(its, GeneralSetting) and isinstance(said, OptimalAnswer):
+        return told(failed_optimal(its, said))
+    if isinstance(its, GeneralSetting) and isinstance(said, InfeasibleAnswer):
+        return told(failed_infeasible(program_of(its), said))
+    if isinstance(its, GeneralSetting) and isinstance(said, UnboundedAnswer):
+        return told(failed_unbounded(its, said))
+    return UNDECIDED
+
+
+def told(failed: Failed | None) -> tuple[int, str]:
+    """The status and the line: 0 and `valid`, or 20 and the first condition that fails."""
+    return (0, "valid") if failed is None else (20, "rejected," + ",".join(map(str, failed)))
 
 
 def failed_optimal(setting: GeneralSetting, answer: OptimalAnswer) -> Failed | None:
@@ -90,9 +91,8 @@ def failed_bound(program: Program, answer: OptimalAnswer | AuctionAnswer, reache
     return None
 
 
-def failed_infeasible(setting: GeneralSetting, answer: InfeasibleAnswer) -> Failed | None:
+def failed_infeasible(program: Program, answer: InfeasibleAnswer) -> Failed | None:
     """The same of an infeasible answer: the rows contradict each other, weighed with the face multipliers."""
-    program = program_of(setting)
     failed = failed_multipliers(program, answer.multipliers, 0)
     if failed is not None:
         return failed
@@ -101,12 +101,15 @@ def failed_infeasible(setting: GeneralSetting, answer: InfeasibleAnswer) -> Fail
 
 
 def failed_unbounded(setting: GeneralSetting, answer: UnboundedAnswer) -> Failed | None:
-    """The same of an unbounded answer: its ray keeps all rows met, and its cost is positive."""
+    """The same of an unbounded answer."""
     condition = broken(setting, answer.mechanism)
     if condition is not None:
         return 1, *condition
-    program = program_of(setting)
-    ray = point_of(setting, Mechanism(1, {}, answer.rays))
+    return failed_ray(program_of(setting), point_of(setting, Mechanism(1, {}, answer.rays)))
+
+
+def failed_ray(program: Program, ray: dict[int, int]) -> Failed | None:
+    """Conditions 7 and 8: a ray keeps all rows met, and its cost is positive."""
     for index, row in enumerate(program.rows):
         amount = sum_over(row.terms, ray)
         if amount > 0 or (row.exact and amount != 0):

@@ -3,9 +3,9 @@
 """
 
 from second_opinion import command, setting
-from second_opinion.answer import FoundAnswer, Mechanism
+from second_opinion.answer import FoundAnswer
+from second_opinion.fair_checking import fair_program, least_of, level_columns
 from second_opinion.finding import found_by, written_answer
-from second_opinion.program import Program, add_gain, divided, gain, program_of
 from second_opinion.setting import AuctionSetting, GeneralSetting, Refused
 
 
@@ -23,33 +23,3 @@ def found_fairest(setting: GeneralSetting) -> FoundAnswer:
     program = fair_program(setting)
     level, _ = level_columns(program)
     return found_by(setting, program, [level], least_of)
-
-
-def level_columns(program: Program) -> tuple[int, int]:
-    """The columns of the plus and the minus part of the level: the last two of the fair program."""
-    return program.columns - 2, program.columns - 1
-
-
-def fair_program(setting: GeneralSetting) -> Program:
-    """The program of the setting, and behind it a row for each agent: the level is at most what the agent gets, by weight."""
-    program = program_of(setting)
-    program.columns += 2
-    plus, minus = level_columns(program)
-    for number, agent in enumerate(setting.agents):
-        terms = {plus: 1, minus: -1}
-        for profile in setting.profiles():
-            add_gain(setting, terms, number, profile, profile, -setting.weight(profile))
-        program.rows.append(divided(f"level/{agent.name}", False, 0, terms))
-    program.cost = {plus: 1, minus: -1}
-    return program
-
-
-def least_of(setting: GeneralSetting, mechanism: Mechanism) -> tuple[int, int]:
-    """What the agent that gets least gets over all profiles by weight, over the mechanism's denominator, and the sum of all
-    weights."""
-    weights = {profile: setting.weight(profile) for profile in setting.profiles()}
-    gains = (
-        sum(weight * gain(setting, mechanism, agent, profile, profile) for profile, weight in weights.items())
-        for agent in range(len(setting.agents))
-    )
-    return min(gains), sum(weights.values())

@@ -1,8 +1,8 @@
 """Compares `find` and `findfair` of mechdes with `solve` and `fair` and with `find` of this folder, and has their answers checked.
 
 The settings are the general ones of examples/ and bench/settings, twelve sorts of twenty each, and small ones of all kinds. The
-seeds are fixed, so that they are the same at each call. Each answer of `find` has to be valid to both checkers; the mechanism of
-`findfair` has to be admissible and to have the value. Where the other command has an answer, kind and value have to be the same.
+seeds are fixed, so that they are the same at each call. Each answer of `find` has to be valid to `check` of mechdes and of this
+folder, and each of `findfair` to both `faircheck`. Where the other command has an answer, kind and value have to be the same.
 
 For each sort a line tells how many settings there are, how many of them the search answers and how many the walk (`solve` or
 `fair`), and the median and the greatest seconds of the processor that the search took. Settings of which something is wrong are
@@ -15,12 +15,10 @@ import statistics
 import sys
 import tempfile
 from collections.abc import Callable, Iterable, Iterator
-from fractions import Fraction
 from pathlib import Path
 from typing import NamedTuple, NoReturn
 
-from second_opinion import answer, checking, command, finding, generate, program, setting
-from second_opinion.answer import Mechanism, TableAnswer
+from second_opinion import checking, command, fair_checking, finding, generate, setting
 from second_opinion.measure import processor_seconds, run
 from second_opinion.places import TOP, needed_program
 from second_opinion.setting import GeneralSetting
@@ -33,6 +31,19 @@ UNDECIDED = 22
 
 Told = tuple[int, bytes]  # a status, and what is printed
 Faults = Callable[[Path, Path], Iterator[str]]  # from a setting and an answer to what is wrong with it
+
+
+class Words(NamedTuple):
+    """A command that searches, the one that walks, and the checker of both, as the program and as this folder has it."""
+
+    search: str
+    walk: str
+    check: str
+    checked: command.Command
+
+
+BEST = Words("find", "solve", "check", checking.check)
+FAIREST = Words("findfair", "fair", "faircheck", fair_checking.faircheck)
 
 
 class Sort(NamedTuple):
@@ -79,12 +90,12 @@ def main(words: list[str]) -> NoReturn:
     comparison = Comparison(needed_program(words))
     small = random.Random(6)
     print(f"{'settings':30} {'count':>5} {'find':>5} {'solve':>5} {'median s':>9} {'greatest s':>10}")
-    comparison.best("examples/ and bench/settings", stored_texts())
+    comparison.compare("examples/ and bench/settings", stored_texts(), BEST)
     for sort in SORTS:
-        comparison.best(sort.name, sort.texts())
-    comparison.best("small ones of all kinds", (generate.small_text(small) for _ in range(SMALL)), found_here)
+        comparison.compare(sort.name, sort.texts(), BEST)
+    comparison.compare("small ones of all kinds", (generate.small_text(small) for _ in range(SMALL)), BEST, found_here)
     fair = (generate.small_text(small) for _ in range(SMALL_FAIR))
-    comparison.compare("findfair and fair, small ones", fair, "findfair", "fair", fairest_faults)
+    comparison.compare("findfair and fair, small ones", fair, FAIREST)
     comparison.end()
 
 
@@ -109,33 +120,6 @@ def found_here(toml: Path, csv: Path) -> Iterator[str]:
         yield f"second-opinion/find: {records}"
 
 
-def fairest_faults(toml: Path, csv: Path) -> Iterator[str]:
-    """Where the mechanism of `findfair`, if there is one, is not admissible or has another value. No checker reads the answer."""
-    its = setting.read_setting(toml.read_bytes())
-    assert isinstance(its, GeneralSetting)
-    records = csv.read_text().splitlines()
-    kept = [record for record in records if record.startswith(("table,", "lottery,", "pay,"))]
-    if not kept:
-        return
-    said = answer.read_answer("\n".join(["answer,1,general,table", *kept, "end\n"]).encode(), its)
-    assert isinstance(said, TableAnswer)
-    if (condition := program.broken(its, said.mechanism)) is not None:
-        yield f"broken: {condition}"
-    value = least_gain(its, said.mechanism)
-    if records[0].endswith("optimal") and records[1] != f"value,{value.numerator},{value.denominator}":
-        yield f"the value is {value}"
-
-
-def least_gain(its: GeneralSetting, mechanism: Mechanism) -> Fraction:
-    """What the agent that gets least gets."""
-    profiles = list(its.profiles())
-    gains = [
-        sum(its.weight(profile) * program.gain(its, mechanism, agent, profile, profile) for profile in profiles)
-        for agent in range(len(its.agents))
-    ]
-    return Fraction(min(gains), mechanism.den * sum(map(its.weight, profiles)))
-
-
 class Comparison:
     """Tries settings, and counts those of which something is wrong."""
 
@@ -144,29 +128,26 @@ class Comparison:
         self.folder = Path(tempfile.mkdtemp(prefix="find-"))
         self.wrong = 0
 
-    def best(self, sort: str, texts: Iterable[str], *others: Faults) -> None:
-        """Compares `find` with `solve`, and has its answers checked."""
+    def compare(self, sort: str, texts: Iterable[str], words: Words, *others: Faults) -> None:
+        """Compares the command that searches with the one that walks, has its answers checked, and prints the line of a sort of
+        settings."""
 
         def faults(toml: Path, csv: Path) -> Iterator[str]:
-            status, printed = run(self.path, "check", toml, csv)
+            status, printed = run(self.path, words.check, toml, csv)
             theirs = status, printed.decode(), None
-            for who, verdict in [("mechdes", theirs), ("here", command.outcome(checking.check, [str(toml), str(csv)]))]:
+            for who, verdict in [("mechdes", theirs), ("here", command.outcome(words.checked, [str(toml), str(csv)]))]:
                 if verdict != (0, "valid\n", None):
-                    yield f"check {who}: {verdict}"
+                    yield f"{words.check} {who}: {verdict}"
             for other in others:
                 yield from other(toml, csv)
 
-        self.compare(sort, texts, "find", "solve", faults)
-
-    def compare(self, sort: str, texts: Iterable[str], search: str, walk: str, faults: Faults) -> None:
-        """Compares the command that searches with the one that walks, and prints the line of a sort of settings."""
         answered, walked, times = 0, 0, []
         for text in texts:
             (self.folder / f"{self.wrong}.toml").write_text(text)
             before = processor_seconds()
-            found = run(self.path, search, self.folder / f"{self.wrong}.toml")
+            found = run(self.path, words.search, self.folder / f"{self.wrong}.toml")
             times.append(processor_seconds() - before)
-            other = run(self.path, walk, self.folder / f"{self.wrong}.toml")
+            other = run(self.path, words.walk, self.folder / f"{self.wrong}.toml")
             answered += found[0] != UNDECIDED
             walked += other[0] != TOO_WIDE
             self.judge(sort, found, other, faults)

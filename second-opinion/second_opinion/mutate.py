@@ -2,7 +2,8 @@
 
 Answers of examples/, and of small auctions made at random, are taken and changed: a number, a record, a byte, or the
 mechanism as a whole. `mechdes check` and `check` get the same two files, and what they print, their lines on standard
-error and their statuses must be the same. So with settings that were changed, with those at the limits of size, and with
+error and their statuses must be the same; of answers about the fairest mechanism, found here for the settings of examples/,
+the same of `faircheck`. So with settings that were changed, with those at the limits of size, and with
 all settings and answers of examples/ and bench/settings as they are; of the settings, what `rows` prints is compared too.
 The changes are the same at each call.
 PROGRAM is mechdes's program: this word, the variable MECHDES, or the one that the repository's tests build. The commands
@@ -18,12 +19,14 @@ import subprocess
 import sys
 import tempfile
 from collections.abc import Iterator
+from fractions import Fraction
 from typing import NoReturn
 
-from second_opinion import answer, checking, command, listing, mutate_auctions, program, setting
+from second_opinion import answer, checking, command, fair_checking, fairness, finding, listing, mutate_auctions, program, setting
 from second_opinion.places import FOLDER, TOP, needed_program
 
 ANSWERS = 2000
+FAIREST = 1000
 SETTINGS = 1000
 AUCTIONS = 30
 TOKENS = ["0", "1", "-1", "2", "-0", "+1", "01", "", " ", "x", "1.0", "end", "row", "lottery", "mass", "cut", "again",
@@ -55,6 +58,10 @@ def main() -> None:
         changed = changed_setting(numbers, toml)
         comparison.compare("setting", changed, csv)
         comparison.compare_rows("rows of a setting", changed)
+    fairest = fairest_pairs()
+    for _ in range(FAIREST):
+        toml, csv = numbers.choice(fairest)
+        comparison.compare("answer about the fairest", toml, changed_answer(numbers, toml, csv))
     comparison.report()
 
 
@@ -66,6 +73,16 @@ def stored_pairs() -> list[tuple[bytes, bytes]]:
         fronts = [name for name in tomls if path.stem.startswith(name)]
         if fronts:
             pairs.append((tomls[max(fronts, key=len)], path.read_bytes()))
+    return pairs
+
+
+def fairest_pairs() -> list[tuple[bytes, bytes]]:
+    """The general settings of examples/, each with an answer about its fairest mechanism, as bytes."""
+    pairs = []
+    for path in sorted(TOP.glob("examples/*.toml")):
+        status, found, _ = command.outcome(fairness.findfair, [str(path)])
+        if status in finding.STATUSES.values():
+            pairs.append((path.read_bytes(), found.encode()))
     return pairs
 
 
@@ -112,8 +129,11 @@ class Comparison:
         self.differ = 0
 
     def compare(self, sort: str, toml: bytes, csv: bytes) -> None:
-        """Compares `check` on two files."""
-        self.compare_command(sort, "check", checking.check, [toml, csv])
+        """Compares `check` on two files, or `faircheck` where the second one is about the fairest mechanism."""
+        if is_fairest(csv):
+            self.compare_command(sort, "faircheck", fair_checking.faircheck, [toml, csv])
+        else:
+            self.compare_command(sort, "check", checking.check, [toml, csv])
 
     def compare_rows(self, sort: str, toml: bytes) -> None:
         """Compares `rows` on a setting."""
@@ -153,6 +173,11 @@ class Comparison:
         if not self.differ:
             self.folder.rmdir()
         sys.exit(1 if self.differ else 0)
+
+
+def is_fairest(csv: bytes) -> bool:
+    """Whether an answer begins as one about the fairest mechanism."""
+    return csv.startswith(b"answer,1,fair,")
 
 
 def run(words: list[str | pathlib.Path]) -> tuple[int, str, str]:
@@ -241,7 +266,7 @@ def whole_change(numbers: random.Random, toml: bytes, csv: bytes) -> bytes:
     try:
         if isinstance(its, setting.AuctionSetting):
             return mutate_auctions.whole_change(numbers, its, csv)
-        said = answer.read_answer(csv, its)
+        said = (answer.read_fair_answer if is_fairest(csv) else answer.read_answer)(csv, its)
     except setting.Refused:
         return csv
     mechanism = getattr(said, "mechanism", None)
@@ -261,8 +286,7 @@ def whole_change(numbers: random.Random, toml: bytes, csv: bytes) -> bytes:
         elif change == "pay" and its.payments:
             mechanism.pays[profile][numbers.randrange(len(its.agents))] += numbers.choice([-1, 1])
     if isinstance(said, answer.OptimalAnswer) and numbers.random() < 0.9:
-        amount, total = program.value_of(its, mechanism)
-        said.value = amount, total * mechanism.den
+        said.value = value_of(its, mechanism, is_fairest(csv))
     if isinstance(said, answer.UnboundedAnswer) and numbers.random() < 0.3:
         said.rays = {profile: [-number * numbers.randrange(2) for number in rays] for profile, rays in said.rays.items()}
     elif isinstance(said, answer.UnboundedAnswer):
@@ -270,7 +294,7 @@ def whole_change(numbers: random.Random, toml: bytes, csv: bytes) -> bytes:
         rays[numbers.randrange(len(rays))] += numbers.choice([-1, 0, 1])
     multipliers = getattr(said, "multipliers", {})
     for _ in range(numbers.randrange(3)):
-        rows = its.condition_count() + its.profile_count()
+        rows = its.condition_count() + its.profile_count() + is_fairest(csv) * len(its.agents)
         index = numbers.choice([*multipliers, numbers.randrange(rows)])
         face, main = multipliers.get(index, (0, 0))
         multipliers[index] = face + numbers.choice([0, 0, 0, 1, -1]), main + numbers.choice([0, -1, 1, 1])
@@ -278,7 +302,17 @@ def whole_change(numbers: random.Random, toml: bytes, csv: bytes) -> bytes:
         said.bound = max(1, said.bound + numbers.choice([-1, 1]))
     if isinstance(said, (answer.TableAnswer, answer.TooWideAnswer)):
         return csv
-    return answer.write_answer(said, its).encode()
+    return answer.write_answer(said, its, "fair" if is_fairest(csv) else "general").encode()
+
+
+def value_of(its: setting.GeneralSetting, mechanism: answer.Mechanism, is_least: bool) -> answer.Pair:
+    """The value of a mechanism; of what its agents get the least, in least terms."""
+    if is_least:
+        amount, total = fair_checking.least_of(its, mechanism)
+        value = Fraction(amount, total * mechanism.den)
+        return value.numerator, value.denominator
+    amount, total = program.value_of(its, mechanism)
+    return amount, total * mechanism.den
 
 
 def changed_setting(numbers: random.Random, toml: bytes) -> bytes:

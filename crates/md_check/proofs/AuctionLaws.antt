@@ -47,14 +47,14 @@ use Rattle.md_answer.specs.ReducedRows.{reduced_rows}
 use Rattle.md_claims.specs.AuctionCertificates.{auction_certificate, point_of}
 use Rattle.md_claims.specs.AuctionClaims.{IsOptimalRule, mechanism_in}
 use Rattle.md_claims.proofs.AuctionPoints.{point-length, point-nonneg, point-within, interim-back}
-use Rattle.md_check.specs.declared.verdict.Reject.TheVariants.{Audit, Value, Pair, Column, FaceRight, MainRight, RayRow, RayGain, Masses as OtherMass, Reduced}
-use Rattle.md_check.specs.declared.verdict.Verdict.{Verdict}
-use Rattle.md_check.specs.declared.verdict.Verdict.TheVariants.{Valid, Undecided, Rejected}
-use Rattle.md_check.specs.Certificates.{IsBehindPoint, Judges}
+use Rattle.md_question_check.specs.declared.verdict.Reject.TheVariants.{Audit, Value, Pair, Column, FaceRight, MainRight, RayRow, RayGain, Masses as OtherMass, Reduced, Level}
+use Rattle.md_question_check.specs.declared.verdict.Verdict.{Verdict}
+use Rattle.md_question_check.specs.declared.verdict.Verdict.TheVariants.{Valid, Undecided, Rejected}
+use Rattle.md_question_check.specs.Certificates.{IsBehindPoint, Judges}
 use Rattle.md_check.specs.Verdicts.{ClaimsNothing}
 use Rattle.md_check.specs.AuctionVerdicts.{HasMass, AddUp, OfReduced, IsOtherWorth, IsRightlyAuction, IsAuctionOptimalVerdict, IsAuctionVerdict, IsSoundAuctionOptimal, IsSoundAuction, AuctionClaimHolds}
-use Rattle.md_check.proofs.SameVerdict.{meets-to, row-first, judges-to}
-use Rattle.md_check.proofs.VerdictLaws.{certified-no_fault}
+use Rattle.md_question_check.proofs.SameVerdict.{meets-to, row-first, judges-to}
+use Rattle.md_question_check.proofs.VerdictLaws.{certified-no_fault}
 
 -- ---- the program of some cuts is one
 
@@ -134,6 +134,7 @@ rightly-verdict a value interim masses cuts bound (Rejected (FaceRight sum)) r j
 rightly-verdict a value interim masses cuts bound (Rejected (MainRight limit cost)) r j = (r, j)
 rightly-verdict a value interim masses cuts bound (Rejected (RayRow row sum)) r j = (r, j)
 rightly-verdict a value interim masses cuts bound (Rejected (RayGain sum)) r j = (r, j)
+rightly-verdict a value interim masses cuts bound (Rejected (Level level)) r j = (r, j)
 rightly-verdict a value interim masses cuts bound (Rejected (OtherMass kind sum demand)) r j = absurd (never a cuts (λ p. ⊥) j (λ p h. h))
 rightly-verdict a value interim masses cuts bound (Rejected (Reduced row left right)) r j = absurd (never a cuts (λ p. ⊥) j (λ p h. h))
 
@@ -176,6 +177,7 @@ optimal-sound a p value interim masses cuts bound (Rejected (FaceRight sum)) v h
 optimal-sound a p value interim masses cuts bound (Rejected (MainRight limit cost)) v h = absurd (certified-no_fault p (auction_certificate interim bound) (MainRight limit cost) h.certified (v.1.holds p h.is_program))
 optimal-sound a p value interim masses cuts bound (Rejected (RayRow row sum)) v h = absurd (certified-no_fault p (auction_certificate interim bound) (RayRow row sum) h.certified (v.1.holds p h.is_program))
 optimal-sound a p value interim masses cuts bound (Rejected (RayGain sum)) v h = absurd (certified-no_fault p (auction_certificate interim bound) (RayGain sum) h.certified (v.1.holds p h.is_program))
+optimal-sound a p value interim masses cuts bound (Rejected (Level level)) v h = absurd (certified-no_fault p (auction_certificate interim bound) (Level level) h.certified (v.1.holds p h.is_program))
 
 sound : (a : SymmetricAuction) (p : Program) (answer : Answer) (v : Verdict) → IsAuctionVerdict a answer v → IsSoundAuction a p answer → v ≡ Valid
 sound a p (AuctionOptimal value interim masses cuts bound) v is h = optimal-sound a p value interim masses cuts bound v is h

@@ -1,5 +1,3 @@
-pub mod SameVerdict
 pub mod VerdictLaws
 pub mod AuctionLaws
-pub mod OneVerdict
 pub mod OneAuctionVerdict

@@ -19,11 +19,12 @@ use Rattle.md_cert.specs.declared.bound.Bound.{Bound}
 use Rattle.md_cert.specs.Fault.{BreaksRow}
 use Rattle.md_reduced.specs.ProgramOf.{IsReducedProgram}
 use Rattle.md_claims.specs.AuctionCertificates.{auction_certificate, point_of}
-use Rattle.md_check.specs.declared.verdict.Reject.TheVariants.{Value, Masses as OtherMass, Reduced}
-use Rattle.md_check.specs.declared.verdict.Verdict.{Verdict}
-use Rattle.md_check.specs.declared.verdict.Verdict.TheVariants.{Rejected}
+use Rattle.md_question.proofs.OneFraction.{one_fraction}
+use Rattle.md_question_check.specs.declared.verdict.Reject.TheVariants.{Value, Masses as OtherMass, Reduced}
+use Rattle.md_question_check.specs.declared.verdict.Verdict.{Verdict}
+use Rattle.md_question_check.specs.declared.verdict.Verdict.TheVariants.{Rejected}
 use Rattle.md_check.specs.AuctionVerdicts.{HasMass, AddUp, MeetsCuts, BreaksCuts, IsOtherMass, IsAuctionOptimalVerdict}
-use Rattle.md_check.proofs.OneVerdict.{one-place, one-fraction, both-of, one-judged}
+use Rattle.md_question_check.proofs.OneVerdict.{one-place, both-of, one-judged}
 
 -- ---- the conditions by themselves
 
@@ -55,8 +56,9 @@ above z l = omega (arith, ints)
 one-worth : (a : SymmetricAuction) (interim : Interim) (f g : Frac) → IsAuction a → IsInterim a interim → IsWorthOf a interim f → IsWorthOf a interim g → f ≡ g
 one-worth a interim f g shaped fits h t =
     let weight = total_weight a.weights in
-    one-fraction (worth_of a interim) (pos weight *ℤ interim.den) f g
-    (positive-*ℤ (pos weight) interim.den (positive_pos weight (total-positive a shaped)) (above interim.den fits.den_positive)) h.least t.least h.has_worth t.has_worth
+    one_fraction (worth_of a interim) (pos weight *ℤ interim.den) f g
+    (positive-*ℤ (pos weight) interim.den (positive_pos weight (total-positive a shaped)) (above interim.den fits.den_positive))
+    (record { same = h.has_worth; least = h.least }) (record { same = t.has_worth; least = t.least })
 
 -- ---- in their order
 

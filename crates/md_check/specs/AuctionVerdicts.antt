@@ -27,11 +27,11 @@ use Rattle.md_answer.specs.declared.answer.Answer.{Answer}
 use Rattle.md_answer.specs.declared.answer.Answer.TheVariants.{AuctionOptimal, TooWide}
 use Rattle.md_claims.specs.AuctionCertificates.{auction_certificate, point_of}
 use Rattle.md_claims.specs.AuctionClaims.{IsOptimalRule, mechanism_in}
-use Rattle.md_check.specs.declared.verdict.Reject.TheVariants.{Value, Masses as OtherMass, Reduced}
-use Rattle.md_check.specs.declared.verdict.Verdict.{Verdict}
-use Rattle.md_check.specs.declared.verdict.Verdict.TheVariants.{Undecided, Rejected}
-use Rattle.md_check.specs.Certificates.{Judges}
-use Rattle.md_check.specs.Programs.{OfProgram}
+use Rattle.md_question_check.specs.declared.verdict.Reject.TheVariants.{Value, Masses as OtherMass, Reduced}
+use Rattle.md_question_check.specs.declared.verdict.Verdict.{Verdict}
+use Rattle.md_question_check.specs.declared.verdict.Verdict.TheVariants.{Undecided, Rejected}
+use Rattle.md_question_check.specs.Certificates.{Judges}
+use Rattle.md_question_check.specs.Programs.{OfProgram}
 
 -- ---- the conditions by themselves
 

@@ -1,4 +1,2 @@
-pub mod Programs
-pub mod Certificates
 pub mod Verdicts
 pub mod AuctionVerdicts

@@ -17,13 +17,11 @@ ghost use Rattle.md_answer.specs.declared.answer.Answer.TheVariants.{AuctionOpti
 ghost use Rattle.md_answer.specs.AuctionAnswerTo.{IsAuctionAnswer};
 ghost use Rattle.md_answer.specs.ReducedRows.{reduced_rows};
 ghost use Rattle.md_claims.specs.AuctionCertificates.{auction_certificate};
-ghost use Rattle.md_check.specs.declared.verdict.Verdict.{Verdict};
-ghost use Rattle.md_check.specs.declared.verdict.Verdict.TheVariants.{Valid, Rejected};
+ghost use Rattle.md_question_check.specs.declared.verdict.Verdict.{Verdict};
+ghost use Rattle.md_question_check.specs.declared.verdict.Verdict.TheVariants.{Valid, Rejected};
 ghost use Rattle.md_check.specs.AuctionVerdicts.{AddUp, IsAuctionOptimalVerdict, IsAuctionVerdict, AuctionClaimHolds};
 
-use crate::faults::verdict_by;
 use crate::value::other_worth;
-use crate::verdict::{Reject, Verdict};
 use md_answer::Answer;
 use md_border::{Interim, demand};
 use md_cert::{Bound, CertFault, check_lp};
@@ -31,6 +29,7 @@ use md_claims::auction_certificate;
 use md_expost::{Masses, mass_sum};
 use md_lp::Sets;
 use md_num::{Frac, NoMemory};
+use md_question_check::{Reject, Verdict, verdict_by};
 use md_reduced::program;
 use md_setting::Auction;
 use std::alloc::Global;

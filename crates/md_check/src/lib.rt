@@ -4,9 +4,7 @@
 
 mod auction;
 mod checking;
-mod faults;
 mod value;
-mod verdict;
 
 pub use checking::check;
-pub use verdict::{Reject, Verdict};
+pub use md_question_check::{Reject, Verdict};

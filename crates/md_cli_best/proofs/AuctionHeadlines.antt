@@ -16,7 +16,7 @@ use Rattle.md_answer.specs.AuctionAnswerTo.{IsAuctionAnswer}
 use Rattle.md_answer.specs.declared.answer.Answer.{Answer}
 use Rattle.md_answer.specs.declared.answer.Answer.TheVariants.{Table, Optimal, Infeasible, Unbounded, AuctionOptimal, TooWide}
 use Rattle.md_check.specs.AuctionVerdicts.{IsAuctionVerdict}
-use Rattle.md_check.specs.declared.verdict.Verdict.TheVariants.{Valid}
+use Rattle.md_question_check.specs.declared.verdict.Verdict.TheVariants.{Valid}
 use Rattle.md_solve.specs.AuctionSolved.{ClaimsAuctionOptimal, IsAuctionSo, IsAuctionSolved, IsCertifiedAuction, WhereAuctionOptimal}
 use Rattle.md_cli_best.specs.AuctionHeadline.{IsAuctionHeadline}
 use Rattle.md_cli_best.specs.Solving.{status_of_answer}

@@ -28,7 +28,7 @@ use Rattle.md_answer.specs.AuctionAnswerTo.{IsAuctionAnswer}
 use Rattle.md_answer.specs.declared.answer.Answer.{Answer}
 use Rattle.md_answer.specs.declared.answer.Answer.TheVariants.{Table, Optimal, Infeasible, Unbounded, AuctionOptimal, TooWide}
 use Rattle.md_check.specs.AuctionVerdicts.{AuctionClaimHolds, IsAuctionVerdict}
-use Rattle.md_check.specs.declared.verdict.Verdict.TheVariants.{Valid}
+use Rattle.md_question_check.specs.declared.verdict.Verdict.TheVariants.{Valid}
 use Rattle.md_iron.specs.ClosedForms.{IsClosedAnswer, IsOneAnswer, IsPaidWithinValue, PaysWithinValue}
 use Rattle.md_cli_best.specs.Ironing.{PrintsClosedForm}
 use Rattle.md_cli_best.proofs.OptimalValues.{value-of_each}

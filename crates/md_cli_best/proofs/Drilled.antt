@@ -12,8 +12,8 @@ use Rattle.md_answer.specs.declared.answer.Answer.TheVariants.{Table, Optimal, I
 use Rattle.md_parts.specs.declared.refusal.AnswerRefusal.{AnswerRefusal}
 use Rattle.md_check.specs.AuctionVerdicts.{IsAuctionVerdict}
 use Rattle.md_check.specs.Verdicts.{IsVerdict}
-use Rattle.md_check.specs.declared.verdict.Verdict.{Verdict}
-use Rattle.md_check.specs.declared.verdict.Verdict.TheVariants.{Valid}
+use Rattle.md_question_check.specs.declared.verdict.Verdict.{Verdict}
+use Rattle.md_question_check.specs.declared.verdict.Verdict.TheVariants.{Valid}
 use Rattle.md_check.proofs.AuctionLaws.{if_sound_auction}
 use Rattle.md_check.proofs.VerdictLaws.{sound-valid}
 use Rattle.md_cli_best.specs.AuctionHeadline.{IsAuctionHeadline}
@@ -39,13 +39,13 @@ module _ (s : GeneralSetting) where
   only-valid : (answer : Answer) (v : Verdict) → IsVerdict s answer Valid → IsVerdict s answer v → v ≡ Valid
   only-valid (Table m) v valid judged = absurd (let other = valid in cc)
   only-valid (Optimal value m bound) v valid judged =
-      sound-valid s valid.1.program (Optimal value m bound) v valid.1.is_program judged
-      (record { admissible = valid.0.admissible; value = valid.0.value; certified = valid.1.holds valid.1.program valid.1.is_program })
+      sound-valid s valid.2.program (Optimal value m bound) v valid.2.is_program judged
+      (record { admissible = valid.0.admissible; value = valid.0.value; certified = valid.2.holds valid.2.program valid.2.is_program })
   only-valid (Infeasible face) v valid judged =
       sound-valid s valid.program (Infeasible face) v valid.is_program judged (valid.holds valid.program valid.is_program)
   only-valid (Unbounded m ray) v valid judged =
-      sound-valid s valid.1.program (Unbounded m ray) v valid.1.is_program judged
-      (record { admissible = valid.0; certified = valid.1.holds valid.1.program valid.1.is_program })
+      sound-valid s valid.2.program (Unbounded m ray) v valid.2.is_program judged
+      (record { admissible = valid.0; certified = valid.2.holds valid.2.program valid.2.is_program })
   only-valid (AuctionOptimal value interim masses cuts bound) v valid judged = absurd valid
   only-valid (TooWide cuts first second) v valid judged = absurd (let other = valid in cc)
 

@@ -1,5 +1,5 @@
 -- What the answer of the fair program shows, by its kind.
-use Rattle.std.proofs.Common.{◌≡◌, ◌≢◌, ◌↔◌, ℕ, List, inl, inr, arith}
+use Rattle.std.proofs.Common.{◌≡◌, ◌≢◌, ◌↔◌, ℕ, List, Ok, inl, inr, arith}
 use Rattle.md_setting.specs.Setting.{GeneralSetting}
 use Rattle.md_lp.specs.Program.{Program}
 use Rattle.md_lp.specs.declared.pivot.Pivot.{Pivot}
@@ -21,8 +21,11 @@ use Rattle.md_fair.specs.Bounds.{HasNoLeastBound}
 use Rattle.md_fair.specs.FairProgram.{IsFairProgram}
 use Rattle.md_fair.specs.Fairest.{GrowsFair, IsOptimalFair}
 use Rattle.md_fair.specs.FairQuestion.{fair_question}
+use Rattle.md_fair.specs.FairRows.{text_of_fair}
+use Rattle.md_fair.specs.FairText.{fair_answer_of}
+use Rattle.md_fair.specs.declared.answer.FairAnswer.TheVariants.{Found, TooWide}
 use Rattle.md_fair.specs.Least.{IsLeastValueOf}
-use Rattle.md_cli_best.specs.Fair.{IsFairSaying, status_of_finding, text_of_fair, text_of_wide}
+use Rattle.md_cli_best.specs.Fair.{IsFairSaying, status_of_finding}
 use Rattle.md_cli_best.specs.Headline.{IsEndStatus}
 use Rattle.md_cli_driver.specs.Saying.{Saying}
 
@@ -78,8 +81,8 @@ no_bound-status s status (Unbounded m ray) is h = (λ _. h.0 tt, λ _. is)
 
 -- an answer
 pub of_answer : (s : GeneralSetting) (width : ℕ) (saying : Saying) (answer : Finding) → IsShownFair s width answer
-    → saying.status ≡ status_of_finding answer → saying.text ≡ text_of_fair s answer → IsFairSaying s width saying
-of_answer s width saying answer h is text =
+    → saying.status ≡ status_of_finding answer → saying.text ≡ text_of_fair s (Found answer) → fair_answer_of s saying.text ≡ Ok (Found answer) → IsFairSaying s width saying
+of_answer s width saying answer h is text reads =
     record {
       told = inl (record {
         answer = answer;
@@ -90,6 +93,7 @@ of_answer s width saying answer h is text =
         certified = h.certified;
         status = is;
         text = text;
+        read_back = reads;
       });
       wide = λ p program forward backward. absurd (h.wide p program forward backward);
       taken = λ p order pivots step program way. end-status saying.status answer is step (h.taken p order pivots step program way);
@@ -106,8 +110,8 @@ pub of_wide : (s : GeneralSetting) (width : ℕ) (saying : Saying) (first second
     → IsWideFor (fair_question s) width first second
     → ((p : Program) → IsFairProgram s p → IsLeft p width (errors.TooWide first second))
     → ((p : Program) (order : Order) (pivots : List Pivot) (step : Step) → IsFairProgram s p → IsTaken order p width pivots step → errors.TooWide first second ≡ errors.Memory)
-    → saying.status ≡ 12 → saying.text ≡ text_of_wide first second → IsFairSaying s width saying
-of_wide s width saying first second wide left taken is text =
+    → saying.status ≡ 12 → saying.text ≡ text_of_fair s (TooWide first second) → fair_answer_of s saying.text ≡ Ok (TooWide first second) → IsFairSaying s width saying
+of_wide s width saying first second wide left taken is text reads =
     record {
       told = inr (record {
         first = first;
@@ -117,6 +121,7 @@ of_wide s width saying first second wide left taken is text =
         backward = λ p program. (left p program).1;
         status = is;
         text = text;
+        read_back = reads;
       });
       wide = λ p program forward backward. is;
       taken = λ p order pivots step program way. absurd (not_memory first second (taken p order pivots step program way));

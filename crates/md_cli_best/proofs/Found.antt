@@ -1,8 +1,10 @@
 -- What is said of what was found, by its kind.
 use Rattle.std.proofs.Common.{◌≡◌, ◌↔◌, ℕ, ℤ, List, Ok, inl, inr, arith}
+use Rattle.md_math.proofs.SizeLaws.{IsWithin-zero}
 use Rattle.md_num.specs.declared.frac.Frac.{Frac}
 use Rattle.md_setting.specs.Setting.{GeneralSetting}
 use Rattle.md_mech.specs.declared.mechanism.Mechanism.{Mechanism}
+use Rattle.md_mech.specs.Accepted.{number_limit}
 use Rattle.md_mech.specs.Optimal.{IsOptimal}
 use Rattle.md_mech.specs.Value.{IsValueOf}
 use Rattle.md_cert.specs.declared.bound.Bound.{Bound}
@@ -14,7 +16,7 @@ use Rattle.md_question.specs.declared.finding.Finding.TheVariants.{Optimal, Infe
 use Rattle.md_answer.specs.Answers.{answer_of}
 use Rattle.md_answer.specs.declared.answer.Answer.TheVariants as answers
 use Rattle.md_check.specs.Verdicts.{IsVerdict}
-use Rattle.md_check.specs.declared.verdict.Verdict.TheVariants.{Valid}
+use Rattle.md_question_check.specs.declared.verdict.Verdict.TheVariants.{Valid}
 use Rattle.md_solve.specs.Answered.{ClaimsUnbounded}
 use Rattle.md_solve.specs.Bounds.{HasNoBound}
 use Rattle.md_solve.specs.Solved as solved
@@ -26,10 +28,11 @@ use Rattle.md_cli_best.proofs.Fairest.{none-status}
 
 -- ---- by any question
 
-module _ (q : Question) (text_of : Finding → List ℕ) (saying : Saying) where
-  pub said-found : (finding : Finding) → IsCertifiedFinding q finding → saying.status ≡ status_of_finding finding → saying.text ≡ text_of finding → IsFindingBy q text_of saying
-  said-found finding h is text = record {
-    told = inl (record { finding = finding; certified = h; status = is; text = text });
+module _ (q : Question) (text_of : Finding → List ℕ) (Reads : List ℕ → Finding → Type 0) (saying : Saying) where
+  pub said-found : (finding : Finding) → IsCertifiedFinding q finding → saying.status ≡ status_of_finding finding → saying.text ≡ text_of finding → Reads saying.text finding
+      → IsFindingBy q text_of Reads saying
+  said-found finding h is text reads = record {
+    told = inl (record { finding = finding; certified = h; status = is; text = text; read_back = reads });
     none = λ _. none-status q.setting saying.status finding is h.none;
   }
 
@@ -45,9 +48,9 @@ module _ (s : GeneralSetting) where
   valid (Optimal value m bound) h =
       let best : IsOptimal s m = h.so.0 in
       let is_value : IsValueOf s m value = h.so.1 in
-      (record { admissible = best.admissible; value = is_value.is_value }, record { program = h.program; is_program = h.is_program; holds = h.shown })
+      (record { admissible = best.admissible; value = is_value.is_value }, IsWithin-zero number_limit, record { program = h.program; is_program = h.is_program; holds = h.shown })
   valid (Infeasible face) h = record { program = h.program; is_program = h.is_program; holds = h.shown }
-  valid (Unbounded m ray) h = (h.admissible, record { program = h.program; is_program = h.is_program; holds = h.shown })
+  valid (Unbounded m ray) h = (h.admissible, IsWithin-zero number_limit, record { program = h.program; is_program = h.is_program; holds = h.shown })
 
   module _ (text : List ℕ) where
     prints-optimal : (value : Frac) (m : Mechanism) (bound : Bound) → IsCertifiedFinding (best_question s) (Optimal value m bound)

@@ -1,11 +1,13 @@
 -- What the answer of the solver shows, by its kind.
 use Rattle.std.proofs.Common.{◌≡◌, ◌↔◌, ℕ, ℤ, List, [], Ok, Option, None, Some, ap, ◌∙◌, subst, inl, inr, arith}
+use Rattle.md_math.proofs.SizeLaws.{IsWithin-zero}
 use Rattle.md_num.specs.declared.frac.Frac.{Frac}
 use Rattle.md_setting.specs.Setting.{GeneralSetting}
 use Rattle.md_lp.specs.Program.{Program}
 use Rattle.md_lp.specs.declared.pivot.Pivot.{Pivot}
 use Rattle.md_lp.specs.declared.wide.Wide.{Wide}
 use Rattle.md_mech.specs.declared.mechanism.Mechanism.{Mechanism}
+use Rattle.md_mech.specs.Accepted.{number_limit}
 use Rattle.md_mech.specs.Optimal.{Grows, IsInfeasible, IsOptimal}
 use Rattle.md_cert.specs.declared.bound.Bound.{Bound}
 use Rattle.md_mech.specs.Admissible.{IsAdmissible}
@@ -19,7 +21,7 @@ use Rattle.md_answer.specs.Answers.{answer_of}
 use Rattle.md_answer.specs.declared.answer.Answer.{Answer}
 use Rattle.md_answer.specs.declared.answer.Answer.TheVariants.{Table, Optimal, Infeasible, Unbounded, AuctionOptimal, TooWide}
 use Rattle.md_check.specs.Verdicts.{IsVerdict}
-use Rattle.md_check.specs.declared.verdict.Verdict.TheVariants.{Valid}
+use Rattle.md_question_check.specs.declared.verdict.Verdict.TheVariants.{Valid}
 use Rattle.md_solve.specs.Certifies.{IsCertifiedAnswer}
 use Rattle.md_solve.specs.Answered.{ClaimsEnd, ClaimsInfeasible, ClaimsUnbounded, IsMechanismAlone, IsTooWide, WhereInfeasible, WhereOptimal, WhereUnbounded}
 use Rattle.md_solve.specs.Bounds.{HasNoBound}
@@ -49,10 +51,11 @@ valid : (s : GeneralSetting) (width : ℕ) (answer : Answer) → IsShownBy s wid
 valid s width (Table m) h narrow = absurd (h.claims tt)
 valid s width (Optimal value m bound) h narrow = (
   record { admissible = h.optimal.admissible; value = h.value.is_value },
+  IsWithin-zero number_limit,
   record { program = h.solved.program; is_program = h.solved.is_program; holds = h.certified },
 )
 valid s width (Infeasible face) h narrow = record { program = h.solved.program; is_program = h.solved.is_program; holds = h.certified }
-valid s width (Unbounded m ray) h narrow = (h.admissible, record { program = h.solved.program; is_program = h.solved.is_program; holds = h.certified })
+valid s width (Unbounded m ray) h narrow = (h.admissible, IsWithin-zero number_limit, record { program = h.solved.program; is_program = h.solved.is_program; holds = h.certified })
 valid s width (AuctionOptimal value interim masses cuts bound) h narrow = absurd (h.certified h.solved.program h.solved.is_program)
 valid s width (TooWide cuts first second) h narrow = absurd (narrow tt)
 

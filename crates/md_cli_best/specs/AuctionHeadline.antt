@@ -17,7 +17,7 @@ use Rattle.md_claims.specs.AuctionClaims.{IsOptimalRule, mechanism_in}
 use Rattle.md_answer.specs.AuctionAnswers.{auction_answer_of}
 use Rattle.md_answer.specs.declared.answer.Answer.TheVariants.{AuctionOptimal, TooWide}
 use Rattle.md_check.specs.AuctionVerdicts.{IsAuctionVerdict}
-use Rattle.md_check.specs.declared.verdict.Verdict.TheVariants.{Valid}
+use Rattle.md_question_check.specs.declared.verdict.Verdict.TheVariants.{Valid}
 
 -- A mass table, which gives at most one item at each counts. Its mechanism with the payments is admissible, no admissible
 -- mechanism of the auction has a greater objective, whatever its denominator and however it treats the bidders, and it has

@@ -1,5 +1,5 @@
 -- What `find` and `findfair` say of a general setting: what is found off the two stated paths too, or that nothing was.
-use Rattle.std.specs.Prelude.{◌≡◌, ◌≢◌, ◌⊎◌, ◌↔◌, ℕ, List}
+use Rattle.std.specs.Prelude.{◌≡◌, ◌≢◌, ◌⊎◌, ◌↔◌, ℕ, List, Ok}
 use Rattle.md_setting.specs.Setting.{GeneralSetting}
 use Rattle.md_setting.specs.ByKind.{WhereGeneral}
 use Rattle.md_setting.specs.declared.file.SettingFile.{SettingFile}
@@ -8,24 +8,29 @@ use Rattle.md_question.specs.Best.{best_question}
 use Rattle.md_question.specs.Certified.{IsCertifiedFinding}
 use Rattle.md_question.specs.Question.{Question}
 use Rattle.md_question.specs.declared.finding.Finding.{Finding}
+use Rattle.md_answer.specs.Answers as answers
 use Rattle.md_answer.specs.Rows.{text_of_answer}
 use Rattle.md_solve.specs.Bounds.{HasNoBound}
 use Rattle.md_solve.specs.Solved.{answer_of}
 use Rattle.md_fair.specs.FairQuestion.{fair_question}
+use Rattle.md_fair.specs.FairRows.{text_of_fair}
+use Rattle.md_fair.specs.FairText.{fair_answer_of}
+use Rattle.md_fair.specs.declared.answer.FairAnswer.TheVariants.{Found}
 use Rattle.md_cli_driver.specs.Saying.{Saying}
 use Rattle.md_cli_judge.specs.Verdicts.{undecided_text}
-use Rattle.md_cli_best.specs.Fair.{status_of_finding, text_of_fair}
+use Rattle.md_cli_best.specs.Fair.{status_of_finding}
 use Rattle.md_cli_best.specs.Headline.{PrintsInfeasible, PrintsOptimal, PrintsUnbounded}
 
 -- ---- a question
 
--- What was found, in its records and with the status of its kind: what it claims is so, and its numbers show it. Which finding it
--- is of several is not said.
-pub record IsFound (q : Question) (text_of : Finding → List ℕ) (saying : Saying) : Type 0 where
+-- What was found, in its records, which read back as it, and with the status of its kind: what it claims is so, and its numbers show
+-- it. Which finding it is of several is not said.
+pub record IsFound (q : Question) (text_of : Finding → List ℕ) (Reads : List ℕ → Finding → Type 0) (saying : Saying) : Type 0 where
   pub finding : Finding
   pub certified : IsCertifiedFinding q finding
   pub status : saying.status ≡ status_of_finding finding
   pub text : saying.text ≡ text_of finding
+  pub read_back : Reads saying.text finding
 
 -- that nothing was, of which nothing follows
 pub record IsNotFound (saying : Saying) : Type 0 where
@@ -33,8 +38,8 @@ pub record IsNotFound (saying : Saying) : Type 0 where
   pub text : saying.text ≡ undecided_text
 
 -- One of these. Where it is not 22, the status tells exactly where no mechanism is admissible.
-pub record IsFindingBy (q : Question) (text_of : Finding → List ℕ) (saying : Saying) : Type 0 where
-  pub told : IsFound q text_of saying ⊎ IsNotFound saying
+pub record IsFindingBy (q : Question) (text_of : Finding → List ℕ) (Reads : List ℕ → Finding → Type 0) (saying : Saying) : Type 0 where
+  pub told : IsFound q text_of Reads saying ⊎ IsNotFound saying
   pub none : saying.status ≢ 22 → (saying.status ≡ 10) ↔ IsInfeasible q.setting
 
 -- the statuses of what is answered
@@ -55,7 +60,7 @@ pub record IsFindHeadline (s : GeneralSetting) (status : ℕ) (text : List ℕ) 
 
 -- the best mechanism of a setting, in the records of an answer of `solve`
 pub record IsFinding (s : GeneralSetting) (saying : Saying) : Type 0 where
-  pub told : IsFindingBy (best_question s) (λ finding. text_of_answer s (answer_of finding)) saying
+  pub told : IsFindingBy (best_question s) (λ finding. text_of_answer s (answer_of finding)) (λ text finding. answers.answer_of s text ≡ Ok (answer_of finding)) saying
   pub headline : IsFindHeadline s saying.status saying.text
 
 abbrev pub IsFind : SettingFile → Saying → Type 0
@@ -69,4 +74,4 @@ IsFindShownBy file status text = WhereGeneral (λ s. IsFindHeadline s status tex
 
 -- the fairest mechanism of a setting, in the records of `fair`
 abbrev pub IsFindFair : SettingFile → Saying → Type 0
-IsFindFair file saying = WhereGeneral (λ s. IsFindingBy (fair_question s) (text_of_fair s) saying) file
+IsFindFair file saying = WhereGeneral (λ s. IsFindingBy (fair_question s) (λ finding. text_of_fair s (Found finding)) (λ text finding. fair_answer_of s text ≡ Ok (Found finding)) saying) file

@@ -17,7 +17,7 @@ use Rattle.md_simplex.specs.Runs.{IsFirstWideOf, IsTaken, MeetsWideBasis}
 use Rattle.md_answer.specs.Answers.{answer_of}
 use Rattle.md_answer.specs.declared.answer.Answer.TheVariants.{Optimal, Infeasible, Unbounded, TooWide}
 use Rattle.md_check.specs.Verdicts.{IsVerdict}
-use Rattle.md_check.specs.declared.verdict.Verdict.TheVariants.{Valid}
+use Rattle.md_question_check.specs.declared.verdict.Verdict.TheVariants.{Valid}
 use Rattle.md_solve.specs.Bounds.{HasNoBound}
 use Rattle.md_mech.specs.Value.{IsValueOf}
 

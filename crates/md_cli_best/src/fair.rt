@@ -5,12 +5,13 @@ ghost use Rattle.md_cli_best.specs.Headline.{IsSolveStatus};
 ghost use Rattle.md_cli_driver.specs.Reading.{is_general};
 ghost use Rattle.md_cli_driver.specs.Saying.{said};
 
-use crate::fair_text::{answer_text, wide_text};
 use md_cli_driver::{
     Answered, DONE, INFEASIBLE, OneFile, Refusal, TOO_WIDE, UNBOUNDED, general, is_general,
 };
-use md_fair::{FairAnswer, solve_fair};
+use md_fair::{FairAnswer, write_fair};
+use md_fair_solve::solve_fair;
 use md_num::{NoMemory, Width};
+use md_question::Finding;
 use md_setting::{Setting, SettingFile};
 use md_simplex::SimplexError;
 use std::alloc::Global;
@@ -44,26 +45,26 @@ fn fairest(alloc: Global, setting: &Setting, width: Width) -> Result<Answered, N
     ensures status { IfOk result (λ answered. IsSolveStatus answered.status) }
 {
     match solve_fair(alloc, setting, width) {
-        Ok(answer) => Ok(Answered {
-            status: status(&answer),
-            text: answer_text(alloc, setting, &answer)?,
+        Ok(finding) => Ok(Answered {
+            status: status(&finding),
+            text: write_fair(alloc, setting, &FairAnswer::Found(finding))?,
         }),
         Err(SimplexError::TooWide { first, second }) => Ok(Answered {
             status: TOO_WIDE,
-            text: wide_text(alloc, &first, &second)?,
+            text: write_fair(alloc, setting, &FairAnswer::TooWide { first, second })?,
         }),
         Err(SimplexError::Memory) => Err(NoMemory),
     }
 }
 
 /// The status that tells which kind of answer it is.
-pub(crate) fn status(answer: &FairAnswer) -> u8
-    ensures value { result ≡ status_of_finding answer.now }
+pub(crate) fn status(finding: &Finding) -> u8
+    ensures value { result ≡ status_of_finding finding.now }
     ensures own { IsSolveStatus result }
 {
-    match answer {
-        FairAnswer::Optimal { .. } => DONE,
-        FairAnswer::Infeasible { .. } => INFEASIBLE,
-        FairAnswer::Unbounded { .. } => UNBOUNDED,
+    match finding {
+        Finding::Optimal { .. } => DONE,
+        Finding::Infeasible { .. } => INFEASIBLE,
+        Finding::Unbounded { .. } => UNBOUNDED,
     }
 }

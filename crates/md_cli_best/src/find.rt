@@ -8,10 +8,10 @@ ghost use Rattle.md_cli_driver.specs.Reading.{is_general};
 ghost use Rattle.md_cli_driver.specs.Saying.{said};
 
 use crate::fair::status;
-use crate::fair_text::answer_text;
 use md_answer::write_answer;
 use md_cli_driver::{Answered, OneFile, Refusal, UNDECIDED, general, is_general};
-use md_fair::find_fair;
+use md_fair::{FairAnswer, write_fair};
+use md_fair_solve::find_fair;
 use md_num::NoMemory;
 use md_question::Finding;
 use md_question_solve::find_question;
@@ -97,7 +97,7 @@ fn fairest(alloc: Global, file: &SettingFile) -> Result<Answered, NoMemory>
     match find_fair(alloc, setting)? {
         Some(finding) => Ok(Answered {
             status: status(&finding),
-            text: answer_text(alloc, setting, &finding)?,
+            text: write_fair(alloc, setting, &FairAnswer::Found(finding))?,
         }),
         None => not_found(alloc),
     }

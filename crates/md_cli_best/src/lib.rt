@@ -6,7 +6,6 @@ mod asym_text;
 mod determ;
 mod drill;
 mod fair;
-mod fair_text;
 mod find;
 mod iron;
 mod make;

@@ -5,8 +5,8 @@ use Rattle.md_setting.specs.Setting.{GeneralSetting}
 use Rattle.md_setting.specs.declared.file.SettingFile.{SettingFile}
 use Rattle.md_setting.specs.declared.file.SettingFile.TheVariants.{General, Auction}
 use Rattle.md_answer.specs.declared.answer.Answer.{Answer}
-use Rattle.md_check.specs.declared.verdict.Verdict.{Verdict}
-use Rattle.md_check.specs.declared.verdict.Verdict.TheVariants.{Valid, Undecided}
+use Rattle.md_question_check.specs.declared.verdict.Verdict.{Verdict}
+use Rattle.md_question_check.specs.declared.verdict.Verdict.TheVariants.{Valid, Undecided}
 use Rattle.md_check.specs.AuctionVerdicts.{AuctionClaimHolds, IsAuctionVerdict}
 use Rattle.md_check.specs.Verdicts.{ClaimHolds, ClaimsNothing, IsVerdict}
 use Rattle.md_tree.specs.declared.verdict.DetVerdict.{DetVerdict}

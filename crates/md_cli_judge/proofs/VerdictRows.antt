@@ -12,8 +12,16 @@ use Rattle.md_mech.specs.declared.mechanism.Mechanism.{Mechanism}
 use Rattle.md_mech.specs.Rows.{IsFirstBroken, conditions_of}
 use Rattle.md_answer.specs.declared.answer.Answer.{Answer}
 use Rattle.md_answer.specs.declared.answer.Answer.TheVariants.{Table, Optimal, Infeasible, Unbounded, AuctionOptimal, TooWide}
-use Rattle.md_check.specs.declared.verdict.Reject.TheVariants.{Audit}
-use Rattle.md_check.specs.declared.verdict.Verdict.TheVariants.{Rejected}
+use Rattle.md_question_check.specs.declared.verdict.Reject.TheVariants.{Audit}
+use Rattle.md_question_check.specs.declared.verdict.Verdict.TheVariants.{Rejected}
+use Rattle.md_question.specs.Question.{Question}
+use Rattle.md_question.specs.declared.finding.Finding.{Finding}
+use Rattle.md_question.specs.declared.finding.Finding.TheVariants as findings
+use Rattle.md_question_check.specs.Verdicts.{IsVerdictOn as IsVerdictOnFinding}
+use Rattle.md_fair.specs.FairQuestion.{fair_question}
+use Rattle.md_fair.specs.FairVerdicts.{IsFairVerdict}
+use Rattle.md_fair.specs.declared.answer.FairAnswer.{FairAnswer}
+use Rattle.md_fair.specs.declared.answer.FairAnswer.TheVariants as fair
 use Rattle.md_check.specs.AuctionVerdicts.{IsAuctionVerdict}
 use Rattle.md_check.specs.Verdicts.{IsVerdict}
 use Rattle.md_cli_judge.specs.Checking.{IsVerdictOn}
@@ -44,6 +52,15 @@ told-in_auction a (TooWide cuts first second) broken h = let e = h in cc
 pub told-in : (file : SettingFile) (answer : Answer) (broken : Broken) → IsVerdictOn file answer (Rejected (Audit broken)) → IsBrokenRow file broken
 told-in (General s) answer broken h = told-in_general s answer broken h
 told-in (Auction a) answer broken h = told-in_auction a answer broken h
+
+told-in_question : (q : Question) (finding : Finding) (broken : Broken) → IsVerdictOnFinding q finding (Rejected (Audit broken)) → broken.row < length (conditions_of q.setting)
+told-in_question q (findings.Optimal value m bound) broken h = first-in q.setting m broken h
+told-in_question q (findings.Infeasible face) broken h = absurd (h.holds h.program h.is_program)
+told-in_question q (findings.Unbounded m ray) broken h = first-in q.setting m broken h
+
+pub told-in_fair : (s : GeneralSetting) (answer : FairAnswer) (broken : Broken) → IsFairVerdict s answer (Rejected (Audit broken)) → broken.row < length (conditions_of s)
+told-in_fair s (fair.Found finding) broken h = told-in_question (fair_question s) finding broken h
+told-in_fair s (fair.TooWide first second) broken h = absurd (let e = h in cc)
 
 -- only a general setting has rows that a mechanism breaks
 pub broken-general : (file : SettingFile) (broken : Broken) → IsBrokenRow file broken → IsGeneral file

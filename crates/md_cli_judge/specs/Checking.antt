@@ -1,10 +1,10 @@
 -- What `check` says of a setting and of the answer that a second file says.
-use Rattle.std.specs.Prelude.{◌≡◌, ◌⊎◌, ◌↔◌, ℕ}
+use Rattle.std.specs.Prelude.{◌≡◌, ◌↔◌}
 use Rattle.md_setting.specs.declared.file.SettingFile.{SettingFile}
 use Rattle.md_setting.specs.declared.file.SettingFile.TheVariants.{General, Auction}
 use Rattle.md_answer.specs.declared.answer.Answer.{Answer}
-use Rattle.md_check.specs.declared.verdict.Verdict.{Verdict}
-use Rattle.md_check.specs.declared.verdict.Verdict.TheVariants.{Valid, Undecided}
+use Rattle.md_question_check.specs.declared.verdict.Verdict.{Verdict}
+use Rattle.md_question_check.specs.declared.verdict.Verdict.TheVariants.{Valid, Undecided}
 use Rattle.md_check.specs.AuctionVerdicts.{AuctionClaimHolds, IsAuctionVerdict}
 use Rattle.md_check.specs.Verdicts.{ClaimHolds, ClaimsNothing, IsVerdict}
 use Rattle.md_cli_driver.specs.Saying.{Saying}
@@ -29,7 +29,3 @@ pub record IsCheck (file : SettingFile) (answer : Answer) (saying : Saying) : Ty
   pub claim : verdict ≡ Valid → ClaimHoldsOf file answer
   pub undecided : (verdict ≡ Undecided) ↔ ClaimsNothing answer
   pub told : TellsVerdict file verdict saying
-
--- the statuses of what is answered
-abbrev pub IsCheckStatus : ℕ → Type 0
-IsCheckStatus status = (status ≡ 0) ⊎ ((status ≡ 20) ⊎ (status ≡ 22))

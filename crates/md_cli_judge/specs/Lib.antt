@@ -2,4 +2,5 @@ pub mod Verdicts
 pub mod Checking
 pub mod DetermVerdicts
 pub mod DetermChecking
+pub mod FairChecking
 pub mod Auditing

@@ -1,5 +1,5 @@
 -- What is said of the verdict on an answer.
-use Rattle.std.specs.Prelude.{◌≡◌, ◌<◌, ◌++◌, ◌∷◌, [], ℕ, pos, List, Some, codes, length, slice_get}
+use Rattle.std.specs.Prelude.{◌≡◌, ◌⊎◌, ◌<◌, ◌++◌, ◌∷◌, [], ℕ, pos, List, Some, codes, length, slice_get}
 use Rattle.md_num.specs.WholeText.{text_of}
 use Rattle.md_records.specs.Written.{record_text}
 use Rattle.md_setting.specs.declared.file.SettingFile.{SettingFile}
@@ -7,10 +7,10 @@ use Rattle.md_setting.specs.declared.file.SettingFile.TheVariants.{General, Auct
 use Rattle.md_mech.specs.declared.broken.Broken.{Broken}
 use Rattle.md_mech.specs.Rows.{Condition, conditions_of}
 use Rattle.md_mech.specs.RowName.{name_of}
-use Rattle.md_check.specs.declared.verdict.Reject.{Reject}
-use Rattle.md_check.specs.declared.verdict.Reject.TheVariants.{Audit, Value, Pair, Column, FaceRight, MainRight, RayRow, RayGain, Masses, Reduced}
-use Rattle.md_check.specs.declared.verdict.Verdict.{Verdict}
-use Rattle.md_check.specs.declared.verdict.Verdict.TheVariants.{Valid, Undecided, Rejected}
+use Rattle.md_question_check.specs.declared.verdict.Reject.{Reject}
+use Rattle.md_question_check.specs.declared.verdict.Reject.TheVariants.{Audit, Value, Pair, Column, FaceRight, MainRight, RayRow, RayGain, Masses, Reduced, Level}
+use Rattle.md_question_check.specs.declared.verdict.Verdict.{Verdict}
+use Rattle.md_question_check.specs.declared.verdict.Verdict.TheVariants.{Valid, Undecided, Rejected}
 use Rattle.md_cli_driver.specs.Saying.{Saying}
 
 abbrev pub valid_text : List ℕ
@@ -45,6 +45,7 @@ IsRejected file (RayRow row sum) fields = fields ≡ rejected (codes "7") (text_
 IsRejected file (RayGain sum) fields = fields ≡ rejected (codes "8") (text_of sum ∷ [])
 IsRejected file (Masses kind sum demand) fields = fields ≡ rejected (codes "9") (text_of (pos kind) ∷ text_of sum ∷ text_of demand ∷ [])
 IsRejected file (Reduced row left right) fields = fields ≡ rejected (codes "10") (text_of (pos row) ∷ text_of left ∷ text_of right ∷ [])
+IsRejected file (Level level) fields = fields ≡ rejected (codes "11") (text_of level ∷ [])
 
 -- an answer is rejected with the record of the first condition that fails
 pub record IsRejectedSaying (file : SettingFile) (reject : Reject) (saying : Saying) : Type 0 where
@@ -57,3 +58,7 @@ abbrev pub TellsVerdict : SettingFile → Verdict → Saying → Type 0
 TellsVerdict file Valid saying = (saying.status ≡ 0) × (saying.text ≡ valid_text)
 TellsVerdict file Undecided saying = (saying.status ≡ 22) × (saying.text ≡ undecided_text)
 TellsVerdict file (Rejected reject) saying = IsRejectedSaying file reject saying
+
+-- the statuses of what is said
+abbrev pub IsCheckStatus : ℕ → Type 0
+IsCheckStatus status = (status ≡ 0) ⊎ ((status ≡ 20) ⊎ (status ≡ 22))

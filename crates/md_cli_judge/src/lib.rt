@@ -5,9 +5,12 @@ mod answer_text;
 mod audit;
 mod check;
 mod determ_check;
+mod fair_check;
 mod records;
+mod verdict_text;
 
 pub use answer_text::AnswerText;
 pub use audit::Audit;
 pub use check::Check;
 pub use determ_check::DetermCheck;
+pub use fair_check::FairCheck;

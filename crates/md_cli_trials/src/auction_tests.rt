@@ -67,7 +67,7 @@ const CHECK: &[&str] = &["check", "setting", "second"];
 const SOLVE: &[&str] = &["solve", "setting"];
 
 // The multipliers of answers are what a separate program makes of the rules for paths.
-static CASES: [Case; 24] = [
+static CASES: [Case; 25] = [
     (SOLVE, ONE_BUYER, "", 0, ONE_BUYER_ANSWER, ""),
     (
         SOLVE,
@@ -232,6 +232,14 @@ static CASES: [Case; 24] = [
         66,
         "",
         "mechdes: answer refused: line 1: field 2\n",
+    ),
+    (
+        &["faircheck", "setting", "second"],
+        TWO_BIDDERS,
+        "",
+        65,
+        "",
+        "mechdes: setting refused: other kind\n",
     ),
     (
         &["determcheck", "setting", "second"],

@@ -28,6 +28,9 @@ pub(crate) const PRICE_ABOVE_VALUE: &str =
 /// No mechanism gives the agent what it has outside, as the first row shows.
 const REACH_TREE: &str = "answer,1,determ,infeasible\nleaf,infeasible\nrow,0,1\nend\n";
 
+/// As the first row shows.
+const REACH_FAIR: &str = "answer,1,fair,infeasible\nrow,0,1\nend\n";
+
 /// The first voter decides.
 pub(crate) const FIRST_VOTER: &str =
     "answer,1,general,table\ntable,1\nlottery,l,l,1,0\nlottery,l,r,1,0\nlottery,r,l,0,1\nlottery,r,r,0,1\nend\n";
@@ -40,7 +43,7 @@ const HIGHER_VALUE: &str = "interim,4\nodds,0,3\nend\n";
 
 const ALWAYS: &str = "interim,1\nodds,1,1\nend\n";
 
-static FILES: [(&str, &str); 16] = [
+static FILES: [(&str, &str); 17] = [
     ("one", ONE_TYPE),
     ("one-table", ONE_TYPE_TABLE),
     ("price", POSTED_PRICE),
@@ -51,6 +54,7 @@ static FILES: [(&str, &str); 16] = [
     ("first", FIRST_VOTER),
     ("reach", OUT_OF_REACH),
     ("reach-tree", REACH_TREE),
+    ("reach-fair", REACH_FAIR),
     ("buyer", ONE_BUYER),
     ("buyer-answer", ONE_BUYER_ANSWER),
     ("bidders", TWO_BIDDERS),
@@ -60,7 +64,7 @@ static FILES: [(&str, &str); 16] = [
 ];
 
 /// The calls. The last ones are refused.
-pub(crate) static CALLS: [Call; 36] = [
+pub(crate) static CALLS: [Call; 37] = [
     (&["audit", "one", "one-table"], 2, 0, "admissible\n"),
     (
         &["audit", "price", "above"],
@@ -156,6 +160,7 @@ pub(crate) static CALLS: [Call; 36] = [
         "answer,1,determ,infeasible\nleaf,infeasible\nrow,0,1\nend\n",
     ),
     (&["determcheck", "reach", "reach-tree"], 2, 0, "valid\n"),
+    (&["faircheck", "reach", "reach-fair"], 2, 0, "valid\n"),
     (&["make", "2"], 0, 0, "format = \"mechanism-setting\"\n"),
     (&["drill", "2"], 0, 0, "drill,2,general,optimal,"),
     (

@@ -8,7 +8,7 @@ use std::alloc::{AllocError, Global};
 use std::test::Fail;
 
 // A command, a setting, its second file, and the status of the whole file.
-static FILES: [(&str, &str, &str, u8); 12] = [
+static FILES: [(&str, &str, &str, u8); 14] = [
     ("check", POSTED_PRICE, POSTED_PRICE_ANSWER, 0),
     (
         "check",
@@ -45,6 +45,18 @@ static FILES: [(&str, &str, &str, u8); 12] = [
         "determcheck",
         POSTED_PRICE,
         "answer,1,determ,toowide\nfix,0,1\nfix,1,0\npivot,4,0\nwide,3,3,-25,5\nagain\nwide,1,1,20,1\nend\n",
+        22,
+    ),
+    (
+        "faircheck",
+        TAKING,
+        "answer,1,fair,unbounded\ntable,1\nlottery,t,1\npay,t,0\nray,t,-1\nend\n",
+        0,
+    ),
+    (
+        "faircheck",
+        POSTED_PRICE,
+        "answer,1,fair,toowide\npivot,4,0\nwide,1,1,20,1\nagain\nwide,1,1,20,1\nend\n",
         22,
     ),
     (

@@ -178,13 +178,20 @@ static FAIREST: [(&str, u8, &str); 6] = [
 ];
 
 #[test]
-fn finds_the_fairest(rt: HostRuntime) -> Result<(), Fail> {
+fn finds_the_fairest_and_checks_what_it_printed(rt: HostRuntime) -> Result<(), Fail> {
     let alloc = rt.alloc();
     for (setting, status, printed) in &FAIREST {
         let found = carried_out(alloc, &["findfair", "setting"], setting, b"")?;
         assert_eq!(rt; found.status, *status, "at {setting}");
         assert!(rt; is_told(found.out.bytes(), printed), "at {setting}");
         assert!(rt; found.err.bytes().is_empty(), "at {setting}");
+        let checked = carried_out(
+            alloc,
+            &["faircheck", "setting", "second"],
+            setting,
+            found.out.bytes(),
+        )?;
+        assert!(rt; checked.out.bytes() == "valid\n".as_bytes(), "at {setting}");
     }
     Ok(())
 }

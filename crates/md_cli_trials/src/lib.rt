@@ -16,6 +16,8 @@ mod failing;
 #[cfg(test)]
 mod fair_tests;
 #[cfg(test)]
+mod faircheck_tests;
+#[cfg(test)]
 mod finding_tests;
 #[cfg(test)]
 mod forged;

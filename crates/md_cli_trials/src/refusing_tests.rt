@@ -654,6 +654,57 @@ static TREES: [Case; 18] = [
     ),
 ];
 
+const NONE_FAIR: &str = "answer,1,fair,infeasible\n";
+
+const FAIREST: &str = "answer,1,fair,optimal\n";
+
+// Answers about the fairest mechanism. The program of a setting with two profiles and one agent has two rows of truth, two of
+// rationality, two of the profiles, and one of the agent.
+static FAIR_ANSWERS: [Case; 12] = [
+    (POSTED_PRICE, "", "", "line 0: ended"),
+    (
+        POSTED_PRICE,
+        "",
+        "answer,2,fair,infeasible\nend\n",
+        "line 1: field 4",
+    ),
+    (
+        POSTED_PRICE,
+        "",
+        "answer,1,general,infeasible\nend\n",
+        "line 1: field 3",
+    ),
+    (
+        POSTED_PRICE,
+        "",
+        "answer,1,fair,table\ntable,1\nend\n",
+        "line 1: field 4",
+    ),
+    (POSTED_PRICE, NONE_FAIR, "row,6,1\n", "line 2: ended"),
+    (POSTED_PRICE, NONE_FAIR, "row,7,1\n", "line 2: field 2"),
+    (
+        POSTED_PRICE,
+        NONE_FAIR,
+        "row,1,1\nrow,1,1\n",
+        "line 3: field 2",
+    ),
+    (POSTED_PRICE, NONE_FAIR, "row,1,1,1\n", "line 2: record"),
+    (POSTED_PRICE, FAIREST, "value,1,0\n", "line 2: field 3"),
+    (POSTED_PRICE, FAIREST, "table,1\n", "line 2: record"),
+    (
+        POSTED_PRICE,
+        FAIREST,
+        "value,1,1\ntable,2\nlottery,low,1,0\n",
+        "line 4: sum",
+    ),
+    (
+        POSTED_PRICE,
+        "",
+        "answer,1,fair,toowide\nwide,1,1,20,1\nend\n",
+        "line 3: record",
+    ),
+];
+
 // Whether a second file is refused for that reason by a command over a setting and the file.
 fn is_refused(alloc: Global, command: &str, case: &Case) -> Result<bool, AllocError> {
     let (setting, front, rest, line) = *case;
@@ -683,5 +734,6 @@ fn tells_the_first_reason_to_refuse(rt: HostRuntime) -> Result<(), Fail> {
     assert_eq!(rt; first_other(alloc, "realise", &ODDS)?, None);
     assert_eq!(rt; first_other(alloc, "replay", &PIVOTS)?, None);
     assert_eq!(rt; first_other(alloc, "determcheck", &TREES)?, None);
+    assert_eq!(rt; first_other(alloc, "faircheck", &FAIR_ANSWERS)?, None);
     Ok(())
 }

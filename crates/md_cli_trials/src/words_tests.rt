@@ -10,7 +10,7 @@ const READ: &str = "mechdes: read fault\n";
 
 // Words, the status, and what is said. Words that are a command over files say that these could not be read, since no file has
 // their names.
-static WORDS: [(&[&str], u8, &str); 74] = [
+static WORDS: [(&[&str], u8, &str); 76] = [
     (&["make", "1000000"], 67, NUMBER),
     (&["drill", "1000000"], 67, NUMBER),
     (&["make", "--", "-1"], 67, NUMBER),
@@ -78,6 +78,7 @@ static WORDS: [(&[&str], u8, &str); 74] = [
     (&["asym", "a", "b"], 64, USAGE),
     (&["determ", "a", "b"], 64, USAGE),
     (&["determcheck", "a"], 64, USAGE),
+    (&["faircheck", "a"], 64, USAGE),
     (&["solve"], 64, USAGE),
     (&["find"], 64, USAGE),
     (&["findfair"], 64, USAGE),
@@ -97,6 +98,7 @@ static WORDS: [(&[&str], u8, &str); 74] = [
     (&["findfair", "--width=62", "a"], 64, USAGE),
     (&["report", "a", "b", "--width", "4"], 64, USAGE),
     (&["determcheck", "a", "b", "--width", "4"], 64, USAGE),
+    (&["faircheck", "a", "b", "--width", "4"], 64, USAGE),
 ];
 
 #[test]

@@ -9,6 +9,7 @@
 --   fair SETTING [--width W]
 --   find SETTING
 --   findfair SETTING
+--   faircheck SETTING ANSWER
 --   asym SETTING [--width W]
 --   units SETTING NUMBER [--width W]
 --   determ SETTING [--width W]
@@ -22,7 +23,7 @@ use Rattle.std.specs.Prelude.{List, [], ◌∷◌, Option, Some, None, codes, if
 use Rattle.std.specs.Str.{bytes_eq}
 use Rattle.clap.specs.Words.{Text}
 use Rattle.md_cli_words.specs.declared.command.Command.{Command}
-use Rattle.md_cli_words.specs.declared.command.Command.TheVariants.{Audit, Rows, Check, Solve, Replay, Realise, Fair, Find, FindFair, Asym, Units, Determ, DetermCheck, Run, Report, Iron, Make, Drill}
+use Rattle.md_cli_words.specs.declared.command.Command.TheVariants.{Audit, Rows, Check, Solve, Replay, Realise, Fair, Find, FindFair, FairCheck, Asym, Units, Determ, DetermCheck, Run, Report, Iron, Make, Drill}
 use Rattle.md_cli_words.specs.declared.form.Form.{Form}
 use Rattle.md_cli_words.specs.declared.form.Form.TheVariants.{One, OneWidth, Two, TwoWidth, NumberWidth, Draws, Number}
 
@@ -39,6 +40,7 @@ command_named word =
     else (if bytes_eq word (codes "fair") then Some Fair
     else (if bytes_eq word (codes "find") then Some Find
     else (if bytes_eq word (codes "findfair") then Some FindFair
+    else (if bytes_eq word (codes "faircheck") then Some FairCheck
     else (if bytes_eq word (codes "asym") then Some Asym
     else (if bytes_eq word (codes "units") then Some Units
     else (if bytes_eq word (codes "determ") then Some Determ
@@ -48,7 +50,7 @@ command_named word =
     else (if bytes_eq word (codes "iron") then Some Iron
     else (if bytes_eq word (codes "make") then Some Make
     else (if bytes_eq word (codes "drill") then Some Drill
-    else None)))))))))))))))))
+    else None))))))))))))))))))
 
 -- the command that the first word names; none where there is no word, or it is no name
 abbrev pub command_in : List Text → Option Command
@@ -66,6 +68,7 @@ form_of Realise = Two
 form_of Fair = OneWidth
 form_of Find = One
 form_of FindFair = One
+form_of FairCheck = Two
 form_of Asym = OneWidth
 form_of Units = NumberWidth
 form_of Determ = OneWidth

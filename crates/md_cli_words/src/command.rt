@@ -25,6 +25,8 @@ pub enum Command {
     Find,
     /// `findfair SETTING` finds the fairest mechanism of a setting, off the stated paths too.
     FindFair,
+    /// `faircheck SETTING ANSWER` checks an answer about the fairest mechanism of a setting.
+    FairCheck,
     /// `asym SETTING [--width W]` solves the sale of one item to bidders who differ within a width.
     Asym,
     /// `units SETTING NUMBER [--width W]` sells so many units to the bidders of an auction within a width.
@@ -66,6 +68,7 @@ fn named(word: &str) -> Option<Command>
         "fair" => Some(Command::Fair),
         "find" => Some(Command::Find),
         "findfair" => Some(Command::FindFair),
+        "faircheck" => Some(Command::FairCheck),
         "asym" => Some(Command::Asym),
         "units" => Some(Command::Units),
         "determ" => Some(Command::Determ),
@@ -89,6 +92,7 @@ pub(crate) fn form(command: Command) -> Form
         Command::Audit
         | Command::Check
         | Command::Realise
+        | Command::FairCheck
         | Command::DetermCheck
         | Command::Report => Form::Two,
         Command::Replay => Form::TwoWidth,

@@ -1,27 +1,31 @@
 -- What is so of a setting where an answer tells a certificate of its fair program.
-use Rattle.std.proofs.Common.{◌≡◌, ℕ, suc, ◌+◌, ◌*◌, ◌<◌, ℤ, pos, ◌+ℤ◌, ◌-ℤ◌, ◌*ℤ◌, ◌≤ℤ◌, ◌<ℤ◌, List, [], ◌∷◌, length, get_or, All, refl, sym, ap, ◌∙◌, subst, arith}
+use Rattle.std.proofs.Common.{◌≡◌, ◌↔◌, ℕ, zero, suc, ◌+◌, ◌*◌, ◌<◌, ℤ, pos, ◌+ℤ◌, ◌-ℤ◌, ◌*ℤ◌, ◌≤ℤ◌, ◌<ℤ◌, List, [], ◌∷◌, length, get_or, All, refl, sym, ap, ◌∙◌, subst, arith}
 use lib.IntN.{*ℤ_comm}
 use Rattle.std.proofs.lemmas.Int.{ints}
 use Rattle.std.proofs.lemmas.List.{get_or_default}
-use Rattle.std.proofs.lemmas.List.Elements.{All-append, All-nil}
+use Rattle.std.proofs.lemmas.List.Elements.{All-append, All-cons, All-head, All-nil, All-tail}
 use Rattle.md_math.specs.Lists.{number_at}
-use Rattle.md_math.proofs.Builders.{All-right}
-use Rattle.md_math.proofs.Order.{*ℤ-le, *ℤ_cancel, ≤ℤ_antisymm, positive-*ℤ, le_from_lt, le_from_*ℤ}
+use Rattle.md_math.proofs.Builders.{All-left, All-list_to, All-right}
+use Rattle.md_math.proofs.Order.{*ℤ-le, *ℤ_cancel, ≤ℤ_antisymm, positive-*ℤ, positive_from_*ℤ, le_from_*ℤ}
 use Rattle.md_math.proofs.Ring.{linear, ring, one-*ℤ, *ℤ-one, *ℤ-zero, zero-*ℤ}
 use Rattle.md_math.proofs.SumLaws.{dot-+ℤ, dot-*ℤ}
+use Rattle.md_math.proofs.TotalLaws.{total_by-same}
 use Rattle.md_setting.specs.Setting.{GeneralSetting}
-use Rattle.md_setting.specs.Meaning.{agent_count, outcome_count, sizes_of}
+use Rattle.md_setting.specs.Meaning.{agent_count, outcome_count, sizes_of, weight_of}
 use Rattle.md_setting.specs.Rows.{column_count}
 use Rattle.md_space.specs.Profiles.{profile_count}
+use Rattle.md_space.specs.AllProfiles.{profiles_of}
+use Rattle.md_space.proofs.InOrder.{All-profiles_of}
 use Rattle.md_mech.specs.declared.mechanism.Mechanism.{Mechanism}
 use Rattle.md_mech.specs.Admissible.{IsAdmissible}
 use Rattle.md_mech.specs.Optimal.{IsInfeasible, raised}
-use Rattle.md_mech.specs.Rows.{conditions_of}
-use Rattle.md_lp.specs.declared.row_kind.RowKind.TheVariants.{AtMost}
-use Rattle.md_lp.specs.Program.{Program, Row, left_of, value_of}
+use Rattle.md_mech.specs.Rows.{Condition, conditions_of}
+use Rattle.md_lp.specs.declared.row_kind.RowKind.{RowKind}
+use Rattle.md_lp.specs.declared.row_kind.RowKind.TheVariants.{AtMost, Exact}
+use Rattle.md_lp.specs.Program.{Keeps, Program, Row, kind_at, left_of, row_at, value_of}
 use Rattle.md_lp.specs.Point.{Meets, cost_sum}
-use Rattle.md_lp.proofs.Dividing.{IsDivisorFor-positive}
-use Rattle.md_cert.specs.Certified.{IsOptimalCertified, IsUnboundedCertified}
+use Rattle.md_lp.proofs.Dividing.{IsDivisorFor-positive, Keeps-times}
+use Rattle.md_cert.specs.Certified.{Certified, IsOptimalCertified, IsUnboundedCertified}
 use Rattle.md_cert.specs.Claims.{IsOptimalPoint, HasNoPoint, GrowsAlong, along}
 use Rattle.md_cert.specs.Pairs.{RayKeeps}
 use Rattle.md_cert.specs.declared.bound.Bound.{Bound}
@@ -30,19 +34,27 @@ use Rattle.md_forms.specs.Forms.{Form, unit, number_of}
 use Rattle.md_forms.specs.ProgramOf.{IsRowOf, AreRowsOf}
 use Rattle.md_forms.proofs.PointLaws.{all-one}
 use Rattle.md_rows.specs.Points.{mechanism_of}
-use Rattle.md_rows.specs.ProgramOf.{forms_of}
+use Rattle.md_rows.specs.ProgramOf.{form_of, forms_of}
+use Rattle.md_rows.specs.Sides.{utility_in}
+use Rattle.md_rows.proofs.Law.{IsPlaced, conditions-placed}
 use Rattle.md_rows.proofs.PointLaws.{agrees-mechanism_of}
-use Rattle.md_claims.specs.Rays.{pays_along}
+use Rattle.md_claims.specs.Rays.{pays_along, ray_of}
 use Rattle.md_cert.proofs.AffineLaws.{best-affine}
 use Rattle.md_claims.proofs.RayLaws.{mechanism-along, ray-at_chance}
-use Rattle.md_fair.specs.Certifies.{IsCertifiedFair}
+use Rattle.md_question.specs.Question.{optimal_certificate, unbounded_certificate}
+use Rattle.md_question.proofs.PointCertificates.{along_pays, ray-nonneg, same-ray}
+use Rattle.md_question.proofs.RayFits.{ray-length}
+use Rattle.md_question.proofs.SameForms.{IsSameForm, side-same, utility-same}
 use Rattle.md_fair.specs.Fairest.{GainsLeast, GrowsFair, IsOptimalFair}
-use Rattle.md_fair.specs.FairPoints.{fair_point_of}
+use Rattle.md_fair.specs.FairPoints.{fair_point_of, fair_ray_of}
 use Rattle.md_fair.specs.FairProgram.{agent_form, agent_forms, fair_forms, lag_in, level_in, mean_in, IsFairProgram}
-use Rattle.md_fair.specs.Least.{IsLeast}
+use Rattle.md_fair.specs.FairQuestion.{fair_question}
+use Rattle.md_fair.specs.Least.{IsLeast, least_of}
 use Rattle.md_fair.specs.Mean.{mean_of}
-use Rattle.md_fair.proofs.LeastLaws.{below-least, has-least}
-use Rattle.md_fair.proofs.PointLaws.{admitted, admits-fair, agent-at, level-meets, level-there, mean-agrees}
+use Rattle.md_fair.proofs.LeastLaws.{below-least, has-least, is-least}
+use Rattle.md_fair.proofs.LevelLaws.{level-nonneg, level-there, own-below}
+use Rattle.md_fair.proofs.PointLaws.{admitted, admits-fair, agent-at, level-meets, mean-agrees, point-level}
+use Rattle.md_fair.proofs.SameNumbers.{same-form}
 
 -- ---- rows of forms
 
@@ -59,6 +71,31 @@ each-has_row n Q (f ∷ fs) [] are h = absurd are
 each-has_row n Q (f ∷ fs) (row ∷ rows) are h =
     All-append (HasRow n Q) (f ∷ []) fs (all-one (HasRow n Q) f (record { row = row; is = are.0; holds = h 0 row (omega arith) }))
     (each-has_row n Q fs rows are.1 (λ r d b. h (suc r) d (omega arith)))
+
+-- what a ray gives a form: at most 0, or exactly 0
+abbrev FormKeeps : (ℕ → ℤ) → Form → Type 0
+FormKeeps ray form = RayKeeps form.kind (form.left ray)
+
+ray-keeps : (kind : RowKind) (z : ℤ) → Keeps kind z (pos 0) ↔ RayKeeps kind z
+ray-keeps AtMost z = (λ h. h, λ h. h)
+ray-keeps Exact z = (λ h. h, λ h. h)
+
+-- a ray keeps a row exactly where it keeps the form
+row-keeps : (n : ℕ) (form : Form) (row : Row) (ray : ℕ → ℤ) → IsRowOf n form row → RayKeeps row.kind (left_of n row ray) ↔ FormKeeps ray form
+row-keeps n form row ray r =
+    let above : pos 0 <ℤ r.by = IsDivisorFor-positive (suc n) (number_of form) r.by r.divisor in
+    let both = subst (λ z. Keeps form.kind (r.by *ℤ left_of n row ray) z ↔ Keeps form.kind (left_of n row ray) (pos 0)) (*ℤ-zero r.by) (Keeps-times form.kind r.by (left_of n row ray) (pos 0) above) in
+    let scaled = ray-keeps form.kind (r.by *ℤ left_of n row ray) in
+    let plain = ray-keeps form.kind (left_of n row ray) in
+    rw (r.kind, r.left ray) (λ h. scaled.0 (both.1 (plain.1 h)), λ h. plain.0 (both.0 (scaled.1 h)))
+
+keeps-rows : (n : ℕ) (fs : List Form) (rows : List Row) (ray : ℕ → ℤ) → AreRowsOf n fs rows → All (FormKeeps ray) fs
+    → (r : ℕ) (d : Row) → r < length rows → RayKeeps (get_or rows r d).kind (left_of n (get_or rows r d) ray)
+keeps-rows n [] [] ray are h r d b = absurd (omega arith)
+keeps-rows n [] (row ∷ rows) ray are h r d b = absurd are
+keeps-rows n (f ∷ fs) [] ray are h r d b = absurd are
+keeps-rows n (f ∷ fs) (row ∷ rows) ray are h zero d b = (row-keeps n f row ray are.0).1 (All-head (FormKeeps ray) f fs h)
+keeps-rows n (f ∷ fs) (row ∷ rows) ray are h (suc r) d b = keeps-rows n fs rows ray are.1 (All-tail (FormKeeps ray) f fs h) r d (omega arith)
 
 -- what a ray adds to a left side
 left-along : (n : ℕ) (row : Row) (x ray : ℕ → ℤ) (k : ℕ) → left_of n row (along x k ray) ≡ left_of n row x +ℤ pos k *ℤ left_of n row ray
@@ -96,7 +133,7 @@ module _ (s : GeneralSetting) (p : Program) (is : IsFairProgram s p) (some : 0 <
         other.den (number_at (fair_point_of s other level)) level
         (record {
           meets = subst (λ d. Meets p d (number_at (fair_point_of s other level))) (sym (one-*ℤ other.den)) (level-meets s other level admissible.mechanism p is admissible reaches);
-          costs = one-*ℤ level ∙ sym (level-there s other level admissible.mechanism) ∙ is.has_cost.cost_is (number_at (fair_point_of s other level))
+          costs = one-*ℤ level ∙ sym (point-level s other level admissible.mechanism) ∙ is.has_cost.cost_is (number_at (fair_point_of s other level))
               ∙ sym (nothing-added (pos 1 *ℤ other.den) (p.factor *ℤ cost_sum p (number_at (fair_point_of s other level))));
         })
 
@@ -127,27 +164,24 @@ module _ (s : GeneralSetting) (p : Program) (is : IsFairProgram s p) (some : 0 <
         }
 
   -- the point of its mechanism with the least as the level is certified as it is
-  pub certified-fair : (den : ℤ) (x : ℕ → ℤ) (bound : Bound) → IsOptimalCertified p den x bound.den (number_at bound.main) (number_at bound.face) → IsCertifiedFair s p (mechanism_of s den x) bound
+  pub certified-fair : (den : ℤ) (x : ℕ → ℤ) (bound : Bound) → IsOptimalCertified p den x bound.den (number_at bound.main) (number_at bound.face)
+      → Certified p (optimal_certificate (fair_question s) (mechanism_of s den x) bound)
   certified-fair den x bound c =
       let greatest = optimal-claim p den bound.den x (number_at bound.main) (number_at bound.face) c in
       let m = mechanism_of s den x in
-      let h = has-least s m some in
+      let least = is-least s m some in
       let admissible = fair-mechanism den x greatest in
-      let there = number_at (fair_point_of s m h.least) in
+      let there = number_at (fair_point_of s m (least_of s m)) in
       let same : cost_sum p x ≡ cost_sum p there =
       *ℤ_cancel p.factor (cost_sum p x) (cost_sum p there) factor-above
-      (sym (is.has_cost.cost_is x) ∙ level-least den x greatest h.least h.is ∙ sym (level-there s m h.least admissible.mechanism) ∙ is.has_cost.cost_is there) in
+      (sym (is.has_cost.cost_is x) ∙ level-least den x greatest (least_of s m) least ∙ sym (point-level s m (least_of s m) admissible.mechanism) ∙ is.has_cost.cost_is there) in
       record {
-        least = h.least;
-        is_least = h.is;
-        certified = record {
-          meets = level-meets s m h.least admissible.mechanism p is admissible h.is.at_most;
-          positive = c.positive;
-          pairs = c.pairs;
-          columns = c.columns;
-          face_right = c.face_right;
-          main_right = c.main_right ∙ ap (λ z. bound.den *ℤ z) same;
-        };
+        meets = level-meets s m (least_of s m) admissible.mechanism p is admissible least.at_most;
+        positive = c.positive;
+        pairs = c.pairs;
+        columns = c.columns;
+        face_right = c.face_right;
+        main_right = c.main_right ∙ ap (λ z. bound.den *ℤ z) same;
       }
 
   -- ---- no point
@@ -184,23 +218,22 @@ module _ (s : GeneralSetting) (p : Program) (is : IsFairProgram s p) (some : 0 <
     abbrev keeps_row : Row → Type 0
     keeps_row row = RayKeeps row.kind (left_of (column_count s + 2) row ray)
 
+    form-rows : All (HasRow (column_count s + 2) keeps_row) (fair_forms s)
+    form-rows =
+        each-has_row (column_count s + 2) keeps_row (fair_forms s) p.rows is.rows
+        (λ r d b. subst (λ n. RayKeeps (get_or p.rows r d).kind (left_of n (get_or p.rows r d) ray)) is.columns
+        (subst (λ row. RayKeeps row.kind (left_of p.columns row ray)) (get_or_default p.rows r (record { kind = AtMost; terms = []; right = pos 0 }) d b) (c.rows.holds r b)))
+
+    form-keeps : (form : Form) → HasRow (column_count s + 2) keeps_row form → FormKeeps ray form
+    form-keeps form h = (row-keeps (column_count s + 2) form h.row ray h.is).0 h.holds
+
     agent-row : (i : ℕ) → i < agent_count s → HasRow (column_count s + 2) keeps_row (agent_form s i)
     agent-row i l =
         agent-at (HasRow (column_count s + 2) keeps_row) s i l
-        (All-right (HasRow (column_count s + 2) keeps_row) (forms_of s (conditions_of s)) (agent_forms s)
-        (each-has_row (column_count s + 2) keeps_row (fair_forms s) p.rows is.rows
-        (λ r d b. subst (λ n. RayKeeps (get_or p.rows r d).kind (left_of n (get_or p.rows r d) ray)) is.columns
-        (subst (λ row. RayKeeps row.kind (left_of p.columns row ray)) (get_or_default p.rows r (record { kind = AtMost; terms = []; right = pos 0 }) d b) (c.rows.holds r b)))))
+        (All-right (HasRow (column_count s + 2) keeps_row) (forms_of s (conditions_of s)) (agent_forms s) form-rows)
 
     lag-falls : (i : ℕ) → i < agent_count s → lag_in s ray i ≤ℤ pos 0
-    lag-falls i l =
-        let h = agent-row i l in
-        let above : pos 0 <ℤ h.is.by = IsDivisorFor-positive (suc (column_count s + 2)) (number_of (agent_form s i)) h.is.by h.is.divisor in
-        let low : left_of (column_count s + 2) h.row ray ≤ℤ pos 0 = subst (λ kind. RayKeeps kind (left_of (column_count s + 2) h.row ray)) h.is.kind h.holds in
-        subst (λ z. z ≤ℤ pos 0) (sym (h.is.left ray)) (times h.is.by (left_of (column_count s + 2) h.row ray) above low)
-      where
-        times : (b z : ℤ) → pos 0 <ℤ b → z ≤ℤ pos 0 → (b *ℤ z) ≤ℤ pos 0
-        times b z up low = (let h = *ℤ-le b z (pos 0) (le_from_lt (pos 0) b up) low in omega (arith, ints, h, *ℤ-zero b))
+    lag-falls i l = form-keeps (agent_form s i) (agent-row i l)
 
     mean-rises : (k i : ℕ) → i < agent_count s → (mean_in s x i +ℤ pos k) ≤ℤ mean_in s (along x k ray) i
     mean-rises k i l =
@@ -245,3 +278,57 @@ module _ (s : GeneralSetting) (p : Program) (is : IsFairProgram s p) (some : 0 <
       subst (IsAdmissible s) (raised-there k) (along-admitted k),
       subst (λ n. GainsLeast s (mechanism_of s den x) n k) (raised-there k) (gains-there k),
     )
+
+    -- the ray of its payments, which raises the level by 1, is certified with the point of the mechanism
+    abbrev own_ray : ℕ → ℤ
+    own_ray = number_at (fair_ray_of s (pays_along s ray))
+
+    same-own : IsSameForm s own_ray ray
+    same-own =
+        let own = same-form s (along_pays s ray) own_ray (own-below s (ray_of s (pays_along s ray)) (pos 1) (ray-length s (pays_along s ray))) in
+        let there = same-ray s ray no-chance in
+        record { chance = λ t o q l. sym (own.chance t o q l) ∙ there.chance t o q l; pay = λ i t l q. sym (own.pay i t l q) ∙ there.pay i t l q }
+
+    own-level : level_in s own_ray ≡ pos 1
+    own-level = level-there s (ray_of s (pays_along s ray)) (pos 1) (ray-length s (pays_along s ray))
+
+    own-mean : (i : ℕ) → i < agent_count s → mean_in s own_ray i ≡ mean_in s ray i
+    own-mean i l =
+        total_by-same (λ t. weight_of s t *ℤ utility_in s own_ray i t t) (λ t. weight_of s t *ℤ utility_in s ray i t t) (profiles_of (sizes_of s))
+        (λ k d b. ap (λ z. weight_of s (get_or (profiles_of (sizes_of s)) k d) *ℤ z)
+        (utility-same s own_ray ray i (get_or (profiles_of (sizes_of s)) k d) (get_or (profiles_of (sizes_of s)) k d) same-own l (All-profiles_of (sizes_of s) k d b)))
+
+    own-lag : (i : ℕ) → i < agent_count s → lag_in s own_ray i ≤ℤ pos 0
+    own-lag i l = rw (own-level, own-mean i l) (below (level_in s ray) (mean_in s ray i) level-rises (lag-falls i l))
+      where
+        below : (a b : ℤ) → pos 1 ≤ℤ a → (a -ℤ b) ≤ℤ pos 0 → (pos 1 -ℤ b) ≤ℤ pos 0
+        below a b up low = omega (arith, ints, up, low)
+
+    own-conditions : (cs : List Condition) → All (IsPlaced s) cs → All (HasRow (column_count s + 2) keeps_row) (forms_of s cs) → All (FormKeeps own_ray) (forms_of s cs)
+    own-conditions [] placed h = All-nil (FormKeeps own_ray)
+    own-conditions (k ∷ cs) placed h =
+        let kept = form-keeps (form_of s k) (All-head (HasRow (column_count s + 2) keeps_row) (form_of s k) (forms_of s cs) h) in
+        All-cons (FormKeeps own_ray) (form_of s k) (forms_of s cs)
+        (subst (RayKeeps (form_of s k).kind) (sym (side-same s own_ray ray k same-own (All-head (IsPlaced s) k cs placed))) kept)
+        (own-conditions cs (All-tail (IsPlaced s) k cs placed) (All-tail (HasRow (column_count s + 2) keeps_row) (form_of s k) (forms_of s cs) h))
+
+    own-forms : All (FormKeeps own_ray) (fair_forms s)
+    own-forms =
+        All-append (FormKeeps own_ray) (forms_of s (conditions_of s)) (agent_forms s)
+        (own-conditions (conditions_of s) (conditions-placed s) (All-left (HasRow (column_count s + 2) keeps_row) (forms_of s (conditions_of s)) (agent_forms s) form-rows))
+        (All-list_to (FormKeeps own_ray) (agent_count s) (agent_form s) own-lag)
+
+    pub certified-ray : Certified p (unbounded_certificate (fair_question s) (mechanism_of s den x) (pays_along s ray))
+    certified-ray =
+        let m = mechanism_of s den x in
+        let admissible = admitted s p is den x c.meets in
+        record {
+          meets = level-meets s m (least_of s m) admissible.mechanism p is admissible (is-least s m some).at_most;
+          nonneg = λ j l. level-nonneg s (ray_of s (pays_along s ray)) (pos 1) (ray-length s (pays_along s ray)) (λ k b. ray-nonneg s (pays_along s ray) k) j (omega (arith, l, is.columns));
+          rows = record {
+            holds = λ r b.
+                subst (λ n. RayKeeps (kind_at p r) (left_of n (row_at p r) own_ray)) (sym is.columns)
+                (keeps-rows (column_count s + 2) (fair_forms s) p.rows own_ray is.rows own-forms r (record { kind = AtMost; terms = []; right = pos 0 }) b);
+          };
+          gain = positive_from_*ℤ p.factor (cost_sum p own_ray) factor-above (rw (sym (is.has_cost.cost_is own_ray), own-level) (omega (arith, ints)));
+        }

@@ -1,14 +1,19 @@
 -- The least of what agents get.
-use Rattle.std.proofs.Common.{◌≡◌, ◌⊎◌, ◌^◌, ℕ, zero, suc, ◌+◌, ◌<◌, ℤ, pos, ◌*ℤ◌, ◌≤ℤ◌, ◌<ℤ◌, refl, sym, ap, ◌∙◌, subst, arith, inl, inr}
+use Rattle.std.proofs.Common.{◌≡◌, ◌⊎◌, ◌^◌, ℕ, ◌+◌, ◌<◌, ℤ, pos, ◌*ℤ◌, ◌≤ℤ◌, ◌<ℤ◌, refl, sym, ap, ◌∙◌, subst, arith, inl, inr}
+use Rattle.std.specs.List.{Contains}
 use Rattle.std.proofs.lemmas.Bool.{cases_lt}
+use Rattle.std.proofs.lemmas.Int.{fold-int_min_bounds, fold-int_min_reached}
+use Rattle.std.proofs.lemmas.List.Elements.{All-get_or}
+use Rattle.md_math.specs.Lists.{list_to}
 use Rattle.md_math.specs.Sizes.{IsWithin}
-use Rattle.md_math.proofs.Order.{lt_or_le, le_from_lt, le_from_same, ≤ℤ_trans, ≤ℤ_antisymm}
+use Rattle.md_math.proofs.Builders.{get_or-list_to, length-list_to}
+use Rattle.md_math.proofs.Order.{le_from_same, ≤ℤ_trans, ≤ℤ_antisymm}
 use Rattle.md_num.specs.declared.frac.Frac.{Frac}
 use Rattle.md_setting.specs.Setting.{GeneralSetting}
 use Rattle.md_setting.specs.Meaning.{agent_count, total_of}
 use Rattle.md_mech.specs.declared.mechanism.Mechanism.{Mechanism}
 use Rattle.md_question.proofs.OneFraction.{one_fraction}
-use Rattle.md_fair.specs.Least.{IsLeast, HasLeast, IsLeastValueOf}
+use Rattle.md_fair.specs.Least.{IsLeast, HasLeast, IsLeastValueOf, least_of}
 use Rattle.md_fair.specs.Mean.{mean_of}
 
 -- the least of what the first agents get
@@ -63,31 +68,29 @@ least-all s m count z e h = record {
   reached = h.reached;
 }
 
-record HasLeastBelow (s : GeneralSetting) (m : Mechanism) (count : ℕ) : Type 0 where
-  least : ℤ
-  is : IsLeastBelow s m count least
-
-least-below : (s : GeneralSetting) (m : Mechanism) (n : ℕ) → HasLeastBelow s m (n + 1)
-least-below s m zero = record { least = mean_of s m 0; is = least-first s m (mean_of s m 0) refl }
-least-below s m (suc n) =
-    let h = least-below s m n in
-    let next : suc n + 1 ≡ (n + 1) + 1 = omega arith in
-    let here : mean_of s m (n + 1) ≡ mean_of s m (n + 1) = refl in
-    subst (HasLeastBelow s m) (sym next)
-    (elim (lt_or_le (mean_of s m (n + 1)) h.least) [
-      | inl lower ↦ record { least = mean_of s m (n + 1); is = least-lower s m (n + 1) h.least (mean_of s m (n + 1)) h.is here (le_from_lt (mean_of s m (n + 1)) h.least lower) }
-      | inr above ↦ record { least = h.least; is = least-stays s m (n + 1) h.least (mean_of s m (n + 1)) h.is here above }
-    ])
+reached-in : (n : ℕ) (f : ℕ → ℤ) (z : ℤ) → 0 < n → (z ≡ f 0) ⊎ Contains (list_to n f) z → (k : ℕ) × (k < n) × (z ≡ f k)
+reached-in n f z some (inl first) = (0, some, first)
+reached-in n f z some (inr (k, inside, at)) =
+    let l : k < n = omega (arith, inside, length-list_to n f) in
+    (k, l, sym at ∙ get_or-list_to n f k z l)
 
 -- where there is an agent, there is a least
+pub is-least : (s : GeneralSetting) (m : Mechanism) → 0 < agent_count s → IsLeast s m (least_of s m)
+is-least s m some =
+    let gets = list_to (agent_count s) (mean_of s m) in
+    let bound = fold-int_min_bounds (mean_of s m 0) gets (least_of s m) refl in
+    let reached = reached-in (agent_count s) (mean_of s m) (least_of s m) some (fold-int_min_reached (mean_of s m 0) gets (least_of s m) refl) in
+    record {
+      at_most = λ i l.
+          subst (λ z. least_of s m ≤ℤ z) (get_or-list_to (agent_count s) (mean_of s m) i (pos 0) l)
+          (All-get_or (λ z. least_of s m ≤ℤ z) gets i (pos 0) (omega (arith, l, length-list_to (agent_count s) (mean_of s m))) bound.1);
+      agent = reached.0;
+      inside = reached.1;
+      reached = reached.2;
+    }
+
 pub has-least : (s : GeneralSetting) (m : Mechanism) → 0 < agent_count s → HasLeast s m
-has-least s m some = at (agent_count s) some refl
-  where
-    at : (n : ℕ) → 0 < n → n ≡ agent_count s → HasLeast s m
-    at zero none e = absurd (omega (arith, none))
-    at (suc n) above e =
-        let h = least-below s m n in
-        record { least = h.least; is = least-all s m (n + 1) h.least (omega (arith, e)) h.is }
+has-least s m some = record { least = least_of s m; is = is-least s m some }
 
 -- there is one least
 pub one-least : (s : GeneralSetting) (m : Mechanism) (a b : ℤ) → IsLeast s m a → IsLeast s m b → a ≡ b

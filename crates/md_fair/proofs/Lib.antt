@@ -1,5 +1,6 @@
 pub mod OwnProgram
 pub mod SameNumbers
+pub mod LevelLaws
 pub mod PointLaws
 pub mod LeastLaws
 pub mod Claims
@@ -8,3 +9,4 @@ pub mod TermForms
 pub mod CostLaws
 pub mod Sizes
 pub mod QuestionLaws
+pub mod WrittenAnswers

@@ -1,12 +1,11 @@
 -- The points of the fair program are the admissible mechanisms with levels that each agent reaches.
-use Rattle.std.proofs.Common.{◌≡◌, ℕ, ◌+◌, ◌<◌, ℤ, pos, negsuc, ◌-ℤ◌, ◌*ℤ◌, ◌≤ℤ◌, List, [], ◌∷◌, length, get_or, All, refl, sym, ap, ◌∙◌, subst, arith, length-append}
+use Rattle.std.proofs.Common.{◌≡◌, ℕ, ◌+◌, ◌<◌, ℤ, pos, ◌-ℤ◌, ◌*ℤ◌, ◌≤ℤ◌, List, get_or, All, refl, sym, ap, ◌∙◌, subst, arith}
 use lib.IntN.{*ℤ_comm}
 use Rattle.std.proofs.lemmas.Int.{ints}
-use Rattle.std.proofs.lemmas.List.{get_or_append_left}
 use Rattle.std.proofs.lemmas.List.Elements.{All-append, All-get_or}
 use Rattle.md_math.specs.Lists.{number_at}
 use Rattle.md_math.specs.Sums.{sum_to}
-use Rattle.md_math.proofs.Builders.{All-left, All-right, All-list_to, length-list_to, get_or-list_to, number_at-behind}
+use Rattle.md_math.proofs.Builders.{All-left, All-right, All-list_to, length-list_to, get_or-list_to}
 use Rattle.md_math.proofs.Ring.{*ℤ-zero}
 use Rattle.md_math.proofs.SumLaws.{sum_to-same}
 use Rattle.md_math.proofs.TotalLaws.{total_by-same}
@@ -25,9 +24,8 @@ use Rattle.md_lp.specs.Program.{Program}
 use Rattle.md_lp.specs.Point.{Meets}
 use Rattle.md_forms.specs.Forms.{Form, Holds}
 use Rattle.md_forms.proofs.PointLaws as forms
-use Rattle.md_forms.proofs.PointLaws.{all-one}
 use Rattle.md_rows.specs.Columns.{chance_column}
-use Rattle.md_rows.specs.Points.{mechanism_of, point_of, plus_part, minus_part, MeetsProgramOf}
+use Rattle.md_rows.specs.Points.{mechanism_of, point_of, MeetsProgramOf}
 use Rattle.md_rows.specs.ProgramOf.{forms_of}
 use Rattle.md_rows.specs.Sides.{utility_in, cost_in}
 use Rattle.md_rows.proofs.Law.{admits-mechanisms, admits-points}
@@ -36,8 +34,9 @@ use Rattle.md_fair.specs.FairPoints.{fair_point_of}
 use Rattle.md_fair.specs.FairProgram.{agent_form, agent_forms, fair_forms, level_in, mean_in, IsFairProgram}
 use Rattle.md_fair.specs.Law.{AdmitsLevels, AdmitsMechanisms, ReachesLevel}
 use Rattle.md_fair.specs.Mean.{mean_of}
+use Rattle.md_fair.proofs.LevelLaws.{level-nonneg, level-there, own-below}
 use Rattle.md_fair.proofs.OwnProgram.{own-program}
-use Rattle.md_fair.proofs.SameNumbers.{SameBelow, mechanism-same, meets-same}
+use Rattle.md_fair.proofs.SameNumbers.{mechanism-same, meets-same}
 
 -- ---- what agents get on average
 
@@ -101,64 +100,37 @@ module _ (s : GeneralSetting) (p : Program) (is : IsFairProgram s p) where
 
 -- ---- the point of a mechanism and a level
 
-level-parts : (z : ℤ) → plus_part z -ℤ minus_part z ≡ z
-level-parts (pos n) = omega (arith, ints)
-level-parts (negsuc n) = omega (arith, ints)
-
-plus-above : (z : ℤ) → pos 0 ≤ℤ plus_part z
-plus-above (pos n) = omega (arith, ints)
-plus-above (negsuc n) = omega (arith, ints)
-
-minus-above : (z : ℤ) → pos 0 ≤ℤ minus_part z
-minus-above (pos n) = omega (arith, ints)
-minus-above (negsuc n) = omega (arith, ints)
-
 module _ (s : GeneralSetting) (m : Mechanism) (level : ℤ) (h : IsMechanism s m) where
   abbrev pub fair_numbers : ℕ → ℤ
   fair_numbers = number_at (fair_point_of s m level)
 
-  own-numbers : SameBelow (column_count s) (number_at (point_of s m)) fair_numbers
-  own-numbers j l = sym (get_or_append_left (point_of s m) (plus_part level ∷ minus_part level ∷ []) (pos 0) j (rw (point-length s m h) l))
-
-  pub level-there : level_in s fair_numbers ≡ level
-  level-there =
-      let start : column_count s ≡ column_count s + 0 = omega arith in
-      let plus : fair_numbers (column_count s) ≡ plus_part level =
-      ap fair_numbers start ∙ number_at-behind (point_of s m) (plus_part level ∷ minus_part level ∷ []) (column_count s) 0 (point-length s m h) in
-      let minus : fair_numbers (column_count s + 1) ≡ minus_part level =
-      number_at-behind (point_of s m) (plus_part level ∷ minus_part level ∷ []) (column_count s) 1 (point-length s m h) in
-      rw (plus, minus) (level-parts level)
+  pub point-level : level_in s fair_numbers ≡ level
+  point-level = level-there s (point_of s m) level (point-length s m h)
 
   pub mechanism-there : mechanism_of s m.den fair_numbers ≡ m
-  mechanism-there = sym (mechanism-same s m.den (number_at (point_of s m)) fair_numbers own-numbers) ∙ mechanism-of_point s m h
-
-  fair-length : length (fair_point_of s m level) ≡ column_count s + 2
-  fair-length = length-append (point_of s m) (plus_part level ∷ minus_part level ∷ []) ∙ ap (λ n. n + 2) (point-length s m h)
-
-  all-above : All (λ z. pos 0 ≤ℤ z) (fair_point_of s m level)
-  all-above =
-      All-append (λ z. pos 0 ≤ℤ z) (point_of s m) (plus_part level ∷ minus_part level ∷ []) (point-nonneg s m h)
-      (All-append (λ z. pos 0 ≤ℤ z) (plus_part level ∷ []) (minus_part level ∷ [])
-      (all-one (λ z. pos 0 ≤ℤ z) (plus_part level) (plus-above level)) (all-one (λ z. pos 0 ≤ℤ z) (minus_part level) (minus-above level)))
+  mechanism-there = sym (mechanism-same s m.den (number_at (point_of s m)) fair_numbers (own-below s (point_of s m) level (point-length s m h))) ∙ mechanism-of_point s m h
 
   mean-there : (i : ℕ) → i < agent_count s → mean_in s fair_numbers i ≡ mean_of s m i
   mean-there i l = mean-agrees s fair_numbers (mechanism_of s m.den fair_numbers) i (agrees-mechanism_of s m.den fair_numbers) l ∙ ap (λ k. mean_of s k i) mechanism-there
+
+  own-nonneg : (j : ℕ) → j < column_count s → pos 0 ≤ℤ number_at (point_of s m) j
+  own-nonneg j l = All-get_or (λ z. pos 0 ≤ℤ z) (point_of s m) j (pos 0) (omega (arith, l, point-length s m h)) (point-nonneg s m h)
 
   module _ (p : Program) (is : IsFairProgram s p) where
     pub level-meets : IsAdmissible s m → ReachesLevel s m level → Meets p m.den fair_numbers
     level-meets admissible reaches =
         let (q, own) = own-program s p is in
         let there : Meets q m.den fair_numbers =
-        meets-same q m.den (number_at (point_of s m)) fair_numbers (λ j l. own-numbers j (omega (arith, l, own.columns))) ((admits-points s q own m h).1 admissible) in
+        meets-same q m.den (number_at (point_of s m)) fair_numbers (λ j l. own-below s (point_of s m) level (point-length s m h) j (omega (arith, l, own.columns))) ((admits-points s q own m h).1 admissible) in
         forms.hold-meets (column_count s + 2) (fair_forms s) (level_in s) p m.den fair_numbers is
         (record {
           positive = (let one : pos 1 ≤ℤ m.den = h.den in omega (arith, ints));
-          nonneg = λ j l. All-get_or (λ z. pos 0 ≤ℤ z) (fair_point_of s m level) j (pos 0) (omega (arith, l, is.columns, fair-length)) all-above;
+          nonneg = λ j l. level-nonneg s (point_of s m) level (point-length s m h) own-nonneg j (omega (arith, l, is.columns));
         })
         (All-append (Holds m.den fair_numbers) (forms_of s (conditions_of s)) (agent_forms s)
         (forms.meets-hold (column_count s) (forms_of s (conditions_of s)) (cost_in s) q m.den fair_numbers own there)
         (All-list_to (Holds m.den fair_numbers) (agent_count s) (agent_form s)
-        (λ i l. zero-at_most (level_in s fair_numbers) (mean_in s fair_numbers i) m.den (rw (level-there, mean-there i l) (reaches i l)))))
+        (λ i l. zero-at_most (level_in s fair_numbers) (mean_in s fair_numbers i) m.den (rw (point-level, mean-there i l) (reaches i l)))))
 
 pub admits-levels : (s : GeneralSetting) (p : Program) → IsFairProgram s p → AdmitsLevels s p
 admits-levels s p is m level h = (
@@ -166,7 +138,7 @@ admits-levels s p is m level h = (
       let both = admits-fair s p is m.den (fair_numbers s m level h) meets in
       let same = mechanism-there s m level h in (
         subst (IsAdmissible s) same both.0,
-        λ i l. subst (λ k. level ≤ℤ mean_of s k i) same (subst (λ z. z ≤ℤ mean_of s (mechanism_of s m.den (fair_numbers s m level h)) i) (level-there s m level h) (both.1 i l)),
+        λ i l. subst (λ k. level ≤ℤ mean_of s k i) same (subst (λ z. z ≤ℤ mean_of s (mechanism_of s m.den (fair_numbers s m level h)) i) (point-level s m level h) (both.1 i l)),
       ),
   λ both. level-meets s m level h p is both.0 both.1,
 )

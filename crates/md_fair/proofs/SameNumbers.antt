@@ -11,29 +11,34 @@ use Rattle.md_setting.specs.Meaning.{agent_count, sizes_of}
 use Rattle.md_setting.specs.Rows.{column_count}
 use Rattle.md_lp.specs.Program.{Program, Keeps, kind_at, right_at, coefficient_at}
 use Rattle.md_lp.specs.Point.{Meets, row_sum}
-use Rattle.md_rows.specs.Columns.{plus_column, minus_column, first_plus, payment_in}
+use Rattle.md_rows.specs.Columns.{chance_column, plus_column, minus_column, first_plus, payment_in}
 use Rattle.md_rows.specs.Points.{mechanism_of, payments_in}
 use Rattle.md_rows.proofs.FormLaws.{payment-on, payment-off}
 use Rattle.md_question.proofs.RayFits.{parts-inside}
+use Rattle.md_question.proofs.SameForms.{IsSameForm}
+use Rattle.md_fair.proofs.OwnProgram.{chance-inside}
 
 -- the numbers are the same at the places below n
 abbrev pub SameBelow : ℕ → (ℕ → ℤ) → (ℕ → ℤ) → Type 0
 SameBelow n x y = (j : ℕ) → j < n → x j ≡ y j
 
+-- where they are so below the setting's columns, they say the same chances and payments
+pub same-form : (s : GeneralSetting) (x y : ℕ → ℤ) → SameBelow (column_count s) x y → IsSameForm s x y
+same-form s x y same = record {
+  chance = λ t o p l. same (chance_column s t o) (chance-inside s t o p l);
+  pay = λ i t l p. elim (cases_Bool s.payments) [
+    | inl on ↦
+        let inside = parts-inside s i t on l p in
+        payment-on s x i t on ∙ rw (same (plus_column s i t) inside.0, same (minus_column s i t) inside.1) (sym (payment-on s y i t on))
+    | inr off ↦ payment-off s x i t off ∙ sym (payment-off s y i t off)
+  ];
+}
+
 pub payments-same : (s : GeneralSetting) (x y : ℕ → ℤ) → SameBelow (column_count s) x y → payments_in s x ≡ payments_in s y
 payments-same s x y same =
     up_to-same (profile_count (sizes_of s)) (λ r. list_to (agent_count s) (λ i. payment_in s x i (profile_at (sizes_of s) r))) (λ r. list_to (agent_count s) (λ i. payment_in s y i (profile_at (sizes_of s) r)))
-    (λ r b. list_to-same (agent_count s) (λ i. payment_in s x i (profile_at (sizes_of s) r)) (λ i. payment_in s y i (profile_at (sizes_of s) r)) (λ i l. at i r l b))
-  where
-    at : (i r : ℕ) → i < agent_count s → r < profile_count (sizes_of s) → payment_in s x i (profile_at (sizes_of s) r) ≡ payment_in s y i (profile_at (sizes_of s) r)
-    at i r l b =
-        let t = profile_at (sizes_of s) r in
-        elim (cases_Bool s.payments) [
-          | inl on ↦
-              let inside = parts-inside s i t on l (profile_at-IsProfile (sizes_of s) r b) in
-              payment-on s x i t on ∙ rw (same (plus_column s i t) inside.0, same (minus_column s i t) inside.1) (sym (payment-on s y i t on))
-          | inr off ↦ payment-off s x i t off ∙ sym (payment-off s y i t off)
-        ]
+    (λ r b. list_to-same (agent_count s) (λ i. payment_in s x i (profile_at (sizes_of s) r)) (λ i. payment_in s y i (profile_at (sizes_of s) r))
+    (λ i l. (same-form s x y same).pay i (profile_at (sizes_of s) r) l (profile_at-IsProfile (sizes_of s) r b)))
 
 pub mechanism-same : (s : GeneralSetting) (den : ℤ) (x y : ℕ → ℤ) → SameBelow (column_count s) x y → mechanism_of s den x ≡ mechanism_of s den y
 mechanism-same s den x y same =

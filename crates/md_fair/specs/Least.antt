@@ -1,6 +1,8 @@
 -- What the agent that gets least gets of a mechanism on average.
-use Rattle.std.specs.Prelude.{◌≡◌, ℕ, ◌<◌, ℤ, ◌≤ℤ◌, ◌*ℤ◌}
+use Rattle.std.specs.Prelude.{◌≡◌, ℕ, ◌<◌, ℤ, ◌≤ℤ◌, ◌*ℤ◌, fold}
+use Rattle.std.specs.Int.{int_min}
 use Rattle.md_math.specs.Divisors.{IsLeastTerms}
+use Rattle.md_math.specs.Lists.{list_to}
 use Rattle.md_num.specs.declared.frac.Frac.{Frac}
 use Rattle.md_setting.specs.Setting.{GeneralSetting}
 use Rattle.md_setting.specs.Meaning.{agent_count, total_of}
@@ -13,6 +15,10 @@ pub record IsLeast (s : GeneralSetting) (m : Mechanism) (least : ℤ) : Type 0 w
   pub agent : ℕ
   pub inside : agent < agent_count s
   pub reached : least ≡ mean_of s m agent
+
+-- the least number of what agent 0 gets and what each agent gets
+abbrev pub least_of : GeneralSetting → Mechanism → ℤ
+least_of s m = fold int_min (mean_of s m 0) (list_to (agent_count s) (mean_of s m))
 
 -- there is such a number
 pub record HasLeast (s : GeneralSetting) (m : Mechanism) : Type 0 where

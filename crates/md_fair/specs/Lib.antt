@@ -7,5 +7,7 @@ pub mod FairPoints
 pub mod Law
 pub mod Terms
 pub mod Costs
-pub mod Certifies
 pub mod FairQuestion
+pub mod FairText
+pub mod FairRows
+pub mod FairVerdicts

@@ -5,6 +5,7 @@ ghost use Rattle.md_setting.specs.Meaning.{agent_count, sizes_of};
 ghost use Rattle.md_setting.specs.Rows.{column_count};
 ghost use Rattle.md_setting.specs.Shaped.{IsShaped};
 ghost use Rattle.md_rows.specs.Columns.{first_plus};
+ghost use Rattle.md_fair.specs.FairQuestion.{fair_rows};
 
 use md_setting::Setting;
 
@@ -37,4 +38,11 @@ pub(crate) fn level_column(setting: &Setting) -> u32
     } else {
         first_payment(setting)
     }
+}
+
+/// How many rows the fair program has: those of the setting's program, and one for each agent.
+pub(crate) fn row_count(setting: &Setting) -> u32
+    ensures { result ≡ fair_rows setting.now }
+{
+    setting.rows() + u32::from(setting.space().agents())
 }

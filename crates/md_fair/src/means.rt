@@ -3,7 +3,7 @@ ghost use Rattle.std.specs.Prelude.{◌≡◌, ◌⊎◌, ◌<◌, ◌-◌, ◌^
 ghost use Rattle.md_math.specs.Sizes.{IsWithin};
 ghost use Rattle.md_setting.specs.Meaning.{agent_count, total_of};
 ghost use Rattle.md_mech.specs.Accepted.{IsAccepted};
-ghost use Rattle.md_fair.specs.Least.{IsLeast, IsLeastValueOf};
+ghost use Rattle.md_fair.specs.Least.{IsLeast, IsLeastValueOf, least_of};
 ghost use Rattle.md_fair.specs.Mean.{mean_of};
 
 use md_mech::{Mechanism, utility};
@@ -31,10 +31,11 @@ fn whole(setting: &Setting, mechanism: &Mechanism) -> i128
     product(mechanism.den, setting.total())
 }
 
-// The least of what the agents get over all profiles by weight.
-fn least_mean(setting: &Setting, mechanism: &Mechanism) -> i128
+/// The least of what the agents get over all profiles by weight.
+pub(crate) fn least_mean(setting: &Setting, mechanism: &Mechanism) -> i128
     requires { IsAccepted setting.now mechanism.now }
     ensures value { IsLeast setting.now mechanism.now result }
+    ensures is { result ≡ least_of setting.now mechanism.now }
     ensures size { IsWithin (2 ^ 120) result }
 {
     let agents = setting.space().agents();

@@ -1,25 +1,30 @@
 //! The question which mechanism is the fairest.
-ghost use Rattle.std.specs.Prelude.{◌≡◌};
+ghost use Rattle.std.specs.Prelude.{◌≡◌, MatchOption};
 ghost use Rattle.md_mech.specs.Accepted.{IsAccepted};
 ghost use Rattle.md_parts.specs.Fitting.{IsFraction};
 ghost use Rattle.md_question.specs.Question.{IsQuestion};
+ghost use Rattle.md_question_check.specs.Verdicts.{IsOtherValue};
 ghost use Rattle.md_fair.specs.FairQuestion.{fair_question};
 ghost use Rattle.md_fair.specs.Least.{IsLeastValueOf};
 
-use crate::means::least;
+use crate::certificates::with_level;
+use crate::means::{least, least_mean};
 use crate::program::fair_program;
+use md_cert::{Bound, Certificate};
+use md_claims::{optimal_certificate, unbounded_certificate};
 use md_lp::Lp;
 use md_mech::Mechanism;
-use md_num::{Frac, NoMemory};
+use md_num::{Frac, NoMemory, Nums};
 use md_question::Asks;
+use md_question_check::Checks;
 use md_setting::Setting;
 use std::alloc::Global;
 use std::marker::Model;
 
 /// What asks for the fairest mechanism of a setting.
 #[derive(Drop)]
-pub(crate) struct Fairest<'a> {
-    pub(crate) setting: &'a Setting,
+pub struct Fairest<'a> {
+    pub setting: &'a Setting,
 }
 
 impl<'a> Model for Fairest<'a> {
@@ -46,6 +51,36 @@ impl<'a> Asks for Fairest<'a> {
     }
 }
 
+impl<'a> Checks for Fairest<'a> {
+    fn other_value(&self, mechanism: &Mechanism, printed: &Frac) -> Option<Frac> {
+        other_least(self.setting, mechanism, printed)
+    }
+
+    fn level(&self, mechanism: &Mechanism) -> i128 {
+        least_mean(self.setting, mechanism)
+    }
+
+    fn optimal(
+        &self,
+        alloc: Global,
+        mechanism: &Mechanism,
+        bound: &Bound,
+    ) -> Result<Certificate, NoMemory> {
+        let own = optimal_certificate(alloc, self.setting, mechanism, bound)?;
+        with_level(own, least_mean(self.setting, mechanism))
+    }
+
+    fn unbounded(
+        &self,
+        alloc: Global,
+        mechanism: &Mechanism,
+        pays: &Nums,
+    ) -> Result<Certificate, NoMemory> {
+        let own = unbounded_certificate(alloc, self.setting, mechanism, pays)?;
+        with_level(own, least_mean(self.setting, mechanism))
+    }
+}
+
 // The setting.
 fn with_laws(setting: &Setting) -> &Setting
     ensures about { result.now ≡ setting.now }
@@ -62,4 +97,14 @@ fn least_value(setting: &Setting, mechanism: &Mechanism) -> Frac
     ensures fraction { IsFraction result.num result.den }
 {
     least(setting, mechanism)
+}
+
+// The least that an agent gets on average, where the printed fraction is another one.
+fn other_least(setting: &Setting, mechanism: &Mechanism, printed: &Frac) -> Option<Frac>
+    requires { IsAccepted setting.now mechanism.now }
+    ensures { MatchOption result (IsLeastValueOf setting.now mechanism.now printed.now) (IsOtherValue (fair_question setting.now) mechanism.now printed.now) }
+{
+    let _weight = setting.total();
+    let right = least(setting, mechanism);
+    if right == *printed { None } else { Some(right) }
 }

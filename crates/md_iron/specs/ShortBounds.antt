@@ -9,7 +9,7 @@ use Rattle.md_reduced.specs.ProgramOf.{IsReducedProgram}
 use Rattle.md_iron_values.specs.Pools.{Pools}
 use Rattle.md_iron_values.specs.Cuts.{cuts_of}
 use Rattle.md_iron_laws.specs.Multipliers.{AreMultipliers}
-use Rattle.md_check.specs.Programs.{OfProgram}
+use Rattle.md_question_check.specs.Programs.{OfProgram}
 
 -- the multipliers `main` over `over` of the rows are those that certify the pools, and all these numbers have at most 62 bits
 pub record AreShortMultipliers (a : SymmetricAuction) (pools : Pools) (p : Program) (divisor : ℕ → ℤ) (over : ℤ) (main : ℕ → ℤ) : Type 0 where

@@ -3,7 +3,7 @@ ghost use Rattle.std.specs.Prelude.{◌≡◌, IfOk};
 ghost use Rattle.md_setting.specs.ByKind.{IsGeneral, WhereAuction};
 ghost use Rattle.md_answer.specs.AuctionAnswerTo.{IsAuctionAnswer};
 ghost use Rattle.md_check.specs.AuctionVerdicts.{AuctionClaimHolds, IsAuctionVerdict};
-ghost use Rattle.md_check.specs.declared.verdict.Verdict.TheVariants.{Valid};
+ghost use Rattle.md_question_check.specs.declared.verdict.Verdict.TheVariants.{Valid};
 ghost use Rattle.md_iron.specs.declared.ironed.Ironed.TheVariants.{Undecided};
 ghost use Rattle.md_iron.specs.ClosedForms.{HasLongMultipliers, IsClosedAnswer, IsOneAnswer, IsPaidWithinValue};
 ghost use Rattle.md_iron.specs.Ironings.{WhereOptimal};

@@ -7,14 +7,13 @@ use Rattle.md_mech.specs.declared.mechanism.Mechanism.{Mechanism}
 use Rattle.md_mech.specs.Admissible.{IsAdmissible}
 use Rattle.md_mech.specs.Optimal.{IsInfeasible, raised}
 use Rattle.md_lp.specs.Program.{Program, row_count}
-use Rattle.md_cert.specs.declared.certificate.Certificate.TheVariants as certificates
 use Rattle.md_cert.proofs.SameCertificates.{certified-same}
 use Rattle.md_forms.proofs.BuiltLaws.{rows-count}
 use Rattle.md_forms.proofs.OneProgram as forms
 use Rattle.md_lp.proofs.SamePrograms.{IsSameProgram}
 use Rattle.md_question.specs.Findings.{ClaimsInfeasible, WhereInfeasible, WhereOptimal, WhereUnbounded}
 use Rattle.md_question.specs.Question.{IsProgramFor, IsQuestion, Question}
-use Rattle.md_question.specs.Shown.{IsShown, IsSo}
+use Rattle.md_question.specs.Shown.{IsShown, IsSo, certificate_of}
 use Rattle.md_question.specs.declared.finding.Finding.{Finding}
 use Rattle.md_question.specs.declared.finding.Finding.TheVariants.{Optimal, Infeasible, Unbounded}
 
@@ -32,6 +31,10 @@ module _ (q : Question) where
   -- a question has one program
   pub same_program : (p r : Program) → IsProgramFor q p → IsProgramFor q r → IsSameProgram p r
   same_program p r here there = forms.same_program q.columns q.forms q.cost p r here there
+
+  -- what one program shows each shows
+  pub shown-every : (p r : Program) (finding : Finding) → IsProgramFor q p → IsProgramFor q r → IsShown q p finding → IsShown q r finding
+  shown-every p r finding here there h = certified-same p r (same_program p r here there) (certificate_of q finding) h
 
   -- ---- kinds
 
@@ -71,9 +74,3 @@ module _ (q : Question) where
 
     pub program-rows : (p : Program) → IsProgramFor q p → row_count p ≡ q.rows
     program-rows p is = rows-count q.columns q.forms q.cost p is ∙ laws.row_count
-
-    -- what one program shows each shows
-    pub shown-every : (p r : Program) (finding : Finding) → IsProgramFor q p → IsProgramFor q r → IsShown q p finding → IsShown q r finding
-    shown-every p r (Optimal value m bound) here there h = laws.shown_same p r m bound here there h
-    shown-every p r (Infeasible face) here there h = certified-same p r (same_program p r here there) (certificates.Infeasible face) h
-    shown-every p r (Unbounded m ray) here there h = laws.ray_same p r m ray here there h

@@ -83,7 +83,7 @@ payments-nonneg false s m = All-nil (λ z. pos 0 ≤ℤ z)
 zeros : GeneralSetting → List ℤ
 zeros s = list_to (first_plus s) (λ _. pos 0)
 
-ray-nonneg : (s : GeneralSetting) (pays : List ℤ) (j : ℕ) → pos 0 ≤ℤ number_at (ray_of s pays) j
+pub ray-nonneg : (s : GeneralSetting) (pays : List ℤ) (j : ℕ) → pos 0 ≤ℤ number_at (ray_of s pays) j
 unfolding zeros
 ray-nonneg s pays j = elim (cases_lt j (length (ray_of s pays))) [
   | inl l ↦ All-get_or (λ z. pos 0 ≤ℤ z) (ray_of s pays) j (pos 0) l all
@@ -102,36 +102,41 @@ ray-zero s pays k l =
     get_or_append_left (zeros s) (payment_parts s.payments s (paying pays)) (pos 0) k (subst (λ n. k < n) (sym (length-list_to (first_plus s) (λ _. pos 0))) l)
     ∙ get_or-list_to (first_plus s) (λ _. pos 0) k (pos 0) l
 
+-- the numbers of the ray that adds the payments of a ray
+abbrev pub along_pays : GeneralSetting → (ℕ → ℤ) → ℕ → ℤ
+along_pays s ray = number_at (ray_of s (pays_along s ray))
+
+-- they say what the ray says, where that adds to no chance
+pub same-ray : (s : GeneralSetting) (ray : ℕ → ℤ) → ((r o : ℕ) → r < profile_count (sizes_of s) → o < outcome_count s → ray (r * outcome_count s + o) ≡ pos 0) → IsSameForm s (along_pays s ray) ray
+same-ray s ray none = record {
+  chance = λ t o b l.
+      ray-zero s (pays_along s ray) (chance_column s t o) (place-below (rank_of (sizes_of s) t) (profile_count (sizes_of s)) (outcome_count s) o (rank_of-below (sizes_of s) t b) l)
+      ∙ sym (none (rank_of (sizes_of s) t) o (rank_of-below (sizes_of s) t b) l);
+  pay = same-pay;
+}
+  where
+    same-pay : (i : ℕ) (t : List ℕ) → i < agent_count s → IsProfile (sizes_of s) t → payment_in s (along_pays s ray) i t ≡ payment_in s ray i t
+    same-pay i t l b = elim (cases_Bool s.payments) [
+      | inl on ↦
+          (agrees-mechanism_of s (pos 1) (along_pays s ray)).pay i t l b
+          ∙ pays-along_ray s (pays_along s ray) on (rank_of (sizes_of s) t * agent_count s + i) (place-below (rank_of (sizes_of s) t) (profile_count (sizes_of s)) (agent_count s) i (rank_of-below (sizes_of s) t b) l)
+          ∙ sym ((agrees-mechanism_of s (pos 1) ray).pay i t l b)
+      | inr off ↦ payment-off s (along_pays s ray) i t off ∙ sym (payment-off s ray i t off)
+    ]
+
 module _ (s : GeneralSetting) (p : Program) (is : IsProgramOf s p) (den : ℤ) (x ray : ℕ → ℤ) (c : IsUnboundedCertified p den x ray) where
-  abbrev pub along_pays : ℕ → ℤ
-  along_pays = number_at (ray_of s (pays_along s ray))
+  same : IsSameForm s (along_pays s ray) ray
+  same = same-ray s ray (no_chance s p den x ray (with_laws s p is) c)
 
-  same-pay : (i : ℕ) (t : List ℕ) → i < agent_count s → IsProfile (sizes_of s) t → payment_in s along_pays i t ≡ payment_in s ray i t
-  same-pay i t l b = elim (cases_Bool s.payments) [
-    | inl on ↦
-        (agrees-mechanism_of s den along_pays).pay i t l b
-        ∙ pays-along_ray s (pays_along s ray) on (rank_of (sizes_of s) t * agent_count s + i) (place-below (rank_of (sizes_of s) t) (profile_count (sizes_of s)) (agent_count s) i (rank_of-below (sizes_of s) t b) l)
-        ∙ sym ((agrees-mechanism_of s den ray).pay i t l b)
-    | inr off ↦ payment-off s along_pays i t off ∙ sym (payment-off s ray i t off)
-  ]
-
-  same : IsSameForm s along_pays ray
-  same = record {
-    chance = λ t o b l.
-        ray-zero s (pays_along s ray) (chance_column s t o) (place-below (rank_of (sizes_of s) t) (profile_count (sizes_of s)) (outcome_count s) o (rank_of-below (sizes_of s) t b) l)
-        ∙ sym (no_chance s p den x ray (with_laws s p is) c (rank_of (sizes_of s) t) o (rank_of-below (sizes_of s) t b) l);
-    pay = same-pay;
-  }
-
-  gain-same : cost_sum p along_pays ≡ cost_sum p ray
+  gain-same : cost_sum p (along_pays s ray) ≡ cost_sum p ray
   gain-same =
-      *ℤ_cancel p.factor (cost_sum p along_pays) (cost_sum p ray) (IsDivisorFor-positive (column_count s) (cost_of s) p.factor is.has_cost.factor)
-      (sym (is.has_cost.cost_is along_pays) ∙ cost-same s along_pays ray same ∙ is.has_cost.cost_is ray)
+      *ℤ_cancel p.factor (cost_sum p (along_pays s ray)) (cost_sum p ray) (IsDivisorFor-positive (column_count s) (cost_of s) p.factor is.has_cost.factor)
+      (sym (is.has_cost.cost_is (along_pays s ray)) ∙ cost-same s (along_pays s ray) ray same ∙ is.has_cost.cost_is ray)
 
-  pub unbounded-there : IsUnboundedCertified p den (number_at (point_of s (mechanism_of s den x))) along_pays
+  pub unbounded-there : IsUnboundedCertified p den (number_at (point_of s (mechanism_of s den x))) (along_pays s ray)
   unbounded-there = record {
     meets = meets-there s p is den x c.meets;
     nonneg = λ j l. ray-nonneg s (pays_along s ray) j;
-    rows = record { holds = λ r b. subst (RayKeeps (kind_at p r)) (sym (sums-same s p along_pays ray is same r b)) (c.rows.holds r b) };
+    rows = record { holds = λ r b. subst (RayKeeps (kind_at p r)) (sym (sums-same s p (along_pays s ray) ray is same r b)) (c.rows.holds r b) };
     gain = subst (λ z. pos 0 <ℤ z) (sym gain-same) c.gain;
   }

@@ -34,7 +34,7 @@ pub record IsSameForm (s : GeneralSetting) (x y : ℕ → ℤ) : Type 0 where
 
 -- ---- left sides
 
-utility-same : (s : GeneralSetting) (x y : ℕ → ℤ) (i : ℕ) (t r : List ℕ) → IsSameForm s x y → i < agent_count s → IsProfile (sizes_of s) r → utility_in s x i t r ≡ utility_in s y i t r
+pub utility-same : (s : GeneralSetting) (x y : ℕ → ℤ) (i : ℕ) (t r : List ℕ) → IsSameForm s x y → i < agent_count s → IsProfile (sizes_of s) r → utility_in s x i t r ≡ utility_in s y i t r
 utility-same s x y i t r same agent p =
     ap₂ (λ u v. u -ℤ v)
     (sum_to-same (outcome_count s) (λ o. utility_of s i t o *ℤ x (chance_column s r o)) (λ o. utility_of s i t o *ℤ y (chance_column s r o)) (λ o l. ap (λ z. utility_of s i t o *ℤ z) (same.chance r o p l)))
@@ -53,7 +53,7 @@ given-same s i a f g same =
     (λ k d l. ap (λ z. if slice_index (get_or (profiles_of (sizes_of s)) k d) i == a then weight_of s (get_or (profiles_of (sizes_of s)) k d) *ℤ z else pos 0)
     (same (get_or (profiles_of (sizes_of s)) k d) (All-profiles_of (sizes_of s) k d l)))
 
-side-same : (s : GeneralSetting) (x y : ℕ → ℤ) (c : Condition) → IsSameForm s x y → IsPlaced s c → left_side s c x ≡ left_side s c y
+pub side-same : (s : GeneralSetting) (x y : ℕ → ℤ) (c : Condition) → IsSameForm s x y → IsPlaced s c → left_side s c x ≡ left_side s c y
 side-same s x y (dominant_row i t b) same h = gain-same s x y i b t same h.0 h.2 h.1
 side-same s x y (bayes_row i a b) same h = given-same s i a (gain_in s x i b) (gain_in s y i b) (λ t p. gain-same s x y i b t same h.0 h.2 p)
 side-same s x y (ex_post_row i t) same h = lack-same s x y i t same h.0 h.1

@@ -3,9 +3,10 @@ use Rattle.md_mech.specs.Accepted.{IsAccepted}
 use Rattle.md_mech.specs.Optimal.{IsInfeasible}
 use Rattle.md_lp.specs.Program.{Program}
 use Rattle.md_cert.specs.Certified.{Certified}
+use Rattle.md_cert.specs.declared.certificate.Certificate.{Certificate}
 use Rattle.md_cert.specs.declared.certificate.Certificate.TheVariants as certificates
 use Rattle.md_parts.specs.Fitting.{AreMultipliers, IsBoundOver, IsFraction, IsRayFor}
-use Rattle.md_question.specs.Question.{Question}
+use Rattle.md_question.specs.Question.{Question, optimal_certificate, unbounded_certificate}
 use Rattle.md_question.specs.declared.finding.Finding.{Finding}
 use Rattle.md_question.specs.declared.finding.Finding.TheVariants.{Optimal, Infeasible, Unbounded}
 
@@ -15,11 +16,15 @@ IsSo q (Optimal value m bound) = q.is_optimal m × q.is_value m value
 IsSo q (Infeasible face) = IsInfeasible q.setting
 IsSo q (Unbounded m ray) = q.grows m ray
 
--- its numbers show this by a program of the question
+-- what its numbers say as a certificate of the question's program
+abbrev pub certificate_of : Question → Finding → Certificate
+certificate_of q (Optimal value m bound) = optimal_certificate q m bound
+certificate_of q (Infeasible face) = certificates.Infeasible face
+certificate_of q (Unbounded m ray) = unbounded_certificate q m ray
+
+-- they show the claim by a program of the question
 abbrev pub IsShown : Question → Program → Finding → Type 0
-IsShown q p (Optimal value m bound) = q.shows p m bound
-IsShown q p (Infeasible face) = Certified p (certificates.Infeasible face)
-IsShown q p (Unbounded m ray) = q.shows_ray p m ray
+IsShown q p finding = Certified p (certificate_of q finding)
 
 -- it has the question's sizes, and its numbers are in their ranges
 abbrev pub IsFindingTo : Question → Finding → Type 0

@@ -30,7 +30,7 @@ use Rattle.md_simplex.proofs.SameRuns.{run-same}
 use Rattle.md_parts.specs.Fitting.{IsFraction}
 use Rattle.md_question.specs.Certified.{IsCertifiedFinding}
 use Rattle.md_question.specs.Findings.{WhereOptimal}
-use Rattle.md_question.specs.Question.{IsProgramFor, IsQuestion, Question}
+use Rattle.md_question.specs.Question.{IsProgramFor, IsQuestion, Question, optimal_certificate, unbounded_certificate}
 use Rattle.md_question.specs.Shown.{IsFindingTo, IsShown, IsSo}
 use Rattle.md_question.specs.declared.finding.Finding.{Finding}
 use Rattle.md_question.specs.declared.finding.Finding.TheVariants.{Optimal, Infeasible, Unbounded}
@@ -136,10 +136,11 @@ module _ (q : Question) where
 
     shown-told : (p : Program) (c : Certificate) (finding : Finding) → IsProgramFor q p → Certified p c → TellsCertificate q.setting c (reading_in finding) → IsShown q p finding
     shown-told p (certificates.Optimal den point bound) (Optimal value m told) is c h =
-        subst (λ k. q.shows p k told) (sym h.0) (subst (q.shows p (mechanism_of q.setting den (number_at point))) (sym h.1) (laws.shown p den point bound is c))
+        subst (λ k. Certified p (optimal_certificate q k told)) (sym h.0) (subst (λ b. Certified p (optimal_certificate q (mechanism_of q.setting den (number_at point)) b)) (sym h.1) (laws.shown p den point bound is c))
     shown-told p (certificates.Infeasible face) (Infeasible told) is c h = subst (λ f. Certified p (certificates.Infeasible f)) (sym h) c
     shown-told p (certificates.Unbounded den point ray) (Unbounded m pays) is c h =
-        subst (λ k. q.shows_ray p k pays) (sym h.0) (subst (q.shows_ray p (mechanism_of q.setting den (number_at point))) (sym h.1) (laws.shown_ray p den (number_at point) (number_at ray) is c))
+        subst (λ k. Certified p (unbounded_certificate q k pays)) (sym h.0)
+        (subst (λ ps. Certified p (unbounded_certificate q (mechanism_of q.setting den (number_at point)) ps)) (sym h.1) (laws.shown_ray p den (number_at point) (number_at ray) is c))
     shown-told p (certificates.Optimal den point bound) _ is c h = absurd h
     shown-told p (certificates.Infeasible face) _ is c h = absurd h
     shown-told p (certificates.Unbounded den point ray) _ is c h = absurd h
@@ -155,7 +156,7 @@ module _ (q : Question) where
         record {
           program = p;
           is_program = is;
-          shown = λ r there. shown-every q laws p r finding is there (shown-told p c finding is certified tells);
+          shown = λ r there. shown-every q p r finding is there (shown-told p c finding is certified tells);
           so = claim;
           admissible = so-admissible q laws finding claim;
           none = exactly_infeasible q laws finding claim;

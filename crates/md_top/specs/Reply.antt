@@ -2,12 +2,13 @@
 use Rattle.std.specs.Prelude.{◌≡◌, ◌⊎◌, ℕ, ℤ, unsigned_abs, Bool, true, false, List, Option, None, Some, IsSome}
 use Rattle.md_cli_words.specs.Commands.{command_in}
 use Rattle.md_cli_words.specs.declared.command.Command.{Command}
-use Rattle.md_cli_words.specs.declared.command.Command.TheVariants.{Audit, Rows, Check, Solve, Replay, Realise, Fair, Find, FindFair, Asym, Units, Determ, DetermCheck, Run, Report, Iron, Make, Drill}
+use Rattle.md_cli_words.specs.declared.command.Command.TheVariants.{Audit, Rows, Check, Solve, Replay, Realise, Fair, Find, FindFair, FairCheck, Asym, Units, Determ, DetermCheck, Run, Report, Iron, Make, Drill}
 use Rattle.md_cli_words.specs.Words.{Order, command_of}
 use Rattle.md_mech.specs.declared.mechanism.Mechanism.{Mechanism}
 use Rattle.md_border.specs.declared.interim.Interim.{Interim}
 use Rattle.md_answer.specs.declared.answer.Answer.{Answer}
 use Rattle.md_answer.specs.declared.pivots_file.Pivots.{Pivots}
+use Rattle.md_fair.specs.declared.answer.FairAnswer.{FairAnswer}
 use Rattle.md_cli_driver.specs.declared.refusal.Refusal.TheVariants as refusal
 use Rattle.md_cli_driver.specs.Saying.{Saying}
 use Rattle.md_cli_driver.specs.Reading.{answer_in, is_any, is_auction, is_general}
@@ -16,7 +17,9 @@ use Rattle.md_cli_driver.specs.Works.{Work, no_file, one_file, two_files, number
 use Rattle.md_cli_best.specs.Headline.{IsSolveStatus}
 use Rattle.md_cli_judge.specs.Auditing.{mechanism_in, IsAudit, IsAuditStatus}
 use Rattle.md_cli_tell.specs.Listing.{IsRows, IsRowsStatus}
-use Rattle.md_cli_judge.specs.Checking.{IsCheck, IsCheckStatus}
+use Rattle.md_cli_judge.specs.Checking.{IsCheck}
+use Rattle.md_cli_judge.specs.FairChecking.{fair_answer_in, IsFairCheck}
+use Rattle.md_cli_judge.specs.Verdicts.{IsCheckStatus}
 use Rattle.md_cli_best.specs.Solving.{IsSolve}
 use Rattle.md_cli_tell.specs.Replaying.{pivots_in, IsReplay, IsReplayStatus}
 use Rattle.md_cli_tell.specs.Realising.{odds_in, IsRealise, IsRealiseStatus}
@@ -52,6 +55,7 @@ work_by Realise order = two_files Interim is_auction odds_in IsRealise IsRealise
 work_by Fair order = one_file is_general (IsFair order.width) IsSolveStatus
 work_by Find order = one_file is_general IsFind IsFindStatus
 work_by FindFair order = one_file is_general IsFindFair IsFindStatus
+work_by FairCheck order = two_files FairAnswer is_general fair_answer_in IsFairCheck IsCheckStatus
 work_by Asym order = one_file is_general (IsAsym order.width) IsAsymStatus
 work_by Units order = units_work order.number order.width
 work_by Determ order = one_file is_general (IsDeterm order.width) IsDetermStatus

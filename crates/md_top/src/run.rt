@@ -8,7 +8,7 @@ use md_cli_best::{
     Asym, Determ, Drill, Fair, Find, FindFair, Iron, Make, Solve, UnitNumber, Units,
 };
 use md_cli_driver::{Answered, NumberRefused, Refusal, of_none, of_one, of_two};
-use md_cli_judge::{Audit, Check, DetermCheck};
+use md_cli_judge::{Audit, Check, DetermCheck, FairCheck};
 use md_cli_tell::{Draw, Realise, Replay, Rows, Tell};
 use md_cli_words::{Command, Order};
 use md_num::Width;
@@ -43,6 +43,7 @@ pub(crate) fn run<F: Shelf>(
         Command::Fair => of_one(alloc, &Fair { width }, setting, shelf),
         Command::Find => of_one(alloc, &Find, setting, shelf),
         Command::FindFair => of_one(alloc, &FindFair, setting, shelf),
+        Command::FairCheck => of_two(alloc, &FairCheck, setting, second, shelf),
         Command::Asym => of_one(alloc, &Asym { width }, setting, shelf),
         Command::Units => sell_units(alloc, number, width, setting, shelf),
         Command::Determ => of_one(alloc, &Determ { width }, setting, shelf),

@@ -1,7 +1,7 @@
 use Rattle.std.proofs.Common.{◌≡◌}
 use Rattle.std.proofs.lemmas.Result.{IfOk-weaker}
-use Rattle.md_check.specs.declared.verdict.Verdict.{Verdict}
-use Rattle.md_check.specs.declared.verdict.Verdict.TheVariants.{Rejected}
+use Rattle.md_question_check.specs.declared.verdict.Verdict.{Verdict}
+use Rattle.md_question_check.specs.declared.verdict.Verdict.TheVariants.{Rejected}
 use Rattle.md_check.specs.AuctionVerdicts.{IsAuctionOptimalVerdict}
 use Rattle.md_check.proofs.AuctionLaws.{if_add_up, if_claimed}
 use Rattle.md_check.proofs.OneAuctionVerdict.{one-optimal}

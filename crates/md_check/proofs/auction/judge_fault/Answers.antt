@@ -3,7 +3,7 @@ use mir.Syntax.{w128}
 use Rattle.md_cert.specs.declared.cert_fault.CertFault.TheVariants as fault
 use Rattle.md_cert.specs.Fault.{IsFirstFault}
 use Rattle.md_claims.specs.AuctionCertificates.{auction_certificate}
-use Rattle.md_check.specs.Certificates.{IsBehindPoint}
+use Rattle.md_question_check.specs.Certificates.{IsBehindPoint}
 use Rattle.md_check.proofs.AuctionLaws.{told-row, told-value, told-fault}
 use Rattle.md_check.proofs.auction.judge_fault.Goals as goal
 

@@ -1,9 +1,9 @@
-use Rattle.std.proofs.Common.{refl}
+use Rattle.std.proofs.lemmas.Result.{IfOk-weaker}
 use Rattle.md_cli_judge.proofs.CheckedTexts.{told_verdict}
 use Rattle.md_cli_judge.proofs.check.checked.Goals as goal
 
-pub returns-in_ok-record_text-in-Rejected-clause-checked : goal.returns-in_ok-record_text-in-Rejected-clause-checked
-returns-in_ok-record_text-in-Rejected-clause-checked c =
-    let h = c.in_ok-check.ensures in
-    told_verdict c.args.file.now c.args.answer.now c.in_ok-check.field-0 _ h.verdict h.auction_verdict h.only h.auction_only h.claim h.auction_claim h.undecided
-    (rw c.in-Rejected.is (record { status = refl; fields = c.in_ok-record-in-Rejected.record; rejected = c.in_ok-record-in-Rejected.ensures; text = c.in_ok-record_text-in-Rejected.ensures }))
+pub returns-clause-checked : goal.returns-clause-checked
+returns-clause-checked c =
+    let h = c.in_ok-verdict.ensures in
+    IfOk-weaker c.tell_verdict.result _ _
+    (λ answered told. told_verdict c.args.file.now c.args.answer.now c.in_ok-verdict.verdict _ h.verdict h.auction_verdict h.only h.auction_only h.claim h.auction_claim h.undecided told) c.tell_verdict.ensures.told

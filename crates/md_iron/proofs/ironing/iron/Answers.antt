@@ -1,7 +1,7 @@
 use Rattle.std.proofs.Common.{◌≡◌, ◌⊎◌, inl, inr}
-use Rattle.md_check.specs.declared.verdict.Reject.{Reject}
-use Rattle.md_check.specs.declared.verdict.Verdict.{Verdict}
-use Rattle.md_check.specs.declared.verdict.Verdict.TheVariants.{Valid, Undecided, Rejected}
+use Rattle.md_question_check.specs.declared.verdict.Reject.{Reject}
+use Rattle.md_question_check.specs.declared.verdict.Verdict.{Verdict}
+use Rattle.md_question_check.specs.declared.verdict.Verdict.TheVariants.{Valid, Undecided, Rejected}
 use Rattle.md_iron.proofs.ShareLaws.{where-some}
 use Rattle.md_iron.proofs.SoundLaws.{closed-sound}
 use Rattle.md_iron.proofs.ironing.iron.Goals as goal

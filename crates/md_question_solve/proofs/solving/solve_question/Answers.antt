@@ -89,4 +89,4 @@ returns-clause-shown g c = λ p is.
     let q = g.Q.Asks.asked c.args.question.now in
     let lp = c.in-Ok.lp in
     if_ok c.found.result (IsFoundBy q lp c.args.width) (IsShown q p)
-    (λ a h. shown-every q c.found.ensures.laws lp p a c.in-Ok.ensures is (shown q c.found.ensures.laws lp c.args.width a c.in-Ok.ensures h)) c.found.ensures.found
+    (λ a h. shown-every q lp p a c.in-Ok.ensures is (shown q c.found.ensures.laws lp c.args.width a c.in-Ok.ensures h)) c.found.ensures.found

@@ -1,0 +1,3 @@
+pub mod SameVerdict
+pub mod VerdictLaws
+pub mod OneVerdict

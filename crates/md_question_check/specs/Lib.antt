@@ -1,0 +1,3 @@
+pub mod Programs
+pub mod Certificates
+pub mod Verdicts
