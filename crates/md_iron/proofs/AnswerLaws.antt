@@ -24,7 +24,7 @@ use Rattle.md_parts.specs.Fitting.{IsBoundOver}
 use Rattle.md_claims.specs.AuctionCertificates.{auction_certificate}
 use Rattle.md_iron_values.specs.Pools.{Pools}
 use Rattle.md_iron_values.specs.VirtualValues.{IsPooledAuction}
-use Rattle.md_iron_values.specs.Odds.{interim_of, odds_in, pay_in_pools}
+use Rattle.md_iron_values.specs.Odds.{share_den, odds_in, pay_in_pools, interim_of}
 use Rattle.md_iron_values.specs.Cuts.{cuts_of}
 use Rattle.md_iron_laws.specs.Rows.{rows_of}
 use Rattle.md_answer.specs.AuctionAnswerTo.{IsAuctionAnswer}
@@ -32,6 +32,7 @@ use Rattle.md_answer.specs.declared.answer.Answer.TheVariants.{AuctionOptimal}
 use Rattle.md_iron_values.proofs.AuctionLaws.{pays-bounds}
 use Rattle.md_iron_values.proofs.DemandLaws.{excess-none}
 use Rattle.md_iron_laws.proofs.Lists.{closed-certified}
+use Rattle.md_iron_laws.proofs.OneItem.{one_unit, one-item}
 use Rattle.md_iron_laws.proofs.Printed.{printed-point}
 use Rattle.md_iron.specs.ClosedForms.{PaysWithinValue}
 use Rattle.md_iron.specs.ShortBounds.{IsBoundIn, IsClosedBound}
@@ -64,7 +65,7 @@ pub closed-certificate : (a : SymmetricAuction) (pools : Pools) (p : Program) (i
     → IsBoundIn a pools p bound → Certified p (auction_certificate interim bound)
 closed-certificate a pools p interim bound shaped pooled e program is =
     subst (λ i. Certified p (auction_certificate i bound)) (sym e)
-    (let closed = closed-certified a pools p is.divisor bound shaped pooled program is.short.multipliers none in
+    (let closed = closed-certified a 1 pools p (share_den a) (odds_in a pools) is.divisor bound shaped one_unit pooled (one-item a pools shaped pooled) program is.short.multipliers none in
     rw (printed-point a pools shaped pooled) closed)
   where
     none : (r : ℕ) → r < row_count p → number_at bound.face r ≡ pos 0

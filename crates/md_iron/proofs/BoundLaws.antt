@@ -27,6 +27,7 @@ use Rattle.md_iron_laws.proofs.Certificates.{row_in, row-inside, factor-positive
 use Rattle.md_iron_laws.proofs.Divisors.{row-below, divisor_of, divisor_of-divides}
 use Rattle.md_iron_laws.proofs.Fractions.{den-positive}
 use Rattle.md_iron_laws.proofs.ProgramForms.{is-program}
+use Rattle.md_iron_laws.proofs.OneItem.{one_unit}
 use Rattle.md_iron.specs.RowMultipliers.{IsDividedBy, AreRowMultipliers}
 use Rattle.md_iron.specs.Shares.{fraction_in, AreLeastFractions, AreOver}
 use Rattle.md_iron.specs.ShortBounds.{AreShortMultipliers, IsClosedBound, HasNoShortBound}
@@ -49,7 +50,7 @@ backward num den big_num big_den over main above e f = forward big_num big_den n
 -- how many rows there are
 pub rows-count : (a : SymmetricAuction) (pools : Pools) (p : Program) → IsReducedProgram a 1 (cuts_of (value_count a) pools) p → row_count p ≡ length (rows_of (value_count a) pools)
 rows-count a pools p is =
-    forms.rows-count (column_count a) (map (row_form a) (rows_of (value_count a) pools)) (cost_of a) p (is-program a pools p is) ∙ length-map (rows_of (value_count a) pools) (row_form a)
+    forms.rows-count (column_count a) (map (row_form a 1) (rows_of (value_count a) pools)) (cost_of a) p (is-program a 1 pools p is) ∙ length-map (rows_of (value_count a) pools) (row_form a 1)
 
 pub short-multipliers : (a : SymmetricAuction) (pools : Pools) (p : Program) (divisor : ℕ → ℤ) (fractions : List Frac) (over : ℤ) (main : ℕ → ℤ) → IsReducedProgram a 1 (cuts_of (value_count a) pools) p
     → AreLeastFractions fractions → length fractions ≡ row_count p → AreRowMultipliers a pools p (row_count p) fractions → IsDividedBy a pools p divisor → AreOver fractions over main → AreShortMultipliers a pools p divisor over main
@@ -81,7 +82,7 @@ are-over a pools p divisor fractions over main shaped pooled is long rows h = re
         let f = fraction_in fractions k in
         record {
           ratio = backward f.num f.den (multiplier_num a pools divisor row) (multiplier_den a pools p.factor row) over (main k)
-              (den-positive a pools p.factor shaped pooled (factor-positive a pools p is) row (row-inside a pools p is k inside)) (h.multipliers.at k row stands)
+              (den-positive a pools p.factor shaped pooled (factor-positive a 1 pools p is) row (row-inside a 1 pools p is k inside)) (h.multipliers.at k row stands)
               ((rows.at k inside).is divisor row (record { at = h.multipliers.divided }) stands).ratio;
           short = h.short k inside;
         };
@@ -93,7 +94,7 @@ are-over a pools p divisor fractions over main shaped pooled is long rows h = re
 same-short : (a : SymmetricAuction) (pools : Pools) (p q : Program) (divisor : ℕ → ℤ) (over : ℤ) (main : ℕ → ℤ) → IsReducedProgram a 1 (cuts_of (value_count a) pools) p → IsReducedProgram a 1 (cuts_of (value_count a) pools) q
     → AreShortMultipliers a pools p divisor over main → AreShortMultipliers a pools q divisor over main
 same-short a pools p q divisor over main is its h =
-    let same = same_program (column_count a) (map (row_form a) (rows_of (value_count a) pools)) (cost_of a) p q (is-program a pools p is) (is-program a pools q its) in
+    let same = same_program (column_count a) (map (row_form a 1) (rows_of (value_count a) pools)) (cost_of a) p q (is-program a 1 pools p is) (is-program a 1 pools q its) in
     let factor : p.factor ≡ q.factor = IsDivisorFor-same (column_count a) (λ j. cost_of a (unit j)) p.factor q.factor is.has_cost.factor its.has_cost.factor in
     record {
       multipliers = record {
@@ -116,9 +117,9 @@ closed-bound a pools p fractions bound shaped is least long rows over one_each f
   holds = λ q its.
       let same : length fractions ≡ row_count q = long ∙ rows-count a pools p is ∙ sym (rows-count a pools q its) in
       record {
-        divisor = divisor_of a;
-        short = same-short a pools p q (divisor_of a) bound.den (number_at bound.main) is its
-            (short-multipliers a pools p (divisor_of a) fractions bound.den (number_at bound.main) is least long rows (record { at = divisor_of-divides a pools p shaped is }) over);
+        divisor = divisor_of a 1;
+        short = same-short a pools p q (divisor_of a 1) bound.den (number_at bound.main) is its
+            (short-multipliers a pools p (divisor_of a 1) fractions bound.den (number_at bound.main) is least long rows (record { at = divisor_of-divides a 1 pools p shaped one_unit is }) over);
         one_each = one_each ∙ same;
         face_is = face ∙ ap (λ n. list_to n (λ _. pos 0)) same;
       };

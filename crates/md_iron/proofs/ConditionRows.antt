@@ -27,6 +27,7 @@ use Rattle.md_reduced.specs.ProgramOf.{IsReducedProgram}
 use Rattle.md_iron_values.specs.Pools.{Pools}
 use Rattle.md_iron_values.specs.Cuts.{begins, set_from, cuts_of}
 use Rattle.md_iron_laws.specs.Rows.{ProgramRow, truth_row, rational_row, cut_row, cut_rows, rows_of, row_right}
+use Rattle.md_iron_laws.proofs.OneItem.{one_unit}
 use Rattle.md_iron_laws.proofs.Divisors.{row-in, line-of, cut-right-positive}
 use Rattle.md_iron_laws.proofs.Lists.{map-cut_rows}
 use Rattle.md_iron_laws.proofs.ProgramForms.{map-parts}
@@ -147,16 +148,16 @@ cut-at a pools p cuts number set shaped program same is =
     let (s, row_is, set_is) = cut-only k set row e in
     let stands : slice_get (rows_of (value_count a) pools) number ≡ Some (cut_row s) = its ∙ ap Some row_is in
     let inside : s < value_count a = (row-in k pools number (cut_row s) stands).0 in
-    let line = line-of a pools p (subst (λ xs. IsReducedProgram a 1 xs p) same program) number (cut_row s) stands in
+    let line = line-of a 1 pools p (subst (λ xs. IsReducedProgram a 1 xs p) same program) number (cut_row s) stands in
     let by : pos 0 <ℤ line.by = IsDivisorFor-positive _ _ line.by line.divisor in
-    let right : right_by_counts a 1 set ≡ row_right a (cut_row s) = ap (right_by_counts a 1) set_is in (
+    let right : right_by_counts a 1 set ≡ row_right a 1 (cut_row s) = ap (right_by_counts a 1) set_is in (
       s,
       record {
         stands = stands;
         inside = inside;
         set_is = set_is;
         lowest = ap (trailing_zeros w32) set_is ∙ lowest-from k s inside shaped.few_values;
-        positive = positive_from_*ℤ line.by (right_at p number) by (subst (λ z. pos 0 <ℤ z) line.right (cut-right-positive a s shaped inside));
+        positive = positive_from_*ℤ line.by (right_at p number) by (subst (λ z. pos 0 <ℤ z) line.right (cut-right-positive a 1 s shaped one_unit inside));
         divides = Divides-from_product (right_at p number) line.by (right_by_counts a 1 set) (right ∙ line.right ∙ *ℤ_comm line.by (right_at p number));
       },
     )

@@ -10,7 +10,7 @@ use Rattle.md_iron.specs.Shares.{fraction_in}
 
 -- the row of the cut that a value begins with was divided by the number at that value
 pub record IsDividedBy (a : SymmetricAuction) (pools : Pools) (p : Program) (divisor : ℕ → ℤ) : Type 0 where
-  pub at : (number s : ℕ) → slice_get (rows_of (value_count a) pools) number ≡ Some (cut_row s) → row_right a (cut_row s) ≡ divisor s *ℤ right_at p number
+  pub at : (number s : ℕ) → slice_get (rows_of (value_count a) pools) number ≡ Some (cut_row s) → row_right a 1 (cut_row s) ≡ divisor s *ℤ right_at p number
 
 -- the row is multiplied by the fraction
 pub record IsMultiplierOf (a : SymmetricAuction) (pools : Pools) (factor : ℤ) (divisor : ℕ → ℤ) (row : ProgramRow) (fraction : Frac) : Type 0 where

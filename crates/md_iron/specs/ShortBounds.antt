@@ -13,7 +13,7 @@ use Rattle.md_question_check.specs.Programs.{OfProgram}
 
 -- the multipliers `main` over `over` of the rows are those that certify the pools, and all these numbers have at most 62 bits
 pub record AreShortMultipliers (a : SymmetricAuction) (pools : Pools) (p : Program) (divisor : ℕ → ℤ) (over : ℤ) (main : ℕ → ℤ) : Type 0 where
-  pub multipliers : AreMultipliers a pools p divisor over main
+  pub multipliers : AreMultipliers a 1 pools p divisor over main
   pub over_short : IsWithin (2 ^ 62 - 1) over
   pub short : (r : ℕ) → r < row_count p → IsWithin (2 ^ 62 - 1) (main r)
 

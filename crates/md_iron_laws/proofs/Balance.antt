@@ -15,7 +15,7 @@ use Rattle.md_iron_values.specs.Weights.{weight_before}
 use Rattle.md_iron_values.specs.Pools.{Pools, over_pool}
 use Rattle.md_iron_values.specs.Cuts.{begins}
 use Rattle.md_iron_values.specs.VirtualValues.{weight_to, weight_from, virtual_value, virtual_to, IsPooledAuction}
-use Rattle.md_iron_values.specs.Odds.{step_of, share_den, odds_in}
+use Rattle.md_iron_values.specs.Odds.{step_of, share_den}
 use Rattle.md_iron_values.proofs.AuctionLaws.{weight-ascends, weight_from-end}
 use Rattle.md_iron_laws.specs.Ironed.{AreMeans, gap_times, rest_of, IsIroned}
 use Rattle.md_iron_laws.specs.Undivided.{Undivided, left_total}
@@ -74,9 +74,9 @@ pub means : (a : SymmetricAuction) (pools : Pools) (m : Multiples a pools) → A
 means a pools m = have-means (value_count a) (weight_to a) (virtual_to a) pools m.weights
 
 pub ironed : (a : SymmetricAuction) (pools : Pools) (m : Multiples a pools) → IsAuction a → IsPooledAuction a pools
-    → IsIroned (value_count a) (weight_to a) (virtual_to a) pools (odds_in a pools) m.weights.whole (mean_of a pools m) (gap_of a pools m)
+    → IsIroned (value_count a) (weight_to a) (virtual_to a) pools m.weights.whole (mean_of a pools m) (gap_of a pools m)
 ironed a pools m shaped p =
-    is-ironed (value_count a) a.bidders (weight_before (slice_index a.weights)) (weight_to a) (virtual_to a) pools m.weights.whole (mean_of a pools m) p (weight-ascends a shaped) (means a pools m)
+    is-ironed (value_count a) (weight_to a) (virtual_to a) pools m.weights.whole (mean_of a pools m) p (weight-ascends a shaped) (means a pools m)
 
 up-at : (d n e w g : ℤ) → d *ℤ e ≡ w → d *ℤ (n *ℤ (e *ℤ g)) ≡ (n *ℤ w) *ℤ g
 up-at d n e w g h =

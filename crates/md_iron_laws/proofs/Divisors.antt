@@ -13,12 +13,11 @@ use Rattle.md_lp.proofs.Dividing.{IsDivisorFor-gcd, IsDivisorFor-same, zero-Divi
 use Rattle.md_forms.specs.Forms.{number_of}
 use Rattle.md_forms.specs.ProgramOf.{IsRowOf}
 use Rattle.md_forms.proofs.BuiltLaws as forms
-use Rattle.md_border.proofs.SideLaws.{right_of-counts}
 use Rattle.md_reduced.specs.ProgramOf.{column_count, IsReducedProgram}
 use Rattle.md_reduced.specs.Sides.{cost_of}
 use Rattle.md_iron_values.specs.Pools.{Pools}
-use Rattle.md_iron_values.specs.Cuts.{set_from, cuts_of}
-use Rattle.md_iron_values.proofs.DemandLaws.{right-positive}
+use Rattle.md_iron_values.specs.Cuts.{cuts_of}
+use Rattle.md_iron_values.proofs.DemandLaws.{units-positive}
 use Rattle.md_iron_laws.specs.Rows.{ProgramRow, cut_row, rows_of, row_right, row_form}
 use Rattle.md_iron_laws.specs.RowsIn.{IsRowIn}
 use Rattle.md_iron_laws.proofs.Certificates.{row-by}
@@ -35,55 +34,55 @@ pub row-in : (kinds : ℕ) (pools : Pools) (number : ℕ) (row : ProgramRow) →
 row-in kinds pools number row e =
     subst (IsRowIn kinds pools) (get_or_from_slice_get (rows_of kinds pools) number row row e) (rows-in kinds pools number row (row-below (rows_of kinds pools) number row e))
 
-pub line-of : (a : SymmetricAuction) (pools : Pools) (p : Program) → IsReducedProgram a 1 (cuts_of (value_count a) pools) p → (number : ℕ) (row : ProgramRow) → slice_get (rows_of (value_count a) pools) number ≡ Some row
-    → IsRowOf (column_count a) (row_form a row) (row_at p number)
-line-of a pools p is number row e =
-    forms.each-row (column_count a) (map (row_form a) (rows_of (value_count a) pools)) (cost_of a) p (is-program a pools p is) number (row_form a row)
-    (slice_get-map (row_form a) (rows_of (value_count a) pools) number ∙ ap (option_map (row_form a)) e)
+pub line-of : (a : SymmetricAuction) (units : ℕ) (pools : Pools) (p : Program) → IsReducedProgram a units (cuts_of (value_count a) pools) p → (number : ℕ) (row : ProgramRow) → slice_get (rows_of (value_count a) pools) number ≡ Some row
+    → IsRowOf (column_count a) (row_form a units row) (row_at p number)
+line-of a units pools p is number row e =
+    forms.each-row (column_count a) (map (row_form a units) (rows_of (value_count a) pools)) (cost_of a) p (is-program a units pools p is) number (row_form a units row)
+    (slice_get-map (row_form a units) (rows_of (value_count a) pools) number ∙ ap (option_map (row_form a units)) e)
 
 -- ---- right sides of cuts
 
-pub cut-right-positive : (a : SymmetricAuction) (s : ℕ) → IsAuction a → s < value_count a → pos 0 <ℤ row_right a (cut_row s)
-cut-right-positive a s shaped b = subst (λ z. pos 0 <ℤ z) (right_of-counts a (set_from (value_count a) s)) (right-positive a s shaped b)
+pub cut-right-positive : (a : SymmetricAuction) (units s : ℕ) → IsAuction a → 0 < units → s < value_count a → pos 0 <ℤ row_right a units (cut_row s)
+cut-right-positive a units s shaped some b = units-positive a units s shaped some b
 
 -- ---- the divisor
 
 -- the greatest common divisor of the numbers of a cut's row
-pub divisor_of : SymmetricAuction → ℕ → ℤ
-divisor_of a s = (family_gcd (suc (column_count a)) (number_of (row_form a (cut_row s)))).0
+pub divisor_of : SymmetricAuction → ℕ → ℕ → ℤ
+divisor_of a units s = (family_gcd (suc (column_count a)) (number_of (row_form a units (cut_row s)))).0
 
-pub divisor_of-is : (a : SymmetricAuction) (s : ℕ) → IsAuction a → s < value_count a → IsDivisorFor (suc (column_count a)) (number_of (row_form a (cut_row s))) (divisor_of a s)
+pub divisor_of-is : (a : SymmetricAuction) (units s : ℕ) → IsAuction a → 0 < units → s < value_count a → IsDivisorFor (suc (column_count a)) (number_of (row_form a units (cut_row s))) (divisor_of a units s)
 unfolding divisor_of
-divisor_of-is a s shaped b =
-    let (g, q) = family_gcd (suc (column_count a)) (number_of (row_form a (cut_row s))) in
-    IsDivisorFor-gcd (suc (column_count a)) (number_of (row_form a (cut_row s))) g q.is_gcd
-    (λ e. not_none (row_right a (cut_row s)) (cut-right-positive a s shaped b) (zero-Divides (row_right a (cut_row s)) (subst (λ d. Divides d (row_right a (cut_row s))) e (q.is_gcd.common.at 0 (omega arith)))))
+divisor_of-is a units s shaped some b =
+    let (g, q) = family_gcd (suc (column_count a)) (number_of (row_form a units (cut_row s))) in
+    IsDivisorFor-gcd (suc (column_count a)) (number_of (row_form a units (cut_row s))) g q.is_gcd
+    (λ e. not_none (row_right a units (cut_row s)) (cut-right-positive a units s shaped some b) (zero-Divides (row_right a units (cut_row s)) (subst (λ d. Divides d (row_right a units (cut_row s))) e (q.is_gcd.common.at 0 (omega arith)))))
   where
     not_none : (z : ℤ) → pos 0 <ℤ z → z ≡ pos 0 → ⊥
     not_none z h e = omega (arith, ints, h, e)
 
 -- the right side of the row of a number is divided by it
-pub divisor_of-divides : (a : SymmetricAuction) (pools : Pools) (p : Program) → IsAuction a → IsReducedProgram a 1 (cuts_of (value_count a) pools) p → (number s : ℕ) → slice_get (rows_of (value_count a) pools) number ≡ Some (cut_row s)
-    → row_right a (cut_row s) ≡ divisor_of a s *ℤ right_at p number
-divisor_of-divides a pools p shaped is number s e =
-    let line = line-of a pools p is number (cut_row s) e in
+pub divisor_of-divides : (a : SymmetricAuction) (units : ℕ) (pools : Pools) (p : Program) → IsAuction a → 0 < units → IsReducedProgram a units (cuts_of (value_count a) pools) p → (number s : ℕ) → slice_get (rows_of (value_count a) pools) number ≡ Some (cut_row s)
+    → row_right a units (cut_row s) ≡ divisor_of a units s *ℤ right_at p number
+divisor_of-divides a units pools p shaped some is number s e =
+    let line = line-of a units pools p is number (cut_row s) e in
     let inside = row-in (value_count a) pools number (cut_row s) e in
-    let same : line.by ≡ divisor_of a s = IsDivisorFor-same (suc (column_count a)) (number_of (row_form a (cut_row s))) line.by (divisor_of a s) line.divisor (divisor_of-is a s shaped inside.0) in
+    let same : line.by ≡ divisor_of a units s = IsDivisorFor-same (suc (column_count a)) (number_of (row_form a units (cut_row s))) line.by (divisor_of a units s) line.divisor (divisor_of-is a units s shaped some inside.0) in
     line.right ∙ ap (λ z. z *ℤ right_at p number) same
 
 -- and by no other number
-pub divisor-same : (a : SymmetricAuction) (pools : Pools) (p : Program) (d : ℕ → ℤ) → IsAuction a → IsReducedProgram a 1 (cuts_of (value_count a) pools) p → (number s : ℕ) → slice_get (rows_of (value_count a) pools) number ≡ Some (cut_row s)
-    → row_right a (cut_row s) ≡ d s *ℤ right_at p number → d s ≡ divisor_of a s
-divisor-same a pools p d shaped is number s e h =
-    let line = line-of a pools p is number (cut_row s) e in
+pub divisor-same : (a : SymmetricAuction) (units : ℕ) (pools : Pools) (p : Program) (d : ℕ → ℤ) → IsAuction a → 0 < units → IsReducedProgram a units (cuts_of (value_count a) pools) p → (number s : ℕ) → slice_get (rows_of (value_count a) pools) number ≡ Some (cut_row s)
+    → row_right a units (cut_row s) ≡ d s *ℤ right_at p number → d s ≡ divisor_of a units s
+divisor-same a units pools p d shaped some is number s e h =
+    let line = line-of a units pools p is number (cut_row s) e in
     let inside = row-in (value_count a) pools number (cut_row s) e in
-    let mine : line.by ≡ d s = row-by a pools d (cut_row s) (row_at p number) line shaped inside (λ t f. turn t f) in
-    let its : line.by ≡ divisor_of a s = IsDivisorFor-same (suc (column_count a)) (number_of (row_form a (cut_row s))) line.by (divisor_of a s) line.divisor (divisor_of-is a s shaped inside.0) in
+    let mine : line.by ≡ d s = row-by a units pools d (cut_row s) (row_at p number) line shaped some inside (λ t f. turn t f) in
+    let its : line.by ≡ divisor_of a units s = IsDivisorFor-same (suc (column_count a)) (number_of (row_form a units (cut_row s))) line.by (divisor_of a units s) line.divisor (divisor_of-is a units s shaped some inside.0) in
     sym mine ∙ its
   where
     place : ProgramRow → ℕ
     place (cut_row t) = t
     place other = 0
 
-    turn : (t : ℕ) → cut_row s ≡ cut_row t → row_right a (cut_row s) ≡ d t *ℤ right_at p number
+    turn : (t : ℕ) → cut_row s ≡ cut_row t → row_right a units (cut_row s) ≡ d t *ℤ right_at p number
     turn t f = h ∙ ap (λ i. d i *ℤ right_at p number) (ap place f)

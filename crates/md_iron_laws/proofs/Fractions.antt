@@ -19,9 +19,8 @@ use Rattle.md_iron_laws.specs.RowsIn.{IsRowIn}
 use Rattle.md_iron_laws.specs.Multipliers.{sum_before, weight_of_before, apart_by, steeper_den, multiplier_num, multiplier_den}
 use Rattle.md_iron_laws.specs.Undivided.{times_of}
 use Rattle.md_iron_laws.proofs.EdgeLaws.{before_of, step-is}
-use Rattle.md_iron_laws.proofs.IronedLaws.{gap-scaled}
+use Rattle.md_iron_laws.proofs.IronedLaws.{begins-is, gap-scaled}
 use Rattle.md_iron_laws.proofs.Balance.{Multiples, mean_of, gap_of, gap_factor, cost_factor, worth_of, up_of, undivided_of, means, ironed}
-use Rattle.md_iron_laws.proofs.PointRows.{begins-is}
 
 -- ---- over plain numbers: n, w and l are the factors, h the divisor of the cost
 

@@ -1,16 +1,15 @@
 -- Pools by the lowest chords are ironed: what makes their odds optimal, over any curve.
-use Rattle.std.proofs.Common.{◌≡◌, ◌⊎◌, ℕ, zero, suc, ◌<◌, ◌≤◌, Bool, true, false, nat_lt, if◌then◌else◌, ℤ, pos, ◌+ℤ◌, ◌-ℤ◌, ◌*ℤ◌, ◌≤ℤ◌, ◌<ℤ◌, inl, inr, refl, sym, ap, ap₂, subst, ◌∙◌, arith, lt-ltb, le-ltb, eq-eqb}
+use Rattle.std.proofs.Common.{◌≡◌, ◌⊎◌, ℕ, zero, suc, ◌<◌, ◌≤◌, ◌==◌, Bool, true, false, nat_lt, if◌then◌else◌, ℤ, pos, ◌+ℤ◌, ◌-ℤ◌, ◌*ℤ◌, ◌≤ℤ◌, ◌<ℤ◌, inl, inr, refl, sym, ap, ap₂, subst, ◌∙◌, arith, lt-ltb, le-ltb, eq-eqb, eqb-true}
 use Rattle.std.proofs.lemmas.Bool.{cases_lt}
 use lib.IntN.{*ℤ_comm}
-use Rattle.md_math.proofs.Ring.{linear, ring, *ℤ-zero, zero-*ℤ, one-*ℤ, *ℤ_assoc, *ℤ_left_comm}
+use Rattle.md_math.proofs.Ring.{linear, ring, one-*ℤ, *ℤ_assoc, *ℤ_left_comm}
 use Rattle.md_math.proofs.Order.{*ℤ-le, *ℤ_cancel, le_from_*ℤ, nonneg-*ℤ, nonneg_from_*ℤ, positive-*ℤ, le_from_lt, le_from_same}
 use Rattle.md_iron_values.specs.Pools.{Pools, IsPooled, over_pool}
-use Rattle.md_iron_values.specs.Odds.{step_of, odds_by}
+use Rattle.md_iron_values.specs.Odds.{step_of}
 use Rattle.md_iron_values.specs.Cuts.{begins}
 use Rattle.md_iron_values.specs.Gaps.{least_to, gap_scale, gap_by}
 use Rattle.md_iron_values.proofs.PoolLaws.{next-pool, reserve-begins, last-stop, next-rise}
 use Rattle.md_iron_values.proofs.GapLaws.{least_to-next, least_to-above, scale-none, scale-some, gap-none, gap-some, gap-nonneg, pool-weight, scale-positive}
-use Rattle.md_iron_values.proofs.OddsLaws.{odds-none, odds-joined}
 use Rattle.md_iron_laws.specs.Ironed.{AreMeans, gap_times, rest_of, IsIroned}
 use Rattle.md_iron_laws.proofs.MultipleLaws.{HasMultiple}
 
@@ -172,7 +171,7 @@ rest-below kinds weight sum pools scale mean p are j b l = elim (cases_lt (suc j
       omega (arith, linear, left, nonneg-*ℤ scale (least_to sum j -ℤ sum (suc j)) (le_from_lt (pos 0) scale are.positive) fall)
 ]
 
--- ---- at both ends, and where the odds grow
+-- ---- at both ends, and where pools begin
 
 first-gap : (kinds : ℕ) (weight sum : ℕ → ℤ) (pools : Pools) (scale : ℤ) (mean : ℕ → ℤ) → IsPooled kinds weight sum pools → gap_times kinds weight sum pools scale mean 0 ≡ pos 0
 first-gap kinds weight sum pools scale mean p = elim (cases_lt 0 kinds) [
@@ -197,18 +196,15 @@ gap-times-nonneg kinds weight sum pools scale mean p up are j b =
     let same : gap_scale weight pools j *ℤ gap_times kinds weight sum pools scale mean j ≡ scale *ℤ gap_by weight sum pools j = gap-scaled kinds weight sum pools scale mean are j b in
     nonneg_from_*ℤ (gap_scale weight pools j) (gap_times kinds weight sum pools scale mean j) (scale-positive kinds weight sum pools p up j b) (subst (λ z. pos 0 ≤ℤ z) (sym same) product)
 
-no-growth-of : (g x y : ℤ) → y ≡ x → g *ℤ (y -ℤ x) ≡ pos 0
-no-growth-of g x y e = (let none : y -ℤ x ≡ pos 0 = omega (arith, linear, e) in ap (λ z. g *ℤ z) none ∙ *ℤ-zero g)
-
-flat-at : (kinds n : ℕ) (before : ℕ → ℕ) (weight sum : ℕ → ℤ) (pools : Pools) (scale : ℤ) (mean : ℕ → ℤ) → IsPooled kinds weight sum pools → (j : ℕ) → suc j < kinds
-    → gap_times kinds weight sum pools scale mean (suc j) *ℤ (pos (odds_by n before pools (suc j)) -ℤ pos (odds_by n before pools j)) ≡ pos 0
-flat-at kinds n before weight sum pools scale mean p j b = elim (next-pool kinds weight sum pools p j b) [
-  | inl e ↦ elim (cases_lt (suc j) pools.reserve) [
-    | inl l ↦ no-growth-of (gap_times kinds weight sum pools scale mean (suc j)) _ _ (ap (λ m. pos m) (odds-none n before pools (suc j) l ∙ sym (odds-none n before pools j (omega (arith, l)))))
-    | inr g ↦ ap (λ z. z *ℤ (pos (odds_by n before pools (suc j)) -ℤ pos (odds_by n before pools j))) (gap-begins kinds weight sum pools scale mean (suc j) b g e.1) ∙ zero-*ℤ (pos (odds_by n before pools (suc j)) -ℤ pos (odds_by n before pools j))
-  ]
-  | inr e ↦ (let (buys, first, stop) = e in no-growth-of (gap_times kinds weight sum pools scale mean (suc j)) _ _ (ap (λ m. pos m) (odds-joined n before pools j (suc j) buys (omega (arith, buys)) first stop)))
+-- no gap where a pool begins that buys
+pub begins-is : (pools : Pools) (s : ℕ) → begins pools s ≡ true → (pools.reserve ≤ s) × (pools.first s ≡ s)
+begins-is pools s h = elim (cases_lt s pools.reserve) [
+  | inl l ↦ absurd (clash (sym h ∙ rw (lt-ltb s pools.reserve l) refl))
+  | inr g ↦ (g, eqb-true (pools.first s) s (sym (let e : begins pools s ≡ (pools.first s == s) = rw (le-ltb s pools.reserve g) refl in e) ∙ h))
 ]
+  where
+    clash : true ≡ false → ⊥
+    clash e = cc
 
 -- ---- steps of the means
 
@@ -261,9 +257,9 @@ step-first kinds weight sum pools scale mean p up are b = elim (cases_lt 0 pools
 
 -- ---- all of it
 
-pub is-ironed : (kinds n : ℕ) (before : ℕ → ℕ) (weight sum : ℕ → ℤ) (pools : Pools) (scale : ℤ) (mean : ℕ → ℤ) → IsPooled kinds weight sum pools → ((x y : ℕ) → x < y → y ≤ kinds → weight x <ℤ weight y)
-    → AreMeans kinds weight sum pools scale mean → IsIroned kinds weight sum pools (λ j. pos (odds_by n before pools j)) scale mean (gap_times kinds weight sum pools scale mean)
-is-ironed kinds n before weight sum pools scale mean p up are = record {
+pub is-ironed : (kinds : ℕ) (weight sum : ℕ → ℤ) (pools : Pools) (scale : ℤ) (mean : ℕ → ℤ) → IsPooled kinds weight sum pools → ((x y : ℕ) → x < y → y ≤ kinds → weight x <ℤ weight y)
+    → AreMeans kinds weight sum pools scale mean → IsIroned kinds weight sum pools scale mean (gap_times kinds weight sum pools scale mean)
+is-ironed kinds weight sum pools scale mean p up are = record {
   first = first-gap kinds weight sum pools scale mean p;
   last = gap-behind kinds weight sum pools scale mean;
   nonneg = gap-times-nonneg kinds weight sum pools scale mean p up are;
@@ -271,11 +267,8 @@ is-ironed kinds n before weight sum pools scale mean p up are = record {
     | inl l ↦ rest-below kinds weight sum pools scale mean p are j b l
     | inr g ↦ le_from_same (pos 0) _ (sym (rest-above kinds weight sum pools scale mean p up are j b g))
   ];
-  bought = λ j b. elim (cases_lt j pools.reserve) [
-    | inl l ↦ ap (λ m. pos m *ℤ rest_of weight sum scale mean (gap_times kinds weight sum pools scale mean) j) (odds-none n before pools j l) ∙ zero-*ℤ (rest_of weight sum scale mean (gap_times kinds weight sum pools scale mean) j)
-    | inr g ↦ ap (λ z. pos (odds_by n before pools j) *ℤ z) (rest-above kinds weight sum pools scale mean p up are j b g) ∙ *ℤ-zero (pos (odds_by n before pools j))
-  ];
-  flat = flat-at kinds n before weight sum pools scale mean p;
+  bought = λ j g b. rest-above kinds weight sum pools scale mean p up are j b g;
+  flat = λ j b h. (let (buys, start) = begins-is pools j h in gap-begins kinds weight sum pools scale mean j b buys start);
   rise = λ j b. rises j b;
   starts = λ j b. still j b;
 }

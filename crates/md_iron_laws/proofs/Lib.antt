@@ -4,7 +4,9 @@ pub mod EdgeLaws
 pub mod RowSums
 pub mod Balance
 pub mod ProgramForms
+pub mod Programs
 pub mod PointRows
+pub mod OneItem
 pub mod Fractions
 pub mod Certificates
 pub mod Optimal

@@ -15,9 +15,9 @@ use Rattle.md_cert.specs.declared.certificate.Certificate.TheVariants.{Optimal}
 use Rattle.md_reduced.specs.ProgramOf.{IsReducedProgram}
 use Rattle.md_iron_values.specs.Pools.{Pools}
 use Rattle.md_iron_values.specs.VirtualValues.{IsPooledAuction}
-use Rattle.md_iron_values.specs.Odds.{share_den}
 use Rattle.md_iron_values.specs.Cuts.{begins, cuts_of}
 use Rattle.md_iron_laws.specs.Rows.{ProgramRow, truth_row, rational_row, cut_row, cut_rows, rows_of, row_right}
+use Rattle.md_iron_laws.specs.PoolOdds.{ArePoolOdds}
 use Rattle.md_iron_laws.specs.Closed.{closed_point}
 use Rattle.md_iron_laws.specs.Multipliers.{multiplier_num, multiplier_den, AreMultipliers}
 use Rattle.md_iron_laws.proofs.ProgramForms.{map-parts}
@@ -46,12 +46,12 @@ map-rows f kinds pools =
 -- ---- multipliers
 
 -- numerators, denominators and numbers over one denominator, each in a list by row
-pub from-lists : (a : SymmetricAuction) (pools : Pools) (p : Program) (divisor : ℕ → ℤ) (over : ℤ) (nums dens main : List ℤ) → pos 0 <ℤ over
-    → ((number s : ℕ) → slice_get (rows_of (value_count a) pools) number ≡ Some (cut_row s) → row_right a (cut_row s) ≡ divisor s *ℤ right_at p number)
+pub from-lists : (a : SymmetricAuction) (units : ℕ) (pools : Pools) (p : Program) (divisor : ℕ → ℤ) (over : ℤ) (nums dens main : List ℤ) → pos 0 <ℤ over
+    → ((number s : ℕ) → slice_get (rows_of (value_count a) pools) number ≡ Some (cut_row s) → row_right a units (cut_row s) ≡ divisor s *ℤ right_at p number)
     → nums ≡ map (multiplier_num a pools divisor) (rows_of (value_count a) pools) → dens ≡ map (multiplier_den a pools p.factor) (rows_of (value_count a) pools)
     → ((number : ℕ) → number < length (rows_of (value_count a) pools) → number_at main number *ℤ number_at dens number ≡ over *ℤ number_at nums number)
-    → AreMultipliers a pools p divisor over (number_at main)
-from-lists a pools p divisor over nums dens main above divided nums_are dens_are ratio = record {
+    → AreMultipliers a units pools p divisor over (number_at main)
+from-lists a units pools p divisor over nums dens main above divided nums_are dens_are ratio = record {
   positive = above;
   divided = divided;
   at = λ number row stands.
@@ -72,7 +72,8 @@ from-lists a pools p divisor over nums dens main above divided nums_are dens_are
 
 -- ---- the certificate that a checker is asked for
 
-pub closed-certified : (a : SymmetricAuction) (pools : Pools) (p : Program) (divisor : ℕ → ℤ) (bound : Bound) → IsAuction a → IsPooledAuction a pools → IsReducedProgram a 1 (cuts_of (value_count a) pools) p
-    → AreMultipliers a pools p divisor bound.den (number_at bound.main) → ((r : ℕ) → r < row_count p → number_at bound.face r ≡ pos 0) → Certified p (Optimal (share_den a) (closed_point a pools) bound)
-closed-certified a pools p divisor bound shaped pooled is are none =
-    certified a pools p divisor bound.den (number_at bound.main) (number_at bound.face) (number_at (closed_point a pools)) shaped pooled is (closed-point a pools) are none
+pub closed-certified : (a : SymmetricAuction) (units : ℕ) (pools : Pools) (p : Program) (den : ℤ) (q divisor : ℕ → ℤ) (bound : Bound) → IsAuction a → 0 < units → IsPooledAuction a pools → ArePoolOdds a units pools den q
+    → IsReducedProgram a units (cuts_of (value_count a) pools) p
+    → AreMultipliers a units pools p divisor bound.den (number_at bound.main) → ((r : ℕ) → r < row_count p → number_at bound.face r ≡ pos 0) → Certified p (Optimal den (closed_point a q) bound)
+closed-certified a units pools p den q divisor bound shaped some pooled odds is are none =
+    certified a units pools p den q (number_at (closed_point a q)) divisor bound.den (number_at bound.main) (number_at bound.face) shaped some pooled odds is (closed-point a q) are none

@@ -1,4 +1,5 @@
--- An auction that sells by pools is optimal (Myerson 1981): no mechanism of it, of any denominator, is worth more.
+-- An auction that sells to the highest pools first is optimal (Myerson 1981): no point of its program costs more, and no mechanism of
+-- one item, of any denominator, is worth more.
 use Rattle.std.proofs.Common.{◌≡◌, ◌⊎◌, ℕ, ◌+◌, ◌*◌, ◌<◌, ◌≤◌, ℤ, pos, ◌*ℤ◌, ◌++◌, length, inl, inr, refl, sym, ap, subst, ◌∙◌, arith}
 use lib.IntN.{*ℤ_comm}
 use Rattle.std.proofs.lemmas.Bool.{cases_lt}
@@ -22,68 +23,71 @@ use Rattle.md_reduced.specs.Sides.{pay_in}
 use Rattle.md_reduced.proofs.OptimalLaws.{makes-optimal}
 use Rattle.md_iron_values.specs.Pools.{Pools}
 use Rattle.md_iron_values.specs.VirtualValues.{IsPooledAuction}
-use Rattle.md_iron_values.specs.Odds.{share_den, odds_in, pay_in_pools, interim_of}
+use Rattle.md_iron_values.specs.Odds.{pay_by, share_den, odds_in, pay_in_pools, interim_of}
 use Rattle.md_iron_values.specs.Cuts.{cuts_of}
+use Rattle.md_iron_laws.specs.PoolOdds.{ArePoolOdds}
 use Rattle.md_iron_laws.specs.Closed.{IsPointOf, closed_point}
 use Rattle.md_iron_laws.specs.Undivided.{times_of}
 use Rattle.md_iron_laws.proofs.Balance.{Multiples, cost_factor, undivided_of}
 use Rattle.md_iron_laws.proofs.Fractions.{cost_factor-positive}
 use Rattle.md_iron_laws.proofs.PointRows.{pay-is}
+use Rattle.md_iron_laws.proofs.OneItem.{one-item}
 use Rattle.md_iron_laws.proofs.Certificates.{IsLine, row_in, row-line, row-inside, line-from, factor-positive, multiples, certified-by}
 
 -- ---- some multipliers certify the point, of whatever size
 
-by_at : (a : SymmetricAuction) (pools : Pools) (p : Program) → IsReducedProgram a 1 (cuts_of (value_count a) pools) p → (r : ℕ) → (r < row_count p) ⊎ (row_count p ≤ r) → ℤ
-by_at a pools p is r (inl b) = (row-line a pools p is r b).by
-by_at a pools p is r (inr g) = pos 1
+by_at : (a : SymmetricAuction) (units : ℕ) (pools : Pools) (p : Program) → IsReducedProgram a units (cuts_of (value_count a) pools) p → (r : ℕ) → (r < row_count p) ⊎ (row_count p ≤ r) → ℤ
+by_at a units pools p is r (inl b) = (row-line a units pools p is r b).by
+by_at a units pools p is r (inr g) = pos 1
 
-whole-line : (a : SymmetricAuction) (pools : Pools) (p : Program) (m : Multiples a pools) → IsAuction a → IsPooledAuction a pools → (is : IsReducedProgram a 1 (cuts_of (value_count a) pools) p) → (r : ℕ) → r < row_count p
+whole-line : (a : SymmetricAuction) (units : ℕ) (pools : Pools) (p : Program) (m : Multiples a pools) → IsAuction a → IsPooledAuction a pools → (is : IsReducedProgram a units (cuts_of (value_count a) pools) p) → (r : ℕ) → r < row_count p
     → (c : (r < row_count p) ⊎ (row_count p ≤ r))
-    → IsLine a pools p (cost_factor a pools m *ℤ p.factor) (cost_factor a pools m *ℤ p.factor) m (by_at a pools p is r c *ℤ times_of (undivided_of a pools m) (row_in a pools r)) r (row_in a pools r)
+    → IsLine a units pools p (cost_factor a pools m *ℤ p.factor) (cost_factor a pools m *ℤ p.factor) m (by_at a units pools p is r c *ℤ times_of (undivided_of a pools m) (row_in a pools r)) r (row_in a pools r)
 unfolding by_at
-whole-line a pools p m shaped pooled is r b (inl l) =
-    let line = row-line a pools p is r l in
-    let above = positive-*ℤ (cost_factor a pools m) p.factor (cost_factor-positive a pools m shaped) (factor-positive a pools p is) in
-    line-from a pools p m (cost_factor a pools m *ℤ p.factor) (line.by *ℤ times_of (undivided_of a pools m) (row_in a pools r)) r (row_in a pools r) shaped pooled is above (row-inside a pools p is r l) line
+whole-line a units pools p m shaped pooled is r b (inl l) =
+    let line = row-line a units pools p is r l in
+    let above = positive-*ℤ (cost_factor a pools m) p.factor (cost_factor-positive a pools m shaped) (factor-positive a units pools p is) in
+    line-from a units pools p m (cost_factor a pools m *ℤ p.factor) (line.by *ℤ times_of (undivided_of a pools m) (row_in a pools r)) r (row_in a pools r) shaped pooled is above (row-inside a units pools p is r l) line
     (*ℤ_comm (line.by *ℤ times_of (undivided_of a pools m) (row_in a pools r)) (cost_factor a pools m *ℤ p.factor))
-whole-line a pools p m shaped pooled is r b (inr g) = absurd (omega (arith, b, g))
+whole-line a units pools p m shaped pooled is r b (inr g) = absurd (omega (arith, b, g))
 
-pub pools-optimal : (a : SymmetricAuction) (pools : Pools) (p : Program) (x : ℕ → ℤ) → IsAuction a → IsPooledAuction a pools → IsReducedProgram a 1 (cuts_of (value_count a) pools) p → IsPointOf a pools x
-    → IsOptimalPoint p (share_den a) x
-pools-optimal a pools p x shaped pooled is at =
+-- of any number of units, and for any odds of the pools
+pub pools-optimal : (a : SymmetricAuction) (units : ℕ) (pools : Pools) (p : Program) (den : ℤ) (q x : ℕ → ℤ) → IsAuction a → IsPooledAuction a pools → IsReducedProgram a units (cuts_of (value_count a) pools) p
+    → ArePoolOdds a units pools den q → IsPointOf a q x → IsOptimalPoint p den x
+pools-optimal a units pools p den q x shaped pooled is are at =
     let m = multiples a pools shaped pooled in
     let factor = cost_factor a pools m *ℤ p.factor in
-    let main = λ (r : ℕ). by_at a pools p is r (cases_lt r (row_count p)) *ℤ times_of (undivided_of a pools m) (row_in a pools r) in
-    optimal-claim p (share_den a) factor x main (λ _. pos 0)
-    (certified-by a pools p m factor main (λ _. pos 0) x shaped pooled is at (positive-*ℤ (cost_factor a pools m) p.factor (cost_factor-positive a pools m shaped) (factor-positive a pools p is))
-    (λ r b. whole-line a pools p m shaped pooled is r b (cases_lt r (row_count p))) (λ r b. refl))
+    let main = λ (r : ℕ). by_at a units pools p is r (cases_lt r (row_count p)) *ℤ times_of (undivided_of a pools m) (row_in a pools r) in
+    optimal-claim p den factor x main (λ _. pos 0)
+    (certified-by a units pools p den q x m factor main (λ _. pos 0) shaped pooled are is at (positive-*ℤ (cost_factor a pools m) p.factor (cost_factor-positive a pools m shaped) (factor-positive a units pools p is))
+    (λ r b. whole-line a units pools p m shaped pooled is r b (cases_lt r (row_count p))) (λ r b. refl))
 
 -- ---- the point as a list
 
-pub closed-point : (a : SymmetricAuction) (pools : Pools) → IsPointOf a pools (number_at (closed_point a pools))
-closed-point a pools =
+pub closed-point : (a : SymmetricAuction) (q : ℕ → ℤ) → IsPointOf a q (number_at (closed_point a q))
+closed-point a q =
     let k = value_count a in
-    let odds = list_to (value_count a) (odds_in a pools) in
-    let pays = list_to (value_count a) (pay_in_pools a pools) in
+    let odds = list_to (value_count a) q in
+    let pays = list_to (value_count a) (pay_by (number_at a.values) q) in
     let zeros = list_to (value_count a) (λ _. pos 0) in
-    let one : length (list_to (value_count a) (odds_in a pools)) ≡ value_count a = length-list_to (value_count a) (odds_in a pools) in
-    let two : length (list_to (value_count a) (pay_in_pools a pools)) ≡ value_count a = length-list_to (value_count a) (pay_in_pools a pools) in
+    let one : length (list_to (value_count a) q) ≡ value_count a = length-list_to (value_count a) q in
+    let two : length (list_to (value_count a) (pay_by (number_at a.values) q)) ≡ value_count a = length-list_to (value_count a) (pay_by (number_at a.values) q) in
     record {
-      odds = λ v b. get_or_append_left odds (pays ++ zeros) (pos 0) v (omega (arith, b, one)) ∙ get_or-list_to k (odds_in a pools) v (pos 0) b;
-      pays = λ v b. number_at-behind odds (pays ++ zeros) k v one ∙ get_or_append_left pays zeros (pos 0) v (omega (arith, b, two)) ∙ get_or-list_to k (pay_in_pools a pools) v (pos 0) b;
+      odds = λ v b. get_or_append_left odds (pays ++ zeros) (pos 0) v (omega (arith, b, one)) ∙ get_or-list_to k q v (pos 0) b;
+      pays = λ v b. number_at-behind odds (pays ++ zeros) k v one ∙ get_or_append_left pays zeros (pos 0) v (omega (arith, b, two)) ∙ get_or-list_to k (pay_by (number_at a.values) q) v (pos 0) b;
       none = λ v b.
-          ap (number_at (closed_point a pools)) (let e : 2 * value_count a + v ≡ value_count a + (value_count a + v) = omega arith in e)
+          ap (number_at (closed_point a q)) (let e : 2 * value_count a + v ≡ value_count a + (value_count a + v) = omega arith in e)
           ∙ number_at-behind odds (pays ++ zeros) k (k + v) one
           ∙ number_at-behind pays zeros k v two
           ∙ get_or-list_to k (λ _. pos 0) v (pos 0) b;
     }
 
--- its odds and payments
-pub closed-odds : (a : SymmetricAuction) (pools : Pools) (x : ℕ → ℤ) → IsPointOf a pools x → (interim_in a (share_den a) x).odds ≡ (interim_of a pools).odds
+-- its odds and payments, of one item
+pub closed-odds : (a : SymmetricAuction) (pools : Pools) (x : ℕ → ℤ) → IsPointOf a (odds_in a pools) x → (interim_in a (share_den a) x).odds ≡ (interim_of a pools).odds
 closed-odds a pools x at = list_to-same (value_count a) x (odds_in a pools) at.odds
 
-pub closed-pays : (a : SymmetricAuction) (pools : Pools) (x : ℕ → ℤ) → IsPointOf a pools x → (interim_in a (share_den a) x).pays ≡ (interim_of a pools).pays
-closed-pays a pools x at = list_to-same (value_count a) (pay_in a x) (pay_in_pools a pools) (pay-is a pools x at)
+pub closed-pays : (a : SymmetricAuction) (pools : Pools) (x : ℕ → ℤ) → IsPointOf a (odds_in a pools) x → (interim_in a (share_den a) x).pays ≡ (interim_of a pools).pays
+closed-pays a pools x at = list_to-same (value_count a) (pay_in a x) (pay_in_pools a pools) (pay-is a (odds_in a pools) x at)
 
 -- ---- the mechanism
 
@@ -91,8 +95,8 @@ closed-pays a pools x at = list_to-same (value_count a) (pay_in a x) (pay_in_poo
 pub mechanism-optimal : (a : SymmetricAuction) (pools : Pools) (p : Program) (m : Mechanism) → IsAuction a → IsPooledAuction a pools → IsReducedProgram a 1 (cuts_of (value_count a) pools) p → IsMechanism (general_of a) m
     → HasOdds a m (share_den a) (interim_of a pools).odds → HasPays a m (share_den a) (interim_of a pools).pays → IsOptimal (general_of a) m
 mechanism-optimal a pools p m shaped pooled is mechanism odds pays =
-    let x = number_at (closed_point a pools) in
-    let at = closed-point a pools in
-    makes-optimal a (cuts_of (value_count a) pools) p shaped is m (share_den a) x (pools-optimal a pools p x shaped pooled is at) mechanism
+    let x = number_at (closed_point a (odds_in a pools)) in
+    let at = closed-point a (odds_in a pools) in
+    makes-optimal a (cuts_of (value_count a) pools) p shaped is m (share_den a) x (pools-optimal a 1 pools p (share_den a) (odds_in a pools) x shaped pooled is (one-item a pools shaped pooled) at) mechanism
     (subst (λ l. HasOdds a m (share_den a) l) (sym (closed-odds a pools x at)) odds)
     (subst (λ l. HasPays a m (share_den a) l) (sym (closed-pays a pools x at)) pays)

@@ -53,35 +53,35 @@ map-all g n t r c cuts =
 
 -- ---- the forms of the reduced program
 
-cut_form : SymmetricAuction → ℕ → Form
-cut_form a set = record { kind = AtMost; left = λ x. demands_of a x set; right = right_by_counts a 1 set }
+cut_form : SymmetricAuction → ℕ → ℕ → Form
+cut_form a units set = record { kind = AtMost; left = λ x. demands_of a x set; right = right_by_counts a units set }
 
-conditions-forms : (a : SymmetricAuction) (n : ℕ) (cuts : List ℕ)
-    → forms_of a 1 (conditions_of n cuts) ≡ up_to n (λ v. by_report n v (λ w. row_form a (truth_row v w))) ++ (list_to n (λ v. row_form a (rational_row v)) ++ map (cut_form a) cuts)
+conditions-forms : (a : SymmetricAuction) (units n : ℕ) (cuts : List ℕ)
+    → forms_of a units (conditions_of n cuts) ≡ up_to n (λ v. by_report n v (λ w. row_form a units (truth_row v w))) ++ (list_to n (λ v. row_form a units (rational_row v)) ++ map (cut_form a units) cuts)
 unfolding cut_form
-conditions-forms a n cuts = map-all (form_of a 1) n _ _ _ cuts
+conditions-forms a units n cuts = map-all (form_of a units) n _ _ _ cuts
 
-one-cut : (a : SymmetricAuction) (pools : Pools) (t : Bool) (s : ℕ) → map (cut_form a) (if t then set_from (value_count a) s ∷ [] else []) ≡ map (row_form a) (if t then cut_row s ∷ [] else [])
+one-cut : (a : SymmetricAuction) (units : ℕ) (pools : Pools) (t : Bool) (s : ℕ) → map (cut_form a units) (if t then set_from (value_count a) s ∷ [] else []) ≡ map (row_form a units) (if t then cut_row s ∷ [] else [])
 unfolding cut_form
-one-cut a pools true s = refl
-one-cut a pools false s = refl
+one-cut a units pools true s = refl
+one-cut a units pools false s = refl
 
-cut-forms : (a : SymmetricAuction) (pools : Pools) → map (cut_form a) (cuts_of (value_count a) pools) ≡ map (row_form a) (cut_rows (value_count a) pools)
-cut-forms a pools =
+cut-forms : (a : SymmetricAuction) (units : ℕ) (pools : Pools) → map (cut_form a units) (cuts_of (value_count a) pools) ≡ map (row_form a units) (cut_rows (value_count a) pools)
+cut-forms a units pools =
     let k = value_count a in
-    map-up_to (cut_form a) k (λ s. if begins pools s then set_from k s ∷ [] else [])
-    ∙ up_to-same k (λ s. map (cut_form a) (if begins pools s then set_from k s ∷ [] else [])) (λ s. map (row_form a) (if begins pools s then cut_row s ∷ [] else [])) (λ s b. one-cut a pools (begins pools s) s)
-    ∙ sym (map-up_to (row_form a) k (λ s. if begins pools s then cut_row s ∷ [] else []))
+    map-up_to (cut_form a units) k (λ s. if begins pools s then set_from k s ∷ [] else [])
+    ∙ up_to-same k (λ s. map (cut_form a units) (if begins pools s then set_from k s ∷ [] else [])) (λ s. map (row_form a units) (if begins pools s then cut_row s ∷ [] else [])) (λ s b. one-cut a units pools (begins pools s) s)
+    ∙ sym (map-up_to (row_form a units) k (λ s. if begins pools s then cut_row s ∷ [] else []))
 
-same-forms : (a : SymmetricAuction) (pools : Pools) → forms_of a 1 (conditions_of (value_count a) (cuts_of (value_count a) pools)) ≡ map (row_form a) (rows_of (value_count a) pools)
-same-forms a pools =
+pub same-forms : (a : SymmetricAuction) (units : ℕ) (pools : Pools) → forms_of a units (conditions_of (value_count a) (cuts_of (value_count a) pools)) ≡ map (row_form a units) (rows_of (value_count a) pools)
+same-forms a units pools =
     let k = value_count a in
-    conditions-forms a k (cuts_of k pools)
-    ∙ ap (λ zs. up_to k (λ v. by_report k v (λ w. row_form a (truth_row v w))) ++ (list_to k (λ v. row_form a (rational_row v)) ++ zs)) (cut-forms a pools)
-    ∙ sym (map-parts (row_form a) k truth_row rational_row (cut_rows k pools))
+    conditions-forms a units k (cuts_of k pools)
+    ∙ ap (λ zs. up_to k (λ v. by_report k v (λ w. row_form a units (truth_row v w))) ++ (list_to k (λ v. row_form a units (rational_row v)) ++ zs)) (cut-forms a units pools)
+    ∙ sym (map-parts (row_form a units) k truth_row rational_row (cut_rows k pools))
 
-pub is-program : (a : SymmetricAuction) (pools : Pools) (p : Program) → IsReducedProgram a 1 (cuts_of (value_count a) pools) p → IsProgramOf (column_count a) (map (row_form a) (rows_of (value_count a) pools)) (cost_of a) p
-is-program a pools p is = subst (λ forms. IsProgramOf (column_count a) forms (cost_of a) p) (same-forms a pools) is
+pub is-program : (a : SymmetricAuction) (units : ℕ) (pools : Pools) (p : Program) → IsReducedProgram a units (cuts_of (value_count a) pools) p → IsProgramOf (column_count a) (map (row_form a units) (rows_of (value_count a) pools)) (cost_of a) p
+is-program a units pools p is = subst (λ forms. IsProgramOf (column_count a) forms (cost_of a) p) (same-forms a units pools) is
 
 -- ---- the values of each row are there
 

@@ -1,6 +1,6 @@
 -- Ironed virtual values (Myerson 1981): in each pool the mean of its virtual values. They and the gaps between the curve and its
 -- hull stand over one common multiple of the weights of pools.
-use Rattle.std.specs.Prelude.{ℕ, suc, ◌≡◌, ◌<◌, ◌≤◌, false, nat_lt, if◌then◌else◌, ℤ, pos, ◌+ℤ◌, ◌-ℤ◌, ◌*ℤ◌, ◌≤ℤ◌, ◌<ℤ◌}
+use Rattle.std.specs.Prelude.{ℕ, suc, ◌≡◌, ◌<◌, ◌≤◌, true, false, nat_lt, if◌then◌else◌, ℤ, pos, ◌+ℤ◌, ◌-ℤ◌, ◌*ℤ◌, ◌≤ℤ◌, ◌<ℤ◌}
 use Rattle.md_iron_values.specs.Pools.{Pools, over_pool}
 use Rattle.md_iron_values.specs.Odds.{step_of}
 use Rattle.md_iron_values.specs.Cuts.{begins}
@@ -25,14 +25,14 @@ abbrev pub rest_of : (ℕ → ℤ) → (ℕ → ℤ) → ℤ → (ℕ → ℤ) �
 rest_of weight sum scale mean gap j =
     (gap (suc j) -ℤ gap j) -ℤ scale *ℤ (sum (suc j) -ℤ sum j) +ℤ (weight (suc j) -ℤ weight j) *ℤ mean j
 
--- All that makes odds q by pools optimal: gaps are not negative, and 0 at both ends and where the odds grow; what is left is not
--- negative, and 0 where a value buys; ironed virtual values never fall, and grow where a pool begins only.
-pub record IsIroned (kinds : ℕ) (weight sum : ℕ → ℤ) (pools : Pools) (q : ℕ → ℤ) (scale : ℤ) (mean gap : ℕ → ℤ) : Type 0 where
+-- All that makes odds by pools optimal: gaps are not negative, and 0 at both ends and where a pool begins that buys; what is left
+-- is not negative, and 0 where a value buys; ironed virtual values never fall, and grow where a pool begins only.
+pub record IsIroned (kinds : ℕ) (weight sum : ℕ → ℤ) (pools : Pools) (scale : ℤ) (mean gap : ℕ → ℤ) : Type 0 where
   pub first : gap 0 ≡ pos 0
   pub last : gap kinds ≡ pos 0
   pub nonneg : (j : ℕ) → j < kinds → pos 0 ≤ℤ gap j
   pub step : (j : ℕ) → j < kinds → pos 0 ≤ℤ rest_of weight sum scale mean gap j
-  pub bought : (j : ℕ) → j < kinds → q j *ℤ rest_of weight sum scale mean gap j ≡ pos 0
-  pub flat : (j : ℕ) → suc j < kinds → gap (suc j) *ℤ (q (suc j) -ℤ q j) ≡ pos 0
+  pub bought : (j : ℕ) → pools.reserve ≤ j → j < kinds → rest_of weight sum scale mean gap j ≡ pos 0
+  pub flat : (j : ℕ) → j < kinds → begins pools j ≡ true → gap j ≡ pos 0
   pub rise : (j : ℕ) → j < kinds → pos 0 ≤ℤ step_of mean j
   pub starts : (j : ℕ) → j < kinds → begins pools j ≡ false → step_of mean j ≡ pos 0

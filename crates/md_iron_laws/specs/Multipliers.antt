@@ -50,10 +50,10 @@ multiplier_den a pools factor (truth_row kind other) =
 multiplier_den a pools factor (rational_row kind) = if kind == 0 then factor else pos 1
 multiplier_den a pools factor (cut_row s) = steeper_den a pools s *ℤ (share_den a *ℤ factor)
 
--- The multipliers `main` over `over` of the rows of the program with the cuts of the pools are these fractions; the right side of
--- the row of each cut was divided by `divisor`.
-pub record AreMultipliers (a : SymmetricAuction) (pools : Pools) (p : Program) (divisor : ℕ → ℤ) (over : ℤ) (main : ℕ → ℤ) : Type 0 where
+-- The multipliers `main` over `over` of the rows of the program of some units with the cuts of the pools are these fractions; the
+-- right side of the row of each cut was divided by `divisor`.
+pub record AreMultipliers (a : SymmetricAuction) (units : ℕ) (pools : Pools) (p : Program) (divisor : ℕ → ℤ) (over : ℤ) (main : ℕ → ℤ) : Type 0 where
   pub positive : pos 0 <ℤ over
-  pub divided : (number s : ℕ) → slice_get (rows_of (value_count a) pools) number ≡ Some (cut_row s) → row_right a (cut_row s) ≡ divisor s *ℤ right_at p number
+  pub divided : (number s : ℕ) → slice_get (rows_of (value_count a) pools) number ≡ Some (cut_row s) → row_right a units (cut_row s) ≡ divisor s *ℤ right_at p number
   pub at : (number : ℕ) (row : ProgramRow) → slice_get (rows_of (value_count a) pools) number ≡ Some row
       → main number *ℤ multiplier_den a pools p.factor row ≡ over *ℤ multiplier_num a pools divisor row

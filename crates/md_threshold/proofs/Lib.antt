@@ -1,0 +1,9 @@
+pub mod CountLaws
+pub mod ChanceSizes
+pub mod InterimSizes
+pub mod ExpectedSizes
+pub mod ShareLaws
+pub mod PriceLaws
+pub mod PriceListLaws
+pub mod UnitAverages
+pub mod ThresholdLaws

@@ -1,0 +1,17 @@
+pub mod Counts
+pub mod Circles
+pub mod PoolPlaces
+pub mod Profiles
+pub mod LotteryLaws
+pub mod MechanismLaws
+pub mod ChanceLaws
+pub mod TruthLaws
+pub mod DrawLaws
+pub mod MeanLaws
+pub mod Symmetry
+pub mod Averages
+pub mod AverageLaws
+pub mod BidderOdds
+pub mod ClosedOdds
+pub mod InterimLaws
+pub mod Optimal

@@ -1,0 +1,5 @@
+pub mod Rule
+pub mod Lotteries
+pub mod Mechanisms
+pub mod Interim
+pub mod ClosedOdds
