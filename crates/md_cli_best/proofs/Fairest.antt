@@ -16,6 +16,8 @@ use Rattle.md_question.specs.Findings.{ClaimsInfeasible, ClaimsUnbounded, WhereI
 use Rattle.md_question.specs.Shown.{IsShown, IsSo}
 use Rattle.md_question.specs.declared.finding.Finding.{Finding}
 use Rattle.md_question.specs.declared.finding.Finding.TheVariants.{Optimal, Infeasible, Unbounded}
+use Rattle.md_question_check.specs.Verdicts.{IsVerdictOn}
+use Rattle.md_question_check.specs.declared.verdict.Verdict.TheVariants.{Valid}
 use Rattle.md_question_solve.specs.Found.{ClaimsEnd, IsFound, IsWideFor}
 use Rattle.md_fair.specs.Bounds.{HasNoLeastBound}
 use Rattle.md_fair.specs.FairProgram.{IsFairProgram}
@@ -25,7 +27,7 @@ use Rattle.md_fair.specs.FairRows.{text_of_fair}
 use Rattle.md_fair.specs.FairText.{fair_answer_of}
 use Rattle.md_fair.specs.declared.answer.FairAnswer.TheVariants.{Found, TooWide}
 use Rattle.md_fair.specs.Least.{IsLeastValueOf}
-use Rattle.md_cli_best.specs.Fair.{IsFairSaying, status_of_finding}
+use Rattle.md_cli_best.specs.Fair.{HasNarrowLevelIn, IsFairSaying, status_of_finding}
 use Rattle.md_cli_best.specs.Headline.{IsEndStatus}
 use Rattle.md_cli_driver.specs.Saying.{Saying}
 
@@ -49,6 +51,15 @@ so : (s : GeneralSetting) (width : ℕ) (answer : Finding) → IsShownFair s wid
 so s width (Optimal value m bound) h = (h.optimal, h.value)
 so s width (Infeasible face) h = h.infeasible
 so s width (Unbounded m ray) h = h.unbounded
+
+-- where the level is narrow, the checker finds it valid
+pub fair-valid : (s : GeneralSetting) (p : Program) (finding : Finding) → IsFairProgram s p → ((r : Program) → IsFairProgram s r → IsShown (fair_question s) r finding) → IsSo (fair_question s) finding
+    → WhereUnbounded (λ mechanism ray. IsAdmissible s mechanism) finding → HasNarrowLevelIn (fair_question s) finding → IsVerdictOn (fair_question s) finding Valid
+fair-valid s p (Optimal value m bound) is shown so admissible narrow =
+    let best : IsOptimalFair s m = so.0 in
+    (record { admissible = best.admissible; value = so.1 }, narrow, record { program = p; is_program = is; holds = shown })
+fair-valid s p (Infeasible face) is shown so admissible narrow = record { program = p; is_program = is; holds = shown }
+fair-valid s p (Unbounded m ray) is shown so admissible narrow = (admissible, narrow, record { program = p; is_program = is; holds = shown })
 
 -- the status tells the end of the path
 end-status : (status : ℕ) (answer : Finding) → status ≡ status_of_finding answer → (step : Step) → ClaimsEnd step answer → IsEndStatus step status
@@ -91,6 +102,7 @@ of_answer s width saying answer h is text reads =
         shows = so s width answer h;
         admissible = h.admissible;
         certified = h.certified;
+        valid = λ narrow. fair-valid s h.solved.program answer h.solved.is_program h.certified (so s width answer h) h.admissible narrow;
         status = is;
         text = text;
         read_back = reads;

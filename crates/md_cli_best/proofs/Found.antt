@@ -16,12 +16,13 @@ use Rattle.md_question.specs.declared.finding.Finding.TheVariants.{Optimal, Infe
 use Rattle.md_answer.specs.Answers.{answer_of}
 use Rattle.md_answer.specs.declared.answer.Answer.TheVariants as answers
 use Rattle.md_check.specs.Verdicts.{IsVerdict}
+use Rattle.md_question_check.specs.Verdicts.{IsVerdictOn}
 use Rattle.md_question_check.specs.declared.verdict.Verdict.TheVariants.{Valid}
 use Rattle.md_solve.specs.Answered.{ClaimsUnbounded}
 use Rattle.md_solve.specs.Bounds.{HasNoBound}
 use Rattle.md_solve.specs.Solved as solved
 use Rattle.md_cli_driver.specs.Saying.{Saying}
-use Rattle.md_cli_best.specs.Fair.{status_of_finding}
+use Rattle.md_cli_best.specs.Fair.{HasNarrowLevelIn, status_of_finding}
 use Rattle.md_cli_best.specs.Finding.{IsFindHeadline, IsFindingBy, IsFindStatus}
 use Rattle.md_cli_best.specs.Headline.{PrintsInfeasible, PrintsOptimal, PrintsUnbounded}
 use Rattle.md_cli_best.proofs.Fairest.{none-status}
@@ -30,9 +31,9 @@ use Rattle.md_cli_best.proofs.Fairest.{none-status}
 
 module _ (q : Question) (text_of : Finding → List ℕ) (Reads : List ℕ → Finding → Type 0) (saying : Saying) where
   pub said-found : (finding : Finding) → IsCertifiedFinding q finding → saying.status ≡ status_of_finding finding → saying.text ≡ text_of finding → Reads saying.text finding
-      → IsFindingBy q text_of Reads saying
-  said-found finding h is text reads = record {
-    told = inl (record { finding = finding; certified = h; status = is; text = text; read_back = reads });
+      → (HasNarrowLevelIn q finding → IsVerdictOn q finding Valid) → IsFindingBy q text_of Reads saying
+  said-found finding h is text reads valid = record {
+    told = inl (record { finding = finding; certified = h; valid = valid; status = is; text = text; read_back = reads });
     none = λ _. none-status q.setting saying.status finding is h.none;
   }
 
@@ -44,13 +45,18 @@ find-status status (Unbounded m ray) is = inr (inr (inl is))
 -- ---- by the setting's own
 
 module _ (s : GeneralSetting) where
-  valid : (finding : Finding) → IsCertifiedFinding (best_question s) finding → IsVerdict s (solved.answer_of finding) Valid
-  valid (Optimal value m bound) h =
+  pub best-valid : (finding : Finding) → IsCertifiedFinding (best_question s) finding → IsVerdictOn (best_question s) finding Valid
+  best-valid (Optimal value m bound) h =
       let best : IsOptimal s m = h.so.0 in
       let is_value : IsValueOf s m value = h.so.1 in
       (record { admissible = best.admissible; value = is_value.is_value }, IsWithin-zero number_limit, record { program = h.program; is_program = h.is_program; holds = h.shown })
-  valid (Infeasible face) h = record { program = h.program; is_program = h.is_program; holds = h.shown }
-  valid (Unbounded m ray) h = (h.admissible, IsWithin-zero number_limit, record { program = h.program; is_program = h.is_program; holds = h.shown })
+  best-valid (Infeasible face) h = record { program = h.program; is_program = h.is_program; holds = h.shown }
+  best-valid (Unbounded m ray) h = (h.admissible, IsWithin-zero number_limit, record { program = h.program; is_program = h.is_program; holds = h.shown })
+
+  valid : (finding : Finding) → IsCertifiedFinding (best_question s) finding → IsVerdict s (solved.answer_of finding) Valid
+  valid (Optimal value m bound) h = best-valid (Optimal value m bound) h
+  valid (Infeasible face) h = best-valid (Infeasible face) h
+  valid (Unbounded m ray) h = best-valid (Unbounded m ray) h
 
   module _ (text : List ℕ) where
     prints-optimal : (value : Frac) (m : Mechanism) (bound : Bound) → IsCertifiedFinding (best_question s) (Optimal value m bound)

@@ -8,6 +8,8 @@ use Rattle.md_question.specs.Best.{best_question}
 use Rattle.md_question.specs.Certified.{IsCertifiedFinding}
 use Rattle.md_question.specs.Question.{Question}
 use Rattle.md_question.specs.declared.finding.Finding.{Finding}
+use Rattle.md_question_check.specs.Verdicts.{IsVerdictOn}
+use Rattle.md_question_check.specs.declared.verdict.Verdict.TheVariants.{Valid}
 use Rattle.md_answer.specs.Answers as answers
 use Rattle.md_answer.specs.Rows.{text_of_answer}
 use Rattle.md_solve.specs.Bounds.{HasNoBound}
@@ -18,16 +20,18 @@ use Rattle.md_fair.specs.FairText.{fair_answer_of}
 use Rattle.md_fair.specs.declared.answer.FairAnswer.TheVariants.{Found}
 use Rattle.md_cli_driver.specs.Saying.{Saying}
 use Rattle.md_cli_judge.specs.Verdicts.{undecided_text}
-use Rattle.md_cli_best.specs.Fair.{status_of_finding}
+use Rattle.md_cli_best.specs.Fair.{HasNarrowLevelIn, status_of_finding}
 use Rattle.md_cli_best.specs.Headline.{PrintsInfeasible, PrintsOptimal, PrintsUnbounded}
 
 -- ---- a question
 
 -- What was found, in its records, which read back as it, and with the status of its kind: what it claims is so, and its numbers show
--- it. Which finding it is of several is not said.
+-- it, so that the checker finds it valid where the level of its mechanism has at most 62 bits. Which finding it is of several is not
+-- said.
 pub record IsFound (q : Question) (text_of : Finding → List ℕ) (Reads : List ℕ → Finding → Type 0) (saying : Saying) : Type 0 where
   pub finding : Finding
   pub certified : IsCertifiedFinding q finding
+  pub valid : HasNarrowLevelIn q finding → IsVerdictOn q finding Valid
   pub status : saying.status ≡ status_of_finding finding
   pub text : saying.text ≡ text_of finding
   pub read_back : Reads saying.text finding

@@ -8,7 +8,7 @@ use Rattle.md_answer.specs.Answers as answers
 use Rattle.md_answer.specs.Rows.{text_of_answer}
 use Rattle.md_solve.specs.Solved.{answer_of}
 use Rattle.md_solve.proofs.Claims.{exactly_unbounded}
-use Rattle.md_cli_best.proofs.Found.{find-status, headline-found, said-found}
+use Rattle.md_cli_best.proofs.Found.{best-valid, find-status, headline-found, said-found}
 use Rattle.md_cli_best.proofs.find.best_found.Goals as goal
 
 pub returns-clause-find : goal.returns-clause-find
@@ -21,7 +21,7 @@ returns-clause-find c =
     let written = rw (c.general.ensures, c.answer_of-answer.ensures) at c.in_ok-write_answer.ensures in
     let total : pos 1 ≤ℤ total_of s = omega (arith, ints, total-positive s c.space-shaped.ensures.shaped) in
     rw c.general.ensures (record {
-      told = said-found (best_question s) (λ f. text_of_answer s (answer_of f)) (λ t f. answers.answer_of s t ≡ Ok (answer_of f)) record { status = status; text = text } finding h c.status-status.ensures.value written.text written.reads_back;
+      told = said-found (best_question s) (λ f. text_of_answer s (answer_of f)) (λ t f. answers.answer_of s t ≡ Ok (answer_of f)) record { status = status; text = text } finding h c.status-status.ensures.value written.text written.reads_back (λ _. best-valid s finding h);
       headline = headline-found s text status finding h (exactly_unbounded s finding total h.so) c.status-status.ensures.value written.reads_back;
     })
 

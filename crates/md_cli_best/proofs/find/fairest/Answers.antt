@@ -4,6 +4,7 @@ use Rattle.md_fair.specs.FairQuestion.{fair_question}
 use Rattle.md_fair.specs.FairRows.{text_of_fair}
 use Rattle.md_fair.specs.FairText.{fair_answer_of}
 use Rattle.md_fair.specs.declared.answer.FairAnswer.TheVariants.{Found}
+use Rattle.md_cli_best.proofs.Fairest.{fair-valid}
 use Rattle.md_cli_best.proofs.Found.{said-found}
 use Rattle.md_cli_best.proofs.find.fairest.Goals as goal
 
@@ -14,4 +15,5 @@ returns-in_ok-write_fair-in-Some-clause-find c =
     let h : IsCertifiedFinding (fair_question s) finding = rw c.in-Some.is at c.in_ok-finding.ensures in
     rw c.general-setting.ensures
     (said-found (fair_question s) (λ f. text_of_fair s (Found f)) (λ t f. fair_answer_of s t ≡ Ok (Found f)) record { status = c.status.result; text = c.in_ok-write_fair-in-Some.field-0.items } finding h
-    c.status.ensures.value c.in_ok-write_fair-in-Some.ensures.text c.in_ok-write_fair-in-Some.ensures.reads_back)
+    c.status.ensures.value c.in_ok-write_fair-in-Some.ensures.text c.in_ok-write_fair-in-Some.ensures.reads_back
+    (λ narrow. fair-valid s h.program finding h.is_program h.shown h.so h.admissible narrow))
