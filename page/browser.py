@@ -106,9 +106,11 @@ class Browser:
             self.messages.append(self.next_message())
         self.messages = [told for told in self.messages if told.get("method") != method]
 
-    def open(self, path):
-        """Opens a file, and waits until it is loaded."""
-        self.ask("Page.navigate", url=f"file://{os.path.abspath(path)}")
+    def open(self, path, fragment=""):
+        """Opens a file anew, at a fragment, and waits until it is loaded."""
+        self.ask("Page.navigate", url="about:blank")
+        self.wait_for("Page.loadEventFired")
+        self.ask("Page.navigate", url=f"file://{os.path.abspath(path)}{fragment}")
         self.wait_for("Page.loadEventFired")
 
     def evaluate(self, text):

@@ -1,13 +1,15 @@
 // The commands of the page, each in one entry: a further command of the program wants one more entry here, and a `view` only where its
 // text should be shown as more than text.
 
+import { answerView, asymView, determView, findView, ironView, unitsView } from "./answers.js";
+import { awardView, thresholdView } from "./awards.js";
+import { rangeOfAward, rangeOfFirst, rangeOfSecond } from "./draws.js";
 import {
-  answerView,
   auditView,
   checkView,
+  determCheckView,
   drillView,
-  findView,
-  ironView,
+  fairCheckView,
   makeView,
   realiseView,
   replayView,
@@ -16,47 +18,142 @@ import {
   runView,
 } from "./views.js";
 
+/** What commands are for, in the order in which they are offered. */
+export const GROUPS = { find: "Find a best rule", judge: "Judge a rule", run: "Run a rule", study: "Study a rule" };
+
 /** What may stand beside the setting file: its name in sentences, and what a file of it is called. */
 export const SECONDS = {
-  answer: { label: "Answer", file: "answer.csv", hint: "What solve printed, or a mechanism of your own" },
+  answer: { label: "Answer", file: "answer.csv", hint: "What solve, find or iron printed, or a mechanism of your own" },
+  fairest: { label: "Answer", file: "fairest.csv", hint: "What fair or findfair printed" },
+  rule: { label: "Answer", file: "rule.csv", hint: "What determ printed" },
   pivots: { label: "Pivots", file: "pivots.csv", hint: "Records pivot,ROW,COLUMN and then end" },
   odds: { label: "Odds", file: "odds.csv", hint: "interim,DEN, then odds with a number for each value, then end" },
 };
 
-/** The further words of commands. The program judges what is typed; an empty width is left out. */
+/** The further words of commands. The program judges what is typed. One that `isOption` stands behind its name, is left out where it is
+ * empty, and is folded away; `profile` is chosen, a report for each agent. */
 export const FIELDS = {
-  width: { label: "Width in bits", hint: "4 to 62; left empty it is 62", initial: "" },
-  profile: { label: "Reports", hint: "one for each agent, with commas between", initial: "" },
+  width: { label: "Width in bits", hint: "4 to 62; left empty it is 62", initial: "", isOption: true },
+  units: { label: "Units", hint: "1 to 12, all alike; each bidder wants one", initial: "1" },
+  profile: { label: "Reports", initial: "" },
   first: { label: "First draw", hint: "from 0 to one below the denominator", initial: "0" },
   second: { label: "Second draw", hint: "0, but for an auction whose item is sold", initial: "0" },
+  draw: { label: "Draw", hint: "0, but where bidders share the last units", initial: "0" },
   number: { label: "Number", hint: "0 to 999999", initial: "2" },
 };
 
 /** `asks` says what a command does, `button` stands on the button that carries it out, and `next` on the one that asks it of an answer.
- * `second` names the kind of its second file, and `fields` its further words in order. `kind` is the kind of setting that it is for, where
- * it is not for both. `makesAnswer` is of those whose text the other commands can read as an answer, and `tooWide` has the commands to go
- * on with where numbers grow too wide. */
+ * `kind` is the kind of setting that it is for, where it is not for all: `general`, `auction` or `sale`. `second` names the kind of its
+ * second file, and `fields` its further words in order. `makes` names the kind of file that it prints, `saves` how such a file is called
+ * behind the name of its setting, and `isOfMechanism` says that it wants a mechanism in its second file. `tooWide` has the commands to go
+ * on with where there is no answer, `draws` how many draws there are for its fields, and `isLive` is of those that are asked anew as soon
+ * as one of their fields changes. */
 export const COMMANDS = [
   {
     word: "solve",
-    asks: "Which mechanism is best? Finds it, with what shows that no other is better.",
+    group: "find",
+    asks: "Which rule is best? Finds it, with what shows that no other is better.",
     button: "Solve",
     fields: ["width"],
     view: answerView,
-    makesAnswer: true,
-    tooWide: ["find", "iron"],
+    makes: "answer",
+    tooWide: ["find", "iron", "asym", "threshold"],
   },
   {
     word: "find",
-    asks: "Which mechanism is best? For general settings, also where the numbers of solve grow too wide.",
+    group: "find",
+    asks: "Which rule is best? Also where the numbers of solve grow too wide.",
     button: "Find with longer numbers",
     kind: "general",
     fields: [],
     view: findView,
-    makesAnswer: true,
+    makes: "answer",
+    saves: "found",
+    tooWide: ["asym"],
+  },
+  {
+    word: "iron",
+    group: "find",
+    asks: "Which auction is best, by virtual values? Also where the numbers of solve grow too wide.",
+    button: "Solve in closed form",
+    kind: "auction",
+    fields: [],
+    view: ironView,
+    makes: "answer",
+    tooWide: ["threshold"],
+  },
+  {
+    word: "threshold",
+    group: "find",
+    asks: "Which auction is best, as prices that winners alone pay? Truth is then best whatever the others bid.",
+    button: "Set the prices",
+    next: "Set prices that winners alone pay",
+    kind: "auction",
+    fields: ["units"],
+    view: thresholdView,
+    makes: "prices",
+    isLive: true,
+  },
+  {
+    word: "units",
+    group: "find",
+    asks: "Which auction is best, where several units of the item are sold?",
+    button: "Sell the units",
+    kind: "auction",
+    fields: ["units", "width"],
+    view: unitsView,
+    makes: "units",
+    tooWide: ["threshold"],
+  },
+  {
+    word: "asym",
+    group: "find",
+    asks: "How often should each bidder have the item, where bidders differ?",
+    button: "Sell the item",
+    next: "Solve by how often each bidder wins",
+    kind: "sale",
+    fields: ["width"],
+    view: asymView,
+    makes: "sale",
+    tooWide: ["find"],
+  },
+  {
+    word: "determ",
+    group: "find",
+    asks: "Which rule without lotteries is best? This may take long.",
+    button: "Solve without lotteries",
+    kind: "general",
+    fields: ["width"],
+    view: determView,
+    makes: "rule",
+    saves: "rule",
+  },
+  {
+    word: "fair",
+    group: "find",
+    asks: "Under which rule does the agent that gets least get most?",
+    button: "Find the fairest",
+    kind: "general",
+    fields: ["width"],
+    view: answerView,
+    makes: "fairest",
+    saves: "fairest",
+    tooWide: ["findfair"],
+  },
+  {
+    word: "findfair",
+    group: "find",
+    asks: "The same as fair, also where the numbers of fair grow too wide.",
+    button: "Find the fairest with longer numbers",
+    kind: "general",
+    fields: [],
+    view: findView,
+    makes: "fairest",
+    saves: "fairest",
   },
   {
     word: "check",
+    group: "judge",
     asks: "Is what an answer claims so? Uses nothing of the part that searches.",
     button: "Check",
     next: "Check this answer",
@@ -65,62 +162,43 @@ export const COMMANDS = [
     view: checkView,
   },
   {
+    word: "faircheck",
+    group: "judge",
+    asks: "Is what an answer about the fairest rule claims so?",
+    button: "Check",
+    next: "Check this answer",
+    kind: "general",
+    second: "fairest",
+    fields: [],
+    view: fairCheckView,
+  },
+  {
+    word: "determcheck",
+    group: "judge",
+    asks: "Is what an answer about rules without lotteries claims so?",
+    button: "Check",
+    next: "Check this answer",
+    kind: "general",
+    second: "rule",
+    fields: [],
+    view: determCheckView,
+  },
+  {
     word: "audit",
-    asks: "Does a mechanism meet all conditions, and if not, which one does it break first? For general settings.",
+    group: "judge",
+    asks: "Does a rule meet all conditions, and if not, which one does it break first?",
     button: "Audit",
-    next: "Audit its mechanism",
+    next: "Audit its rule",
     kind: "general",
     second: "answer",
+    isOfMechanism: true,
     fields: [],
     view: auditView,
   },
   {
-    word: "report",
-    asks: "What does a mechanism do, and how far is it from truthful?",
-    button: "Report",
-    next: "Report on it",
-    second: "answer",
-    fields: [],
-    view: reportView,
-  },
-  {
-    word: "run",
-    asks: "Which outcome do two draws give at some reports, and who pays what?",
-    button: "Draw the outcome",
-    next: "Draw an outcome",
-    second: "answer",
-    fields: ["profile", "first", "second"],
-    view: runView,
-  },
-  {
-    word: "fair",
-    asks: "Under which mechanism does the agent that gets least get most? For general settings.",
-    button: "Find the fairest",
-    kind: "general",
-    fields: ["width"],
-    view: answerView,
-    tooWide: ["findfair"],
-  },
-  {
-    word: "findfair",
-    asks: "The same as fair, also where the numbers of fair grow too wide.",
-    button: "Find the fairest with longer numbers",
-    kind: "general",
-    fields: [],
-    view: findView,
-  },
-  {
-    word: "iron",
-    asks: "Which mechanism is best, by virtual values? For auctions, also where the numbers of solve grow too wide.",
-    button: "Solve in closed form",
-    kind: "auction",
-    fields: [],
-    makesAnswer: true,
-    view: ironView,
-  },
-  {
     word: "realise",
-    asks: "Does some auction have these odds? For auctions.",
+    group: "judge",
+    asks: "Does some auction have these odds?",
     button: "Realise",
     kind: "auction",
     second: "odds",
@@ -128,7 +206,44 @@ export const COMMANDS = [
     view: realiseView,
   },
   {
+    word: "run",
+    group: "run",
+    asks: "Which outcome do two draws give at some reports, and who pays what?",
+    button: "Run",
+    next: "Draw an outcome",
+    second: "answer",
+    isOfMechanism: true,
+    fields: ["profile", "first", "second"],
+    draws: { first: rangeOfFirst, second: rangeOfSecond },
+    view: runView,
+  },
+  {
+    word: "award",
+    group: "run",
+    asks: "Who wins at these bids, and what does each winner pay? Losers pay nothing.",
+    button: "Award",
+    next: "Award it to bidders",
+    kind: "auction",
+    follows: "prices",
+    fields: ["units", "profile", "draw"],
+    draws: { draw: rangeOfAward },
+    view: awardView,
+    isLive: true,
+  },
+  {
+    word: "report",
+    group: "study",
+    asks: "What does a rule do, and how far is it from truthful?",
+    button: "Report",
+    next: "Report on it",
+    second: "answer",
+    isOfMechanism: true,
+    fields: [],
+    view: reportView,
+  },
+  {
     word: "rows",
+    group: "study",
     asks: "What are the conditions, as a linear program?",
     button: "Show the rows",
     fields: [],
@@ -136,6 +251,7 @@ export const COMMANDS = [
   },
   {
     word: "replay",
+    group: "study",
     asks: "How large do numbers grow under listed pivots?",
     button: "Replay",
     second: "pivots",
@@ -144,15 +260,17 @@ export const COMMANDS = [
   },
   {
     word: "make",
+    group: "study",
     asks: "A setting that a number stands for, to try things on.",
     button: "Make a setting",
     takesNoSetting: true,
     fields: ["number"],
     view: makeView,
-    makesSetting: true,
+    makes: "setting",
   },
   {
     word: "drill",
+    group: "study",
     asks: "Solves and checks the setting that a number stands for.",
     button: "Drill",
     takesNoSetting: true,
@@ -168,58 +286,41 @@ export function commandOf(word) {
 
 /** Whether a command is for a setting. Where none is known, each may be. */
 export function fits({ kind }, setting) {
-  return kind === undefined || !setting || kind === setting.kind;
+  return kind === undefined || !setting || setting.kinds.includes(kind);
 }
 
-const TOO_WIDE = 12;
-const OF_MECHANISMS = ["check", "audit", "report", "run"];
-const OF_ANSWERS = { 0: OF_MECHANISMS, 10: ["check"], 11: OF_MECHANISMS };
+const DONE = [0, 10, 11];
+const NONE = 10; // no mechanism
+const NO_ANSWER = [12, 22];
 
 /** The commands that may follow where a command ended with a status. */
-export function nextCommands({ makesAnswer, tooWide = [] }, status, setting) {
-  const words = status === TOO_WIDE ? tooWide : (makesAnswer && OF_ANSWERS[status]) || [];
-  return words.map(commandOf).filter((command) => fits(command, setting));
+export function nextCommands(command, status, setting) {
+  return COMMANDS.filter((each) => fits(each, setting) && follows(each, command, status));
+}
+
+function follows({ word, second, follows: kind = second, isOfMechanism }, { makes, tooWide = [] }, status) {
+  if (NO_ANSWER.includes(status)) {
+    return tooWide.includes(word);
+  }
+  return kind !== undefined && kind === makes && DONE.includes(status) && !(isOfMechanism && status === NONE);
 }
 
 /** The words of a call, as they would stand behind the program's name. */
 export function wordsOf(command, values) {
   const files = [...(command.takesNoSetting ? [] : ["setting"]), ...(command.second ? ["second"] : [])];
   const further = command.fields.flatMap((field) => {
-    if (field !== "width") {
+    if (!FIELDS[field].isOption) {
       return [values[field]];
     }
-    return values.width === "" ? [] : ["--width", values.width];
+    return values[field] === "" ? [] : [`--${field}`, values[field]];
   });
   return [command.word, ...files, ...further];
 }
 
-const REFUSALS = [
-  [/^too long$/, "The file is longer than 1 MiB."],
-  [/^not toml$/, "The text is no TOML: look for a missing quote, bracket or equals sign."],
-  [/^missing (.+)$/, "The key $1 is required, and missing."],
-  [/^wrong kind (.+)$/, "What stands at $1 is of another kind: a whole number, a text in quotes, true or false, or a list is wanted."],
-  [/^unknown word (.+)$/, "The word at $1 is none of those that may stand there."],
-  [/^unknown key$/, "A key stands somewhere that is not known there: perhaps a spelling mistake, or weights beside a prior."],
-  [/^bad name$/, "A name is 1 to 32 letters, digits and underscores."],
-  [/^double name$/, "Two agents, two outcomes, or two types of an agent have the same name."],
-  [/^sizes$/, "There are too few or too many agents, types, outcomes, profiles, bidders or values."],
-  [/^shape$/, "A list has another length than it should: one number for each type, outcome, profile or value."],
-  [/^out of range$/, "A number is beyond its limit."],
-  [/^zero weight$/, "A type or a value never comes: its weight is 0."],
-  [/^weight total$/, "The weights of all profiles add to more than 1,000,000."],
-  [/^values order$/, "The values of an auction must ascend."],
-  [/^too many rows$/, "The linear program of this setting is too large."],
-  [/^too many counts$/, "This auction is too large."],
-  [/^other kind$/, "This command is for the other kind of setting."],
-  [/^no table$/, "The answer has no mechanism."],
-  [/^line (\d+): record$/, "Record $1 may not stand there, or has another number of fields than it should."],
-  [/^line (\d+): field (\d+)$/, "Field $2 of record $1 is not what may stand there."],
-  [/^line (\d+): sum$/, "The numbers of record $1 do not add up."],
-  [/^line (\d+): ended$/, "The file ends after $1 records, without the record end."],
-];
-
-/** A refusal of the program in a sentence; empty where there is none. */
-export function explained(refusal) {
-  const found = REFUSALS.find(([pattern]) => pattern.test(refusal));
-  return found ? refusal.replace(...found) : "";
+/** How a file that a command printed is called, after the name of its setting. */
+export function fileOf({ word, makes, saves, takesNoSetting }, name) {
+  if (makes === "setting") {
+    return "setting.toml";
+  }
+  return takesNoSetting ? `${word}.csv` : `${name}-${saves ?? (word === "solve" ? "answer" : word)}.csv`;
 }

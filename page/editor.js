@@ -1,17 +1,19 @@
 // The setting: the gallery to begin with, the editor, and what the program says of its text while it is written.
 
-import { explained } from "./commands.js";
 import { button, byId, make } from "./dom.js";
+import { opensFile, save } from "./files.js";
+import { explained } from "./refusals.js";
 import { readSetting, remarkOf, summaryOf } from "./setting.js";
 
 const PAUSE = 250; // milliseconds without a key before the text is read
 const REFUSED = 65;
+const SALE = ["asym", "setting", "--width", "4"]; // asks whether a setting is a sale, and looks no further than four bits for an answer
 
 /** The settings of the gallery, in groups. */
 function filledGallery(select, gallery) {
   const groups = [
-    ["General settings", gallery.filter(({ text }) => !isAuction(text))],
     ["Auctions", gallery.filter(({ text }) => isAuction(text))],
+    ["General settings", gallery.filter(({ text }) => !isAuction(text))],
   ];
   for (const [label, entries] of groups) {
     const options = entries.map(({ name, title }) => make("option", { value: name }, title));
@@ -23,41 +25,14 @@ function isAuction(text) {
   return /^kind = "auction"/m.test(text);
 }
 
-/** Saves a text as a file. */
-export function save(name, text) {
-  const address = URL.createObjectURL(new Blob([text], { type: "text/plain" }));
-  make("a", { href: address, download: name }).click();
-  setTimeout(() => URL.revokeObjectURL(address), 1000);
-}
-
-/** Has a button open a file as text. A file that is no text in UTF-8 is told of, and not taken. */
-export function opensFile(opener, onText) {
-  const input = make("input", { type: "file", hidden: true });
-  opener.after(input);
-  opener.addEventListener("click", () => input.click());
-  input.addEventListener("change", async () => {
-    const [file] = input.files;
-    input.value = "";
-    if (file) {
-      onText(textOf(await file.arrayBuffer()), file.name);
-    }
-  });
-}
-
-function textOf(bytes) {
-  try {
-    return new TextDecoder("utf-8", { fatal: true }).decode(bytes);
-  } catch {
-    return null;
-  }
-}
-
-/** The editor of the setting. `onChange` hears of each text that was read. */
+/** The editor of the setting. `onChange` hears of each text that was read, and `onBegin` of each other setting once it was read, with what
+ * is to be asked of it. */
 export class Editor {
-  constructor(engine, gallery, onChange) {
+  constructor(engine, gallery, { onChange, onBegin }) {
     this.engine = engine;
     this.gallery = gallery;
     this.onChange = onChange;
+    this.onBegin = onBegin;
     this.area = byId("setting");
     this.state = byId("setting-state");
     this.entry = null;
@@ -72,7 +47,7 @@ export class Editor {
     filledGallery(select, this.gallery);
     select.addEventListener("change", () => this.begins(select.value));
     this.area.addEventListener("input", () => this.readsSoon());
-    byId("setting-save").addEventListener("click", () => save(`${this.entry?.name ?? "setting"}.toml`, this.text));
+    byId("setting-save").addEventListener("click", () => save(`${this.name}.toml`, this.text));
     opensFile(byId("setting-open"), (text) => {
       if (text === null) {
         this.tell("bad", "That file is no text in UTF-8.");
@@ -86,27 +61,44 @@ export class Editor {
     return this.area.value;
   }
 
-  /** Begins with a setting of the gallery. */
-  begins(name) {
-    const entry = this.gallery.find((each) => each.name === name);
-    byId("gallery").value = name;
-    this.entry = entry;
-    return this.fills(entry.text);
+  /** What files of the setting are called. */
+  get name() {
+    return this.entry?.name ?? "setting";
   }
 
-  /** Takes another text. */
-  takes(text) {
+  /** Whether the gallery has a setting of this name. */
+  has(name) {
+    return this.gallery.some((each) => each.name === name);
+  }
+
+  /** Begins with a setting of the gallery, and asks what its page asks, or something else. */
+  begins(name, asked) {
+    const entry = this.gallery.find((each) => each.name === name) ?? null;
+    byId("gallery").value = entry?.name ?? "";
+    this.entry = entry;
+    return entry ? this.fills(entry.text, { ...entry.asks, ...asked }) : this.reads();
+  }
+
+  /** Takes another text, and asks something of it. */
+  takes(text, asked = {}) {
     this.entry = null;
     byId("gallery").value = "";
-    return this.fills(text);
+    return this.fills(text, asked);
+  }
+
+  /** Takes a text in which numbers moved. */
+  moves(text) {
+    this.area.value = text;
+    this.readsSoon();
   }
 
   /** Puts a text into the editor, which is as high as the text is long, within bounds. */
-  fills(text) {
+  async fills(text, asked) {
     this.area.value = text;
     this.area.rows = Math.min(26, Math.max(12, text.split("\n").length + 1));
     this.area.scrollTop = 0;
-    return this.reads();
+    await this.reads();
+    return this.onBegin(asked);
   }
 
   readsSoon() {
@@ -121,17 +113,26 @@ export class Editor {
     this.reading += 1;
     const { reading, text } = this;
     const told = await this.engine.call(["check", "setting", "second"], text).catch(() => null);
+    const sold = await this.engine.call(SALE, text).catch(() => null);
     if (told === null || reading !== this.reading) {
       return;
     }
-    this.setting = told.status === REFUSED ? null : readSetting(text);
-    byId("remark").textContent = remarkOf(text);
+    this.setting = told.status === REFUSED ? null : readSetting(text, sold !== null && sold.status !== REFUSED);
+    byId("remark").textContent = this.remark();
+    byId("puzzle").textContent = this.entry?.question ?? "";
     if (told.status === REFUSED) {
       this.tellRefusal(told.err.trim().replace(/^mechdes: setting refused: /, ""));
     } else {
       this.tell("good", this.setting ? `This is ${summaryOf(this.setting)}.` : "This setting is taken.");
     }
     this.onChange();
+  }
+
+  /** What the text says of itself; of an example whose text is another one by now, that it was so. */
+  remark() {
+    const { entry, text } = this;
+    const wasSo = entry && !entry.isOwn && entry.text !== text;
+    return wasSo ? `The example was: ${remarkOf(entry.text)}` : remarkOf(text);
   }
 
   tell(kind, ...content) {
@@ -158,6 +159,7 @@ export class Editor {
   }
 
   goesTo({ start, end }) {
+    byId("text-of-setting").open = true;
     this.area.focus();
     this.area.setSelectionRange(start, end);
   }

@@ -6,7 +6,7 @@ export class Interrupted extends Error {}
 
 /** Whether this browser can run the module. */
 export function canRun() {
-  return [typeof WebAssembly, typeof DecompressionStream, typeof BigUint64Array].every((kind) => kind !== "undefined");
+  return [typeof WebAssembly, typeof CompressionStream, typeof BigUint64Array].every((kind) => kind !== "undefined");
 }
 
 /** The module, out of the text that the page holds it as: base64 of what gzip made of it. */

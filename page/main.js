@@ -1,20 +1,26 @@
-// The page: it begins with a setting of the gallery, asks the library what the user asks, and shows what it says.
+// The page: it begins with a setting of the gallery or of a link, asks the library what the user asks, and shows what it says.
 
-import { explained, nextCommands, wordsOf } from "./commands.js";
-import { breakable, button, byId, make } from "./dom.js";
-import { Editor, save } from "./editor.js";
+import { fileOf, nextCommands, wordsOf } from "./commands.js";
+import { breakable, button, byId, keepsOpen, make } from "./dom.js";
+import { Editor } from "./editor.js";
 import { Engine, Interrupted, canRun, unpacked } from "./engine.js";
+import { save } from "./files.js";
+import { fragmentOf, partsOf } from "./link.js";
 import { patternDefinitions } from "./pictures.js";
 import { Question } from "./question.js";
 import { firstWith, recordsOf, withWord } from "./records.js";
+import { explained } from "./refusals.js";
 import { readSetting } from "./setting.js";
+import { Sliders } from "./sliders.js";
 import { readToml } from "./toml.js";
-import { conditionNames, textView } from "./views.js";
+import { conditionNames } from "./verdicts.js";
+import { textView } from "./views.js";
 
-const FIRST = "posted-price";
+const FIRST = "auction-reserve";
 const REFUSED_FROM = 64;
 const MOST_SHOWN = 200000; // letters of a text that the page shows; a longer one can be saved whole
 const MOST_NAMED = 2000; // conditions whose names are asked for
+const PATIENCE = 300; // milliseconds of a call after which the page says that it works
 
 const STATUS_WORDS = {
   64: "The words are no command",
@@ -25,47 +31,137 @@ const STATUS_WORDS = {
 };
 
 class Page {
-  constructor(worker, module, gallery) {
+  constructor(worker, module, { gallery, words }) {
     // One worker reads the setting while it is written, and the other one carries commands out.
     this.engine = new Engine(worker, module);
-    this.editor = new Editor(new Engine(worker, module), gallery, () => this.settingChanged());
-    this.question = new Question(() => this.asks());
+    this.editor = new Editor(new Engine(worker, module), gallery, {
+      onChange: () => this.settingChanged(),
+      onBegin: (asked) => this.begins(asked),
+    });
+    this.question = new Question(words, {
+      onAsk: () => this.asks(),
+      onChange: () => this.asksAnew(),
+      call: (told, second) => this.engine.call(told, this.editor.text, second),
+    });
+    this.sliders = new Sliders((text) => this.numbersMoved(text));
     this.printed = { text: "", file: "answer.csv" };
-    this.entry = null;
     this.asked = null;
+    this.running = 0; // calls whose answer is not shown yet
+    this.isMoved = false;
+    this.isMoving = false;
     this.wire();
   }
 
   wire() {
     byId("stop").addEventListener("click", () => this.engine.stop());
     byId("printed-save").addEventListener("click", () => save(this.printed.file, this.printed.text));
+    byId("link").addEventListener("click", () => this.links());
     byId("setting").addEventListener("keydown", (event) => {
       if (event.key === "Enter" && (event.ctrlKey || event.metaKey)) {
         event.preventDefault();
         this.asks();
       }
     });
+    addEventListener("hashchange", () => this.follows(location.hash));
+  }
+
+  /** Begins with what a link says, and else with the first example. */
+  async opens() {
+    if (!(await this.follows(location.hash))) {
+      await this.editor.begins(FIRST);
+    }
+  }
+
+  /** Takes the setting and the question of a fragment, where it has some that are not there yet. */
+  async follows(fragment) {
+    if (fragment === this.fragment) {
+      return true;
+    }
+    this.fragment = fragment;
+    try {
+      const parts = await partsOf(fragment);
+      if (parts === null) {
+        return false;
+      }
+      const { example, setting, ...asked } = parts;
+      if (setting === undefined && !this.editor.has(example)) {
+        throw new RangeError(`there is no example ${example}`);
+      }
+      await (setting === undefined ? this.editor.begins(example, asked) : this.editor.takes(setting, asked));
+      return true;
+    } catch (fault) {
+      byId("link-state").textContent = `The link cannot be read: ${fault.message}.`;
+      return false;
+    }
+  }
+
+  /** Puts the setting and the question into the address of the page, and copies that. */
+  async links() {
+    const { entry, text } = this.editor;
+    const what = entry && entry.text === text ? { example: entry.name } : { setting: text };
+    this.fragment = await fragmentOf({ ...this.question.parts(), ...what });
+    history.replaceState(null, "", this.fragment);
+    const isCopied = await (navigator.clipboard?.writeText(location.href) ?? Promise.reject()).then(() => true, () => false);
+    byId("link-text").hidden = isCopied;
+    byId("link-text").value = location.href;
+    byId("link-state").textContent = isCopied
+      ? "Copied. What stands behind its # is the setting; it goes behind the address of any copy of this page."
+      : "The link is the address of the page; copy it from here.";
+    if (!isCopied) {
+      byId("link-text").select();
+    }
   }
 
   settingChanged() {
     const { entry, setting, text } = this.editor;
     byId("stale").hidden = text === this.asked;
     this.question.knows(entry, setting);
-    if (entry !== this.entry) {
-      this.entry = entry;
-      this.question.forgets();
-    }
+    this.sliders.shows(text);
   }
 
-  /** Carries out what is asked, and shows what comes. */
-  async asks() {
+  /** Asks of a setting that begins what is to be asked of it. */
+  begins(asked) {
+    this.question.begins(asked);
+    return this.asks({ isQuiet: true });
+  }
+
+  /** Asks again of the setting whose numbers moved. */
+  numbersMoved(text) {
+    this.editor.moves(text);
+    const setting = readSetting(text, this.editor.setting?.kinds.includes("sale"));
+    this.question.knows(this.editor.entry, setting);
+    if (this.question.command.second || this.question.command.takesNoSetting) {
+      this.question.shows("solve");
+    }
+    this.asksAnew();
+  }
+
+  /** Asks again as something moves: one call at a time, and the last one of what stands there in the end. */
+  async asksAnew() {
+    this.isMoved = true;
+    if (this.isMoving) {
+      return;
+    }
+    this.isMoving = true;
+    while (this.isMoved) {
+      this.isMoved = false;
+      await this.asks({ isQuiet: true });
+    }
+    this.isMoving = false;
+  }
+
+  /** Carries out what is asked, and shows what comes. A quiet question leaves the reader where it is. */
+  async asks({ isQuiet = false } = {}) {
     const { command, values, second } = this.question;
-    const setting = this.editor.text;
-    this.asked = setting;
+    const asked = { command, values: { ...values }, settingText: this.editor.text, name: this.editor.name };
+    this.asked = asked.settingText;
     this.busy(true);
     try {
-      const told = await this.engine.call(wordsOf(command, values), setting, second);
-      await this.shows(command, setting, told);
+      const told = await this.engine.call(wordsOf(command, values), asked.settingText, second);
+      await this.shows(asked, told);
+      if (!isQuiet) {
+        comesIntoView(byId("answer"));
+      }
     } catch (fault) {
       this.tellFault(fault);
     } finally {
@@ -73,12 +169,17 @@ class Page {
     }
   }
 
-  busy(isBusy) {
-    byId("ask").disabled = isBusy;
-    byId("stop").disabled = !isBusy;
+  busy(isMore) {
+    this.running += isMore ? 1 : -1;
+    const isBusy = this.running > 0;
+    clearTimeout(this.patience);
     byId("answer").setAttribute("aria-busy", String(isBusy));
+    byId("stop").hidden = true;
     if (isBusy) {
-      byId("progress").textContent = "Working\u2026";
+      this.patience = setTimeout(() => {
+        byId("stop").hidden = false;
+        byId("progress").textContent = "Working\u2026";
+      }, PATIENCE);
     }
   }
 
@@ -90,17 +191,19 @@ class Page {
   }
 
   /** Shows a text of the program: what it says in a few words, its pictures and tables, and the text itself. */
-  async shows(command, settingText, told) {
+  async shows(asked, told) {
+    const { command, settingText, name } = asked;
     const isRefused = told.status >= REFUSED_FROM;
     const text = isRefused ? told.err : told.out;
-    this.printed = { text, file: command.makesSetting ? "setting.toml" : `${command.word}.csv` };
-    const found = isRefused ? refusalView(told) : await this.viewOf(command, settingText, told.out);
+    this.printed = { text, file: fileOf(command, name) };
+    const found = isRefused ? refusalView(told) : await this.viewOf(asked, told.out);
     byId("verdict").className = `verdict ${found.kind}`;
     byId("verdict").replaceChildren(
       make("p", { class: "large" }, ...[breakable(found.large)].flat()),
       make("p", {}, ...[found.words].flat()),
       ...this.further(command, told),
     );
+    keepsOpen(byId("content"), found.content);
     byId("content").replaceChildren(...found.content);
     byId("printed").textContent = text.length > MOST_SHOWN ? `${text.slice(0, MOST_SHOWN)}\n\u2026` : text;
     byId("shown").hidden = false;
@@ -108,56 +211,55 @@ class Page {
     byId("stale").hidden = command.takesNoSetting === true || settingText === this.editor.text;
     byId("answer").dataset.status = told.status;
     byId("progress").textContent = `${found.large}. Status ${told.status}, after ${secondsText(told.seconds)}.`;
-    if (command.makesAnswer && told.out.startsWith("answer,")) {
-      this.question.takes("answer", told.out);
+    byId("moved").textContent = found.large;
+    if (told.out.startsWith("answer,")) {
+      this.question.takes(command.makes, told.out);
     }
-    comesIntoView(byId("answer"));
   }
 
-  async viewOf(command, settingText, text) {
-    if (command.makesSetting || !command.view) {
-      return (command.view ?? textView)();
-    }
-    const records = recordsOf(text);
-    const setting = readSetting(settingText);
-    return command.view(records, setting, await this.namesFor(records, settingText, setting));
+  /** What is shown of a text that is no refusal. */
+  async viewOf({ command, values, settingText }, text) {
+    const [records, setting] = [recordsOf(text), readSetting(settingText)];
+    const call = (words, second) => this.engine.call(words, settingText, second);
+    const namesFor = (answer) => this.namesFor(answer, setting, call);
+    return (command.view ?? textView)(records, { setting, values, call, namesFor, names: await namesFor(records) });
   }
 
   /** The names of the conditions of which an answer has multipliers. */
-  async namesFor(records, settingText, setting) {
-    const answer = firstWith(records, "answer");
+  async namesFor(records, setting, call) {
+    const [, kind] = firstWith(records, "answer") ?? [];
     const count = withWord(records, "row").length;
-    if (!answer || count === 0 || count > MOST_NAMED) {
+    if (!NAMED_BY_ROWS.includes(kind) || count === 0 || count > MOST_NAMED) {
       return [];
     }
-    const told = await this.engine.call(["rows", "setting"], settingText);
+    const told = await call(["rows", "setting"]);
     const names = conditionNames(recordsOf(told.out), records);
-    const isFair = answer[1] === "fair";
-    const levels = isFair ? (setting?.agents ?? []).map(({ name }) => `${name} gets the level`) : [];
+    const levels = kind === "fair" ? (setting?.agents ?? []).map(({ name }) => `${name} gets the level`) : [];
     return [...names, ...levels];
   }
 
   /** What may be done next. */
   further(command, told) {
-    if (command.makesSetting && told.status === 0) {
+    if (command.makes === "setting" && told.status === 0) {
       return [make("p", {}, button("Put it into the editor", () => this.editor.takes(told.out)))];
     }
-    const next = nextCommands(command, told.status, this.editor.setting).map((each) =>
-      button(each.next ?? each.button, () => this.goesOnWith(each)),
-    );
+    const next = nextCommands(command, told.status, this.editor.setting)
+      .filter(({ word }) => this.question.isOffered(word))
+      .map((each) => button(each.next ?? each.button, () => this.goesOnWith(each)));
     return next.length > 0 ? [make("p", { class: "buttons" }, next)] : [];
   }
 
-  /** Asks a command, or turns to it where it wants further words. */
-  goesOnWith({ word, fields: [first] }) {
+  /** Asks a command, and leads to its fields where it has some of its own. */
+  async goesOnWith({ word, fields }) {
     this.question.shows(word);
-    if (first) {
-      byId(`field-${first}`).focus();
-    } else {
-      this.asks();
+    await this.asks();
+    if (fields.includes("profile")) {
+      byId("fields").querySelector("select")?.focus();
     }
   }
 }
+
+const NAMED_BY_ROWS = ["general", "auction", "fair", "units"];
 
 /** Where the answer stands below the question, and not beside it, the page moves there. */
 function comesIntoView(element) {
@@ -184,9 +286,8 @@ async function begins() {
   }
   document.body.append(patternDefinitions());
   const module = await unpacked(byId("module").textContent);
-  const gallery = JSON.parse(byId("gallery-texts").textContent);
-  const page = new Page(byId("worker").textContent, module, gallery);
-  await page.editor.begins(FIRST);
+  const page = new Page(byId("worker").textContent, module, JSON.parse(byId("contents").textContent));
+  await page.opens();
   // For scripts that try the page.
   window.mechdes = Object.assign(page, { readToml });
   document.documentElement.dataset.ready = "yes";

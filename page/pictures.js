@@ -10,7 +10,7 @@ const LINE = 15; // the height of a line of text
 const BAR = 20; // the height of a bar
 const GAP = 10; // between cells
 const LONGEST = 20; // letters of a line in a cell
-const WIDEST = 390; // of a picture with one column
+const WIDEST = 325; // of a picture with one column
 const NARROWEST = 180; // of a figure with its caption
 const HUES = 8;
 
@@ -223,7 +223,7 @@ export function barsFigure(heading, names, numbers, limit = null) {
   return figure(heading, picture(heading, words, width, height, [rows, axis]));
 }
 
-function barRow({ name, amount, limit, at, y, track, side }) {
+function barRow({ name, amount, text = String(amount), limit, at, y, track, side }) {
   const zero = at(new Fraction(0n));
   const box = (from, to, attributes) =>
     draw("rect", { x: place(Math.min(from, to)), y, width: place(Math.abs(to - from)), height: BAR, ...attributes });
@@ -231,6 +231,21 @@ function barRow({ name, amount, limit, at, y, track, side }) {
     textAt(0, y + 14, name),
     limit && box(zero, at(limit), { class: "frame" }),
     !amount.isZero() && box(zero, at(amount), { class: "edge", fill: `url(#key${amount.isNegative() ? 1 : 0})` }),
-    textAt(side + track + 8, y + 14, String(amount)),
+    textAt(side + track + 8, y + 14, text),
   ];
+}
+
+/** What bidders bid, each as a frame, and in it what a winner pays. */
+export function bidsFigure(heading, bidders) {
+  const names = bidders.map(({ name }) => name);
+  const texts = bidders.map(({ bid, wins, price }) => (wins ? `${bid}, pays ${price}` : `${bid}`));
+  const side = longestOf(names) * LETTER + 10;
+  const words = names.map((name, row) => `${name}: ${texts[row]}.`).join(" ");
+  const track = Math.max(110, WIDEST - side - longestOf(texts) * LETTER - 10);
+  const most = Math.max(...bidders.map(({ bid }) => bid.toPlace())) || 1;
+  const at = (amount) => side + (track * amount.toPlace()) / most;
+  const rows = bidders.map(({ name, bid, wins, price }, row) =>
+    barRow({ name, amount: wins ? price : new Fraction(0n), text: texts[row], limit: bid, at, y: 4 + row * (BAR + GAP), track, side }),
+  );
+  return figure(heading, picture(heading, words, side + track + 10 + longestOf(texts) * LETTER, names.length * (BAR + GAP) + 2, rows));
 }

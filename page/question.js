@@ -1,31 +1,44 @@
 // The question: which command, its second file, and its further words.
 
-import { COMMANDS, FIELDS, SECONDS, commandOf, fits } from "./commands.js";
-import { button, byId, make } from "./dom.js";
-import { opensFile, save } from "./editor.js";
+import { COMMANDS, FIELDS, GROUPS, SECONDS, commandOf, fits, wordsOf } from "./commands.js";
+import { button, byId, folded, make } from "./dom.js";
+import { drawnBelow } from "./draws.js";
+import { opensFile, save } from "./files.js";
+import { reportersOf } from "./setting.js";
 
-/** What is asked of the setting. `onAsk` is called where the user asks it. */
+const DEFAULT = "solve";
+
+/** What is asked of the setting, by the words of the commands that the program has. `onAsk` is called where the user asks it, `onChange`
+ * where a field of a command changes that is asked anew at once, and `call` asks the program. */
 export class Question {
-  constructor(onAsk) {
+  constructor(words, { onAsk, onChange, call }) {
     this.onAsk = onAsk;
-    this.command = COMMANDS[0];
-    this.texts = { answer: "", pivots: "", odds: "" };
+    this.onChange = onChange;
+    this.call = call;
+    this.offered = COMMANDS.filter(({ word }) => words.includes(word));
+    this.texts = Object.fromEntries(Object.keys(SECONDS).map((kind) => [kind, ""]));
     this.values = Object.fromEntries(Object.entries(FIELDS).map(([name, { initial }]) => [name, initial]));
+    this.picked = [];
     this.samples = [];
     this.setting = null;
-    this.known = null;
     this.fillCommands();
     this.wire();
-    this.shows("solve");
+    this.shows(DEFAULT);
   }
 
   fillCommands() {
-    const choices = COMMANDS.map(({ word }) => {
-      const input = make("input", { type: "radio", name: "command", value: word, "aria-describedby": "asks" });
-      input.addEventListener("change", () => this.shows(word));
-      return make("label", { class: "choice" }, input, make("span", {}, word));
+    const groups = Object.entries(GROUPS).map(([group, title]) => {
+      const choices = this.offered.filter((command) => command.group === group).map((command) => this.choiceOf(command));
+      const id = `group-${group}`;
+      return make("div", { class: "group", role: "group", "aria-labelledby": id }, make("span", { class: "soft", id }, title), choices);
     });
-    byId("commands").append(...choices);
+    byId("commands").append(...groups);
+  }
+
+  choiceOf({ word, asks }) {
+    const input = make("input", { type: "radio", name: "command", value: word, "aria-description": asks });
+    input.addEventListener("change", () => this.shows(word));
+    return make("label", { class: "choice" }, input, make("span", {}, word));
   }
 
   wire() {
@@ -46,6 +59,12 @@ export class Question {
     return this.command.second ? this.texts[this.command.second] : "";
   }
 
+  /** Whether the program has a command, and it is for the setting. */
+  isOffered(word) {
+    const command = this.offered.find((each) => each.word === word);
+    return command !== undefined && fits(command, this.setting);
+  }
+
   /** Shows what a command asks for. */
   shows(word) {
     this.command = commandOf(word);
@@ -60,21 +79,62 @@ export class Question {
       byId("second").value = this.second;
       this.fillSamples();
     }
-    byId("fields").replaceChildren(...this.command.fields.map((name) => this.fieldFor(name)));
-    if (this.command.word === "run") {
-      byId("fields").append(button("Draw by chance", () => this.draws(), { id: "chance" }));
-    }
+    this.fillFields();
+  }
+
+  fillFields() {
+    const { fields, draws } = this.command;
+    const [options, plain] = [true, false].map((isOption) => fields.filter((name) => (FIELDS[name].isOption ?? false) === isOption));
+    byId("fields").replaceChildren(
+      ...(plain.includes("profile") ? [this.reportsField()] : []),
+      ...plain.filter((name) => name !== "profile").map((name) => this.fieldFor(name)),
+      ...(draws ? [button("Draw by chance", () => this.draws(), { id: "chance" })] : []),
+    );
+    byId("options").replaceChildren(...(options.length > 0 ? [folded("Options", options.map((name) => this.fieldFor(name)))] : []));
   }
 
   fieldFor(name) {
     const { label, hint } = FIELDS[name];
     const input = make("input", { id: `field-${name}`, autocomplete: "off", spellcheck: "false", "aria-describedby": `hint-${name}` });
     input.value = this.values[name];
-    input.addEventListener("input", () => {
-      this.values[name] = input.value.trim();
-    });
+    input.addEventListener("input", () => this.writes(name, input.value.trim()));
     const text = make("span", { class: "hint", id: `hint-${name}` }, hint);
     return make("div", { class: "field" }, make("label", { for: input.id }, label), input, text);
+  }
+
+  /** A choice for each agent of what it reports; of an auction of what each bidder bids. */
+  reportsField() {
+    const reporters = this.setting ? reportersOf(this.setting) : [];
+    const choices = reporters.map(({ name, types }, agent) => {
+      const select = make("select", { id: `report-${agent}` }, types.map((type, place) => make("option", { value: place }, type)));
+      select.value = this.picked[agent];
+      select.addEventListener("change", () => this.picks(agent, Number(select.value)));
+      return make("span", { class: "report" }, make("label", { for: select.id }, name), select);
+    });
+    const title = this.setting?.kind === "auction" ? "Bids" : FIELDS.profile.label;
+    return make("fieldset", { class: "reports" }, make("legend", {}, title), make("div", { class: "line" }, choices));
+  }
+
+  writes(name, text) {
+    this.values[name] = text;
+    if (this.command.isLive && text !== "") {
+      this.onChange();
+    }
+  }
+
+  /** Has an agent report one of its types. Who shares the last units may be others then, so that the draw begins anew. */
+  picks(agent, place) {
+    this.picked[agent] = place;
+    this.setsField("draw", FIELDS.draw.initial);
+    this.namesReports();
+    if (this.command.isLive) {
+      this.onChange();
+    }
+  }
+
+  namesReports() {
+    const reporters = this.setting ? reportersOf(this.setting) : [];
+    this.values.profile = reporters.map(({ types }, agent) => types[this.picked[agent]]).join(",");
   }
 
   /** Takes the text of a second file. */
@@ -85,41 +145,47 @@ export class Question {
     }
   }
 
-  /** The second files that the gallery has beside a setting, and the reports that a profile may begin with. */
+  /** The second files that the gallery has beside a setting, and what each agent may report. */
   knows(entry, setting) {
     this.samples = entry?.seconds ?? [];
     if (setting) {
+      const before = JSON.stringify(this.setting ? reportersOf(this.setting) : [], withoutWeights);
       this.setting = setting;
-      this.begins(setting);
-      this.offers(setting);
+      this.picksWithin(reportersOf(setting));
+      this.offers();
+      if (before !== JSON.stringify(reportersOf(setting), withoutWeights)) {
+        this.fillFields();
+      }
     }
     if (this.command.second) {
       this.fillSamples();
     }
   }
 
-  /** Offers the commands that fit a setting, and no others. */
-  offers(setting) {
+  /** Keeps what each agent reports where it still may. An agent that is new reports its first type, and a bidder one of the values. */
+  picksWithin(reporters) {
+    const isAuction = this.setting.kind === "auction";
+    this.picked = reporters.map(({ types }, agent) => {
+      const begin = isAuction ? (2 + 2 * agent) % types.length : 0;
+      return this.picked[agent] < types.length ? this.picked[agent] : begin;
+    });
+    this.namesReports();
+  }
+
+  /** Offers the commands that fit the setting, and no others. */
+  offers() {
     for (const input of byId("commands").querySelectorAll("input")) {
-      input.parentElement.hidden = !fits(commandOf(input.value), setting);
+      input.parentElement.hidden = !this.isOffered(input.value);
     }
-    if (!fits(this.command, setting)) {
-      this.shows("solve");
+    for (const group of byId("commands").querySelectorAll(".group")) {
+      group.hidden = ![...group.querySelectorAll(".choice")].some(({ hidden }) => !hidden);
     }
-  }
-
-  /** Begins with some reports, where the agents or their types are others than before. */
-  begins(setting) {
-    const isAuction = setting.kind === "auction";
-    const reports = isAuction ? Array(setting.bidders).fill(setting.values[0]) : setting.agents.map(({ types }) => types[0]);
-    const known = isAuction ? `${setting.bidders};${setting.values}` : JSON.stringify(setting.agents);
-    if (known !== this.known) {
-      this.known = known;
-      this.setsField("profile", reports.join(","));
+    if (!this.isOffered(this.command.word)) {
+      this.shows(DEFAULT);
     }
   }
 
-  /** Forgets the second files, where another setting begins. */
+  /** Forgets the second files, where another setting begins, but for those beside it that nothing prints. */
   forgets() {
     Object.keys(this.texts).forEach((kind) => this.takes(kind, ""));
     for (const { kind, text } of this.samples.toReversed()) {
@@ -127,6 +193,24 @@ export class Question {
         this.takes(kind, text);
       }
     }
+  }
+
+  /** Begins with another setting, and asks of it what its example or a link says. */
+  begins({ ask, profile = "", ...values }) {
+    this.forgets();
+    Object.entries(FIELDS).forEach(([name, { initial }]) => this.setsField(name, values[name] ?? initial));
+    if (this.setting) {
+      const [reports, reporters] = [profile.split(","), reportersOf(this.setting)];
+      this.picked = reporters.map(({ types }, agent) => types.indexOf(reports[agent])).map((place) => (place < 0 ? undefined : place));
+      this.picksWithin(reporters);
+    }
+    this.shows(this.isOffered(ask) ? ask : DEFAULT);
+  }
+
+  /** The words of what is asked, by their names: what a link holds. */
+  parts() {
+    const fields = this.command.fields.filter((name) => this.values[name] !== FIELDS[name].initial);
+    return { ask: this.command.word, ...Object.fromEntries(fields.map((name) => [name, this.values[name]])) };
   }
 
   setsField(name, text) {
@@ -151,47 +235,21 @@ export class Question {
     }
   }
 
-  /** Draws the first number by the browser's source of chance, each as likely as any other. */
-  draws() {
-    const range = this.rangeOfDraws();
-    if (range > 0n) {
-      this.setsField("first", String(drawnBelow(range)));
-      this.setsField("second", "0");
+  /** Draws all numbers by the browser's source of chance, each as likely as any other. How many there are may hang on what is printed
+   * with those before, and with 0 for the others. */
+  async draws() {
+    const { command, second } = this;
+    Object.keys(command.draws).forEach((name) => this.setsField(name, "0"));
+    for (const [name, rangeOf] of Object.entries(command.draws)) {
+      const { out } = await this.call(wordsOf(command, this.values), second);
+      const range = rangeOf({ setting: this.setting, reports: this.values.profile.split(","), second, printed: out });
+      this.setsField(name, String(drawnBelow(range > 0n ? range : 1n)));
     }
-  }
-
-  /** How many first draws there are: the denominator of the table, in an auction times the weight of the profiles with the same
-   * counts as the reports. */
-  rangeOfDraws() {
-    const denominator = /^(?:table|interim),(\d+)$/m.exec(this.texts.answer)?.[1];
-    if (!denominator) {
-      return 0n;
-    }
-    return BigInt(denominator) * (this.setting?.kind === "auction" ? weightOfReports(this.setting, this.values.profile.split(",")) : 1n);
+    this.onAsk();
   }
 }
 
-/** The weight of the profiles that have the same values as often as these reports. */
-function weightOfReports({ values, weights }, reports) {
-  let weight = 1n;
-  const seen = new Map();
-  reports.forEach((report, place) => {
-    const many = (seen.get(report) ?? 0n) + 1n;
-    seen.set(report, many);
-    const at = values.findIndex((value) => String(value) === report);
-    weight = (weight * BigInt(place + 1) * (weights[at] ?? 0n)) / many;
-  });
-  return weight;
-}
-
-/** An even draw from 0 to one below a number: draws beyond the last whole multiple of it are thrown away. */
-function drawnBelow(range) {
-  const whole = 1n << 128n;
-  for (;;) {
-    const [low, high] = crypto.getRandomValues(new BigUint64Array(2));
-    const drawn = (high << 64n) | low;
-    if (drawn < whole - (whole % range)) {
-      return drawn % range;
-    }
-  }
+/** Leaves out of a text what is no name. */
+function withoutWeights(key, part) {
+  return key === "weights" ? undefined : part;
 }

@@ -2,11 +2,13 @@
 
 import { readToml } from "./toml.js";
 
-/** The facts of a setting that the program took, or null where the page cannot read it. */
-export function readSetting(text) {
+/** The facts of a setting that the program took, or null where the page cannot read it. `kinds` are the kinds of commands that are for
+ * it: its own kind, and `sale` where it is one. */
+export function readSetting(text, isSale = false) {
   try {
     const file = readToml(text);
-    return file.kind === "auction" ? auctionOf(file) : generalOf(file);
+    const setting = file.kind === "auction" ? auctionOf(file) : generalOf(file);
+    return { ...setting, kinds: [setting.kind, ...(isSale ? ["sale"] : [])] };
   } catch {
     return null;
   }
@@ -16,7 +18,7 @@ function generalOf(file) {
   return {
     kind: "general",
     outcomes: file.outcomes.map(String),
-    agents: file.agent.map(({ name, types }) => ({ name: String(name), types: types.map(String) })),
+    agents: file.agent.map(({ name, types, weights }) => ({ name: String(name), types: types.map(String), weights: weights?.map(BigInt) })),
     hasPayments: file.payments === true,
     truth: file.truth,
     rational: file.rational,
@@ -25,6 +27,15 @@ function generalOf(file) {
 
 function auctionOf(file) {
   return { kind: "auction", bidders: file.bidders, values: file.values.map(BigInt), weights: file.weights.map(BigInt) };
+}
+
+/** What each agent may report: its name, and its types or values. */
+export function reportersOf(setting) {
+  if (setting.kind === "auction") {
+    const values = setting.values.map(String);
+    return Array.from({ length: setting.bidders }, (_, bidder) => ({ name: `Bidder ${bidder + 1}`, types: values }));
+  }
+  return setting.agents;
 }
 
 /** All profiles in their order: the last agent's type changes fastest. */

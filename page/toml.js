@@ -8,9 +8,10 @@ const BARE_VALUE = /[^\s,\]}#]+/y;
 
 /** A place in a text that moves on. */
 class Reader {
-  constructor(text) {
+  constructor(text, numberAs) {
     this.text = text;
-    this.at = 0;
+    this.at = text.startsWith("\ufeff") ? 1 : 0;
+    this.numberAs = numberAs;
   }
 
   isAtEnd() {
@@ -128,11 +129,12 @@ function inlineTable(reader) {
 }
 
 function bareValue(reader) {
+  const start = reader.at;
   const text = reader.takes(BARE_VALUE).replaceAll("_", "");
   if (text === "true" || text === "false") {
     return text === "true";
   }
-  return Number(text);
+  return reader.numberAs(Number(text), start, reader.at);
 }
 
 function value(reader) {
@@ -188,9 +190,10 @@ function headedTable(reader, top) {
   return owner[parts.at(-1)].at(-1);
 }
 
-/** The tables, lists, texts, numbers and truth values of a TOML document. */
-export function readToml(text) {
-  const reader = new Reader(text.replace(/^\ufeff/, ""));
+/** The tables, lists, texts, numbers and truth values of a TOML document. What stands for a number is made by `numberAs`, of the number
+ * and the places of the text at which it begins and ends. */
+export function readToml(text, numberAs = (amount) => amount) {
+  const reader = new Reader(text, numberAs);
   const top = Object.create(null);
   let table = top;
   for (reader.skips(); !reader.isAtEnd(); reader.skips()) {

@@ -11,6 +11,7 @@ that can be read by itself; the tests compare what it prints with what is worked
 import collections
 import pathlib
 import random
+from collections.abc import Callable
 from fractions import Fraction
 
 import mechdes
@@ -68,23 +69,30 @@ def reserve_prices() -> None:
         print(f"{setting.keep:8}  {answer.value!s:6}  {min(sold, default='never')}")
 
 
+def keeps(setting: mechdes.Auction, bids: list[int], value: int) -> Fraction:
+    """What the first bidder is left with on average over the draws, where the item is worth so much to it."""
+    told = mechdes.award(setting, 1, bids)
+    return told.chances[1] * (value - told.prices.get(1, 0))
+
+
 def held(times: int = 1000, seed: int = 1) -> None:
-    """The auction is held many times, with values drawn by the weights, and with the draws that the rule asks for."""
+    """The same item, sold so that only the winner pays. The auction is held many times, with values drawn by the weights."""
     setting = mechdes.Auction(bidders=2, values=[2, 3, 6], weights=[2, 1, 1])
-    answer = mechdes.solve(setting)
-    assert isinstance(answer, mechdes.AuctionOptimal)
-    source = random.Random(seed)                         # for a sale that counts take the default, which nobody can foresee
-    paid, wins, had = Fraction(0), collections.Counter[int](), collections.Counter[int]()
+    rule = mechdes.threshold(setting, 1)                 # of one unit; no table is needed, and the numbers stay short
+    print("The item is sold from", rule.reserve, "on, and brings", rule.value)
+    source = random.Random(seed)                         # for a sale that counts take `secrets`, which nobody can foresee
+    paid, gain, wins, had = Fraction(0), Fraction(0), collections.Counter[int](), collections.Counter[int]()
     for _ in range(times):
-        reports = source.choices(setting.values, setting.weights, k=setting.bidders)
-        drawn = mechdes.draw(setting, answer, reports, source)
-        paid += sum(drawn.payments.values())
-        had.update(reports)
-        if drawn.winner is not None:
-            wins[reports[drawn.winner - 1]] += 1
-    print(f"In {times} auctions the seller has {float(paid / times):.3f} on average; the value is {answer.value}")
-    for value, odds in answer.odds.items():
-        print(f"a bidder with {value} won {wins[value] / had[value]:.3f} of the time; its odds are {float(odds):.3f}")
+        bids = source.choices(setting.values, setting.weights, k=setting.bidders)
+        draw = source.randrange(mechdes.award(setting, 1, bids).draws)
+        award = mechdes.award(setting, 1, bids, draw)
+        paid += sum(award.payments.values())
+        wins.update(bids[winner - 1] for winner in award.winners)
+        had.update(bids)
+        gain = max(gain, *(keeps(setting, [lie, *bids[1:]], bids[0]) - keeps(setting, bids, bids[0]) for lie in setting.values))
+    print(f"in {times} auctions the seller has {float(paid / times):.3f} on average; the most that a lie gained is {gain}")
+    for value in setting.values:
+        print(f"a bidder with {value} won {wins[value] / had[value]:.3f} of the time")
 
 
 def compromises() -> None:
@@ -103,8 +111,11 @@ def refusals() -> None:
         print("Values must ascend. The program says:", refused)
 
 
+PARTS: tuple[Callable[[], None], ...] = (divorce, price, auction, reserve_prices, held, compromises, refusals)
+
+
 def main() -> None:
-    for part in (divorce, price, auction, reserve_prices, held, compromises, refusals):
+    for part in PARTS:
         print(f"-- {part.__name__.replace('_', ' ')}")
         part()
 

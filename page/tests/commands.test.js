@@ -2,62 +2,91 @@ import assert from "node:assert/strict";
 import { readFileSync } from "node:fs";
 import { test } from "node:test";
 
-import { COMMANDS, FIELDS, SECONDS, commandOf, explained, fits, nextCommands, wordsOf } from "../commands.js";
+import { COMMANDS, FIELDS, GROUPS, SECONDS, commandOf, fileOf, fits, nextCommands, wordsOf } from "../commands.js";
 
 const repository = (name) => readFileSync(new URL(`../../${name}`, import.meta.url), "utf8");
+const general = { kind: "general", kinds: ["general"] };
+const sale = { kind: "general", kinds: ["general", "sale"] };
+const auction = { kind: "auction", kinds: ["auction"] };
 
-test("each command is one of the program's, and its parts are known", () => {
-  const words = new Set([...repository("crates/md_cli_words/src/command.rt").matchAll(/"(\w+)" => Some/g)].map(([, word]) => word));
-  assert.ok(words.has("solve"));
-  for (const { word, second, fields } of COMMANDS) {
-    assert.ok(words.has(word), word);
+test("each command of the program has an entry, whose parts are known", () => {
+  const words = [...repository("crates/md_cli_words/src/command.rt").matchAll(/"(\w+)" => Some/g)].map(([, word]) => word);
+  assert.ok(words.includes("solve"));
+  assert.deepEqual(words.filter((word) => commandOf(word) === undefined), []);
+  for (const { word, group, second, fields, tooWide = [], draws = {} } of COMMANDS) {
+    assert.ok(group in GROUPS, word);
     assert.ok(second === undefined || second in SECONDS, word);
     assert.ok(fields.every((field) => field in FIELDS), word);
+    assert.ok(Object.keys(draws).every((field) => fields.includes(field)), word);
+    assert.ok(tooWide.every((next) => commandOf(next)), word);
   }
 });
 
-test("the words of a call", () => {
-  const values = { width: "", profile: "low", first: "0", second: "1", number: "7" };
-  for (const [word, words] of [
-    ["solve", "solve setting"],
-    ["find", "find setting"],
-    ["check", "check setting second"],
-    ["run", "run setting second low 0 1"],
-    ["make", "make 7"],
-  ]) {
-    assert.equal(wordsOf(commandOf(word), values).join(" "), words);
+test("the words of each command are those of docs/FORMATS.md", () => {
+  const [, listed] = /\n((?: {4}mechdes .*\n)+)/.exec(repository("docs/FORMATS.md"));
+  const names = { PROFILE: "p", DRAW1: "d1", DRAW2: "d2", DRAW: "d", W: "w", SETTING: "setting", ANSWER: "second", PIVOTS: "second", ODDS: "second" };
+  const values = { width: "w", units: "n", number: "n", profile: "p", first: "d1", second: "d2", draw: "d" };
+  for (const line of listed.trim().split("\n")) {
+    const [, ...words] = line.replace(/[[\]]/g, "").trim().split(/\s+/);
+    const expected = words.map((word) => (word === "NUMBER" ? "n" : names[word] ?? word));
+    assert.deepEqual(wordsOf(commandOf(words[0]), values), expected, line);
   }
-  assert.equal(wordsOf(commandOf("solve"), { ...values, width: "9" }).join(" "), "solve setting --width 9");
+});
+
+test("a width that is left empty is left out", () => {
+  const values = { width: "", units: "3", number: "7" };
+  assert.equal(wordsOf(commandOf("solve"), values).join(" "), "solve setting");
+  assert.equal(wordsOf(commandOf("units"), values).join(" "), "units setting 3");
+  assert.equal(wordsOf(commandOf("units"), { ...values, width: "9" }).join(" "), "units setting 3 --width 9");
+  assert.equal(wordsOf(commandOf("make"), values).join(" "), "make 7");
 });
 
 test("commands that do not fit a setting are not offered", () => {
   const left = (setting) => COMMANDS.filter((command) => !fits(command, setting)).map(({ word }) => word);
-  assert.deepEqual(left({ kind: "general" }), ["iron", "realise"]);
-  assert.deepEqual(left({ kind: "auction" }), ["find", "audit", "fair", "findfair"]);
+  assert.deepEqual(left(general), ["iron", "threshold", "units", "asym", "realise", "award"]);
+  assert.deepEqual(left(sale), ["iron", "threshold", "units", "realise", "award"]);
+  assert.deepEqual(left(auction), ["find", "asym", "determ", "fair", "findfair", "faircheck", "determcheck", "audit"]);
   assert.deepEqual(left(null), []);
 });
 
 test("what may follow an answer, and where numbers grow too wide", () => {
-  for (const [word, status, kind, words] of [
-    ["solve", 12, "general", "find"],
-    ["solve", 12, "auction", "iron"],
-    ["fair", 12, "general", "findfair"],
-    ["find", 0, "general", "check audit report run"],
-    ["find", 10, "general", "check"],
-    ["find", 22, "general", ""],
-    ["solve", 11, "general", "check audit report run"],
-    ["solve", 0, "auction", "check report run"],
-    ["findfair", 0, "general", ""],
-    ["solve", 65, "general", ""],
-    ["check", 0, "general", ""],
+  for (const [word, status, setting, words] of [
+    ["solve", 12, general, "find"],
+    ["solve", 12, sale, "find asym"],
+    ["solve", 12, auction, "iron threshold"],
+    ["fair", 12, general, "findfair"],
+    ["asym", 12, sale, "find"],
+    ["units", 12, auction, "threshold"],
+    ["iron", 22, auction, "threshold"],
+    ["determ", 12, general, ""],
+    ["find", 22, general, ""],
+    ["check", 22, general, ""],
+    ["find", 0, general, "check audit run report"],
+    ["find", 10, general, "check"],
+    ["solve", 11, general, "check audit run report"],
+    ["solve", 0, auction, "check run report"],
+    ["fair", 0, general, "faircheck"],
+    ["findfair", 10, general, "faircheck"],
+    ["determ", 0, general, "determcheck"],
+    ["threshold", 0, auction, "award"],
+    ["solve", 65, general, ""],
+    ["check", 0, general, ""],
   ]) {
-    const next = nextCommands(commandOf(word), status, { kind }).map((command) => command.word);
-    assert.equal(next.join(" "), words, `${word} ${status} ${kind}`);
+    const next = nextCommands(commandOf(word), status, setting).map((command) => command.word);
+    assert.equal(next.join(" "), words, `${word} ${status} ${setting.kinds}`);
   }
 });
 
-test("a refusal is told in a sentence", () => {
-  assert.equal(explained("missing agent.types"), "The key agent.types is required, and missing.");
-  assert.equal(explained("line 4: field 2"), "Field 2 of record 4 is not what may stand there.");
-  assert.equal(explained("something else"), "");
+test("what a command printed is saved by the names of the examples", () => {
+  for (const [word, file] of [
+    ["solve", "vote-answer.csv"],
+    ["find", "vote-found.csv"],
+    ["fair", "vote-fairest.csv"],
+    ["determ", "vote-rule.csv"],
+    ["report", "vote-report.csv"],
+    ["drill", "drill.csv"],
+    ["make", "setting.toml"],
+  ]) {
+    assert.equal(fileOf(commandOf(word), "vote"), file);
+  }
 });

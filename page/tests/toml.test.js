@@ -29,6 +29,12 @@ test("a key of every object is a key like others", () => {
   assert.deepEqual(Object.entries(readToml("__proto__ = 1\ntoString = 2\n")), [["__proto__", 1], ["toString", 2]]);
 });
 
+test("numbers can be made with their places", () => {
+  const text = "\ufeffa = [1, -20] # 3\nb = true\nc = \"4\"\n";
+  const { a, b, c } = readToml(text, (amount, start, end) => [amount, text.slice(start, end)]);
+  assert.deepEqual([a, b, c], [[[1, "1"], [-20, "-20"]], true, "4"]);
+});
+
 test("what has no end is no document", () => {
   for (const text of ['a = "', "a = [1", "a", "a = {"]) {
     assert.throws(() => readToml(text), SyntaxError, text);

@@ -1,5 +1,5 @@
-"""What the commands answer, as values. All numbers are exact: whole numbers and `fractions.Fraction`; and each value writes the text
-that it was read from."""
+"""What the commands answer, as values. All numbers are exact: whole numbers and `fractions.Fraction`; and each value writes the
+text that it was read from."""
 
 from __future__ import annotations
 
@@ -8,7 +8,7 @@ from collections.abc import Iterator, Mapping, Sequence
 from fractions import Fraction
 from typing import TYPE_CHECKING, Any, ClassVar
 
-from .mechanisms import AuctionMechanism, Counts, Mechanism, Payments, SaleMechanism, by_profile, mass_records
+from .mechanisms import AuctionMechanism, Counts, Mechanism, Payments, SaleMechanism, _frame, by_profile, mass_records
 from .records import Printed, Record, terms, units
 from .settings import AnySetting, Auction, Profile, Setting
 
@@ -23,9 +23,9 @@ def elements(setting: AnySetting) -> tuple[Any, ...]:
     return tuple((agent.name, name) for agent in setting.agents for name in agent.types)
 
 
-def _set_number(elements: Sequence[Any], members: frozenset[Any]) -> int:
+def _set_number(every: Sequence[Any], members: frozenset[Any]) -> int:
     """A set as the sum of 2^j over the places j of its members. Raises `ValueError` for a member that is none of the elements."""
-    return sum(1 << elements.index(member) for member in members)
+    return sum(1 << every.index(member) for member in members)
 
 
 def _cut_records(setting: AnySetting, cuts: tuple[frozenset[Any], ...]) -> Iterator[Record]:
@@ -149,11 +149,6 @@ class AuctionOptimal(Bounded):
     @property
     def pays(self) -> Mapping[int, Fraction]:
         """What a bidder with each value pays on average, whether it wins or not."""
-        return self.mechanism.pays
-
-    @property
-    def payments(self) -> Mapping[int, Fraction]:
-        """The pays, by their name in earlier versions."""
         return self.mechanism.pays
 
     def to_pandas(self) -> pandas.DataFrame:
@@ -334,8 +329,8 @@ class WidePath:
 
 @dataclasses.dataclass(frozen=True, kw_only=True)
 class TooWide(Answer):
-    """Numbers grew too wide on each path: nothing is known of the setting. Of an auction ask `iron`, of a general setting `find`, and
-    after `fair` `find_fair`."""
+    """Numbers grew too wide on each path: nothing is known of the setting. Of an auction ask `iron`, of a general setting `find`,
+    and after `fair` `find_fair`."""
 
     word = "toowide"
     setting: AnySetting = dataclasses.field(repr=False)
@@ -365,8 +360,8 @@ class TooWide(Answer):
 
 @dataclasses.dataclass(frozen=True, kw_only=True)
 class Undecided(Answer):
-    """`iron`: the multipliers in closed form have more than 62 bits. `find` and `find_fair`: nothing was found, and nothing is said of
-    the setting. The kind is that of the setting."""
+    """`iron`: the multipliers in closed form have more than 62 bits. `find` and `find_fair`: nothing was found, and nothing is said
+    of the setting. The kind is that of the setting."""
 
     word = "undecided"
     setting: AnySetting = dataclasses.field(repr=False)
@@ -500,8 +495,6 @@ class Report(Printed):
 
     def to_pandas(self) -> pandas.DataFrame:
         """A table with a row for each type: what it gets and pays, as fractions."""
-        from .mechanisms import _frame
-
         rows = {key: {"gets": row.gets, "pays": row.pays} for key, row in self.types.items()}
         return _frame(rows, ["agent", "type"] if isinstance(next(iter(rows)), tuple) else ["value"])
 
@@ -528,6 +521,97 @@ class Draw(Printed):
         yield "outcome", self.outcome
         if self.payments:
             yield "pays", self.denominator, *(units(paid, self.denominator) for paid in self.payments.values())
+
+
+@dataclasses.dataclass(frozen=True)
+class Price:
+    """What a winner of one unit pays in a case.
+
+    pool   the number of its pool, from 0, the lowest
+    other  that of the best pool among the others; None where none of them reaches the reserve
+    count  how many of the others are in that pool
+    price  what it pays
+    """
+
+    pool: int
+    other: int | None
+    count: int
+    price: Fraction
+
+    def fields(self) -> Record:
+        """The fields of its record, behind the word."""
+        return self.pool, "none" if self.other is None else self.other, self.count, *terms(self.price)
+
+
+@dataclasses.dataclass(frozen=True, kw_only=True)
+class Threshold(Printed):
+    """The best auction of so many units in which only winners pay, and truth is best whatever the others report.
+
+    value, revenue, welfare  the expected objective, what all bidders pay, and what the units are worth to those who get them
+    reserve                  the least value that can win; None where no value can
+    pools                    the least and the greatest value of each pool, from the lowest
+    prices                   of one unit what its winner pays in each case; of several units there are none
+    """
+
+    units: int
+    value: Fraction
+    revenue: Fraction
+    welfare: Fraction
+    reserve: int | None
+    pools: tuple[tuple[int, int], ...]
+    prices: tuple[Price, ...]
+
+    def records(self) -> Iterator[Record]:
+        yield "threshold", 1
+        yield "units", self.units
+        for word in ("value", "revenue", "welfare"):
+            yield word, *terms(getattr(self, word))
+        yield "reserve", "none" if self.reserve is None else self.reserve
+        for pool in self.pools:
+            yield "pool", *pool
+        for price in self.prices:
+            yield "price", *price.fields()
+        yield ("end",)
+
+
+@dataclasses.dataclass(frozen=True)
+class Award(Printed):
+    """Who wins at a profile and a draw. Bidders are counted from 1.
+
+    chances  how often each bidder wins, over all draws
+    prices   what a bidder pays if it wins, for each that may
+    winners  the bidders who win by this draw
+    """
+
+    chances: Mapping[int, Fraction]
+    prices: Mapping[int, Fraction]
+    winners: tuple[int, ...]
+
+    @property
+    def payments(self) -> dict[int, Fraction]:
+        """What each bidder pays: a winner its price, and the others nothing."""
+        return {bidder: self.prices[bidder] if bidder in self.winners else Fraction(0) for bidder in self.chances}
+
+    @property
+    def draws(self) -> int:
+        """How many draws there are at the profile: as many as bidders who share the edge, or one where nobody does."""
+        return max(1, sum(0 < chance < 1 for chance in self.chances.values()))
+
+    def records(self) -> Iterator[Record]:
+        for word, numbers in (("chance", self.chances), ("price", self.prices)):
+            for bidder, number in numbers.items():
+                yield word, bidder, *terms(number)
+        for bidder in self.winners:
+            yield "wins", bidder
+        yield ("end",)
+
+    def to_pandas(self) -> pandas.DataFrame:
+        """A table with a row for each bidder: how often it wins, its price or None, and whether it wins by this draw."""
+        rows = {
+            bidder: {"chance": chance, "price": self.prices.get(bidder), "wins": bidder in self.winners}
+            for bidder, chance in self.chances.items()
+        }
+        return _frame(rows, ["bidder"])
 
 
 @dataclasses.dataclass(frozen=True)

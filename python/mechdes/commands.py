@@ -5,9 +5,9 @@ as what a command gave, as a `Mechanism`, as a path, or as a text.
 
 All commands raise `SettingRefused` (the program's status 65), `OutOfMemory` (72), `LibraryMissing`, and `OSError` for a path that
 cannot be read; and `SettingNotRead` for forms of TOML 1.1, which the program reads and Python's reader does not. Those that take
-an answer raise `AnswerRefused` (66), or `ValueError` where a mechanism made by hand has other names than the setting or numbers that
-are no multiple of its denominator; and those that take a width raise `UsageRefused` (64) where it is no whole number from 4
-to 62. They keep no state and hold no lock of Python's, so that threads may call side by side.
+an answer raise `AnswerRefused` (66), or `ValueError` where a mechanism made by hand has other names than the setting or numbers
+that are no multiple of its denominator; and those that take a width raise `UsageRefused` (64) where it is no whole number from 4 to
+62. They keep no state and hold no lock of Python's, so that threads may call side by side.
 """
 
 from __future__ import annotations
@@ -15,7 +15,6 @@ from __future__ import annotations
 import math
 import os
 import random as randomness
-import secrets
 from collections.abc import Callable, Mapping, Sequence
 from fractions import Fraction
 from typing import Any, TypeAlias, overload
@@ -25,6 +24,7 @@ from .answers import (
     Answer,
     Audit,
     AuctionOptimal,
+    Award,
     Draw,
     Drill,
     Fairest,
@@ -37,6 +37,7 @@ from .answers import (
     Rule,
     SaleOptimal,
     Table,
+    Threshold,
     TooWide,
     Unbounded,
     Undecided,
@@ -49,12 +50,14 @@ from .mechanisms import Mechanism
 from .reading import (
     read_answer,
     read_audit,
+    read_award,
     read_draw,
     read_drill,
     read_program,
     read_realised,
     read_replay,
     read_report,
+    read_threshold,
     read_verdict,
 )
 from .settings import AnySetting, Auction, Setting, SettingLike, file_bytes, read_setting, setting_bytes
@@ -168,6 +171,25 @@ def units(setting: SettingLike, number: int, width: int = 62) -> UnitsOptimal | 
     return _answered(["units", *_width(width), "--", "setting", str(number)], setting, {0, 12}, (UnitsOptimal, TooWide), number)
 
 
+def threshold(setting: SettingLike, number: int) -> Threshold:
+    """The best auction of so many units, 1 to 12, in which only winners pay: its reserve, its pools, and what it brings; of one
+    unit what a winner pays in each case. Another number raises `WordRefused`."""
+    return read_threshold(_printed({0}, ["threshold", "--", "setting", str(number)], setting_bytes(setting)))
+
+
+def award(setting: SettingLike, number: int, profile: Sequence[int], draw: int = 0) -> Award:
+    """Who wins so many units in the auction of `threshold` at a profile of values, and what each winner pays.
+
+    draw  from 0 on, below the `draws` of what comes: as many as bidders who share the edge, or one where nobody does. Draw only
+    after
+          all reports are in, by a source of chance that all trust
+
+    Raises `WordRefused` for a wrong number, what is no profile, and a draw out of range.
+    """
+    words = ["award", "--", "setting", str(number), ",".join(map(str, profile)), str(draw)]
+    return read_award(_printed({0}, words, setting_bytes(setting)))
+
+
 def determ(setting: SettingLike, width: int = 62) -> Rule | Infeasible | Unbounded | TooWide:
     """The best deterministic mechanism of a general setting, which draws no lots, with the tree of the search. The search may
     take long."""
@@ -276,10 +298,10 @@ def draw(
 ) -> Draw:
     """An outcome at a profile of reports, with both draws made evenly: by the system's source of chance, or by `random`.
 
-    Draw only after all reports are in, by a source of chance that all trust. Raises `ValueError` for an answer of `asym` or `units`,
-    which `run` does not read.
+    Draw only after all reports are in, by a source of chance that all trust. Raises `ValueError` for an answer of `asym` or
+    `units`, which `run` does not read.
     """
-    below: Callable[[int], int] = secrets.randbelow if random is None else random.randrange
+    below = (randomness.SystemRandom() if random is None else random).randrange
     found = answer if isinstance(answer, Mechanism) else read(setting, answer)
     if isinstance(found, (SaleOptimal, UnitsOptimal)):
         raise ValueError(f"`run` draws no {type(found).__name__}: docs/FORMATS.md says how its mechanism goes")
@@ -317,6 +339,8 @@ _COMMANDS: tuple[Command, ...] = (
     fair,
     asym,
     units,
+    threshold,
+    award,
     determ,
     iron,
     check,

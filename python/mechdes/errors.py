@@ -37,7 +37,8 @@ class UnknownAnswer(AnswerNotRead):
 
 
 class NoFrontier(MechdesError):
-    """Two objectives have no frontier, or none that can be found within the limits of settings. `answer` says why, where one does."""
+    """Two objectives have no frontier, or none that can be found within the limits of settings. `answer` says why, where one
+    does."""
 
     def __init__(self, reason: str, answer: object = None) -> None:
         super().__init__(reason, answer)
@@ -100,6 +101,3 @@ _BY_STATUS: dict[int, type[Refused]] = {64: UsageRefused, 65: SettingRefused, 66
 def refusal(status: int, text: str) -> Refused:
     """The exception of a status."""
     return _BY_STATUS.get(status, Refused)(status, text)
-
-
-Ended = Refused  # the name in earlier versions

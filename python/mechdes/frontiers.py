@@ -9,7 +9,7 @@ from fractions import Fraction
 from typing import TYPE_CHECKING, Any, TypeAlias
 
 from .answers import AuctionOptimal, GeneralOptimal, TooWide
-from .commands import check, iron, report, solve
+from .commands import check, find, iron, report, solve
 from .errors import NoFrontier, SettingRefused
 from .mechanisms import _frame
 from .settings import Auction, Objective, Setting, SettingLike, read_setting
@@ -104,8 +104,8 @@ class _Search:
         """A mechanism that is best for the weighted sum, with its certificate checked. Raises `SettingRefused` beyond limits."""
         setting = self.setting.with_objective(self.first * weights[0] + self.second * weights[1])
         answer: Any = solve(setting)
-        if isinstance(answer, TooWide) and isinstance(setting, Auction):
-            answer = iron(setting)
+        if isinstance(answer, TooWide):
+            answer = iron(setting) if isinstance(setting, Auction) else find(setting)
         if not isinstance(answer, (GeneralOptimal, AuctionOptimal)):
             raise NoFrontier(f"for the weights {weights} there is no optimal answer, but {type(answer).__name__}", answer)
         verdict = check(setting, answer)
@@ -188,8 +188,8 @@ def frontier(setting: SettingLike, first: ObjectiveLike = "revenue", second: Obj
                    `Objective`
 
     The setting is solved with sums of the objectives by whole-number weights, until the weights of each edge bring nothing but its
-    own two ends: then no corner is missed. The setting's own objective plays no part. Where numbers of an auction grow too wide,
-    `iron` is asked. Raises `NoFrontier` where some sum has no optimal answer.
+    own two ends: then no corner is missed. The setting's own objective plays no part. Where `solve` is too wide, `iron` is asked of
+    an auction and `find` of a general setting. Raises `NoFrontier` where some sum has no optimal answer.
     """
     search = _Search(read_setting(setting), _objective(first), _objective(second))
     left, right = search.ends()
@@ -217,13 +217,12 @@ def draw_frontier(found: Frontier, axes: Any = None) -> Any:
         axes = Figure(layout="constrained").add_subplot()
     firsts, seconds = ([float(getattr(corner, part)) for corner in found.corners] for part in ("first", "second"))
     axes.plot(firsts, seconds, marker="o")
-    for corner in found.corners:
-        axes.annotate(
-            f"({corner.first}, {corner.second})",
-            (float(corner.first), float(corner.second)),
-            textcoords="offset points",
-            xytext=(6, 6),
-        )
+    above = {"xytext": (6, 6), "horizontalalignment": "left", "verticalalignment": "bottom"}
+    below = {"xytext": (-6, -6), "horizontalalignment": "right", "verticalalignment": "top"}
+    for corner, *at in zip(found.corners, firsts, seconds, strict=True):
+        # neither side meets the line, which falls ever faster; and none leaves the frame
+        side = above if 2 * at[0] <= firsts[0] + firsts[-1] else below
+        axes.annotate(f"({corner.first}, {corner.second})", at, textcoords="offset points", **side)
     axes.margins(0.15)
     axes.set_xlabel(found.names[0])
     axes.set_ylabel(found.names[1])

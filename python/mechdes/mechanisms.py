@@ -65,8 +65,8 @@ class Mechanism:
     denominator  that of all numbers in the printed table; where 0 is given, the least that will do
     agents       the names of the agents
 
-    One may be made by hand, to be audited, reported or run; its names may stand in any order. Raises `TypeError` for a number that is
-    not exact.
+    One may be made by hand, to be audited, reported or run; its names may stand in any order. Raises `TypeError` for a number that
+    is not exact.
     """
 
     lotteries: Lotteries

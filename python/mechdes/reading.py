@@ -11,6 +11,7 @@ from .answers import (
     Answer,
     Audit,
     AuctionOptimal,
+    Award,
     Basis,
     Branch,
     Draw,
@@ -21,6 +22,7 @@ from .answers import (
     Leaf,
     Multiplier,
     Node,
+    Price,
     Program,
     Realised,
     Replay,
@@ -29,6 +31,7 @@ from .answers import (
     Rule,
     SaleOptimal,
     Table,
+    Threshold,
     TooWide,
     TypeReport,
     Unbounded,
@@ -352,7 +355,7 @@ def read_program(text: str) -> Program:
     records = Records(text)
     columns, count = records.numbers(records.take("program", 2))
     cost = records.sparse(records.take("cost"))
-    found = []
+    found = list[Row]()
     for fields in records.all("row"):
         if len(fields) < 4 or fields[0] != str(len(found)) or fields[2] not in ("atmost", "exact"):
             raise records.wrong("another row is wanted")
@@ -383,11 +386,11 @@ def read_realised(auction: Auction, text: str) -> Realised | Violated:
     """What `realise` prints."""
     records = Records(text)
     if records.word() == "violated":
-        bits, excess, denominator = records.take("violated", 3)
+        bits, excess, over = records.take("violated", 3)
         values = _set_of(records, bits, auction.values)
-        found = records.fraction([excess, denominator])
+        found = records.fraction([excess, over])
         records.nothing()
-        return Violated(setting=auction, values=values, excess=found, denominator=records.number(denominator))
+        return Violated(setting=auction, values=values, excess=found, denominator=records.number(over))
     denominator = records.denominator("realise")
     masses = _masses(records, auction, denominator)
     records.end()
@@ -406,6 +409,64 @@ def read_draw(setting: AnySetting, text: str) -> Draw:
     over = Over(records, records.positive(denominator))
     records.nothing()
     return Draw(outcome, dict(zip(names, map(over.__getitem__, paid), strict=True)), records.number(denominator))
+
+
+def read_threshold(text: str) -> Threshold:
+    """What `threshold` prints."""
+    records = Records(text)
+    (version,) = records.take("threshold", 1)
+    if version != "1":
+        raise UnknownAnswer(f"an auction of an unknown version: {version}")
+    units = records.positive(records.take("units", 1)[0])
+    value, revenue, welfare = (records.fraction(records.take(word, 2)) for word in ("value", "revenue", "welfare"))
+    (told,) = records.take("reserve", 1)
+    reserve = None if told == "none" else records.number(told)
+    pools = tuple(_pool(records, fields) for fields in records.all("pool", 2))
+    if reserve != (pools[0][0] if pools else None):
+        raise records.wrong("the reserve is not the least value of the lowest pool")
+    prices = tuple(_price(records, fields, len(pools)) for fields in records.all("price", 5))
+    records.end()
+    return Threshold(
+        units=units, value=value, revenue=revenue, welfare=welfare, reserve=reserve, pools=pools, prices=prices
+    )
+
+
+def _pool(records: Records, fields: list[str]) -> tuple[int, int]:
+    least, greatest = records.numbers(fields)
+    if least > greatest:
+        raise records.wrong("the least value of a pool is above the greatest")
+    return least, greatest
+
+
+def _price(records: Records, fields: list[str], pools: int) -> Price:
+    """A price, by pools of which there are so many."""
+    pool, count = records.number(fields[0]), records.number(fields[2])
+    other = None if fields[1] == "none" else records.number(fields[1])
+    if not 0 <= (other or 0) <= pool < pools or (count == 0) != (other is None):
+        raise records.wrong("no case of a price")
+    return Price(pool, other, count, records.fraction(fields[3:]))
+
+
+def read_award(text: str) -> Award:
+    """What `award` prints."""
+    records = Records(text)
+    chances, prices = (_by_bidder(records, word) for word in ("chance", "price"))
+    winners = tuple(records.number(bidder) for (bidder,) in records.all("wins", 1))
+    records.end()
+    may_win = [bidder for bidder, chance in chances.items() if chance]
+    if list(chances) != list(range(1, len(chances) + 1)) or list(prices) != may_win or not set(winners) <= set(may_win):
+        raise AnswerNotRead("other bidders are wanted")
+    return Award(chances, prices, winners)
+
+
+def _by_bidder(records: Records, word: str) -> dict[int, Fraction]:
+    """The records of a word that have a bidder and a fraction, in ascending order of bidders."""
+    found: dict[int, Fraction] = {}
+    for bidder, *amount in records.all(word, 3):
+        if records.number(bidder) <= max(found, default=0):
+            raise records.wrong("another bidder is wanted")
+        found[records.number(bidder)] = records.fraction(amount)
+    return found
 
 
 def read_drill(text: str) -> Drill:
@@ -467,6 +528,8 @@ _ALONE: dict[str, Callable[[str], Printed]] = {
     "audit": read_audit,
     "rows": read_program,
     "replay": read_replay,
+    "threshold": read_threshold,
+    "award": read_award,
     "drill": read_drill,
 }
 

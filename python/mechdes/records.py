@@ -37,8 +37,8 @@ class Printed:
 
 
 def units(number: Fraction | int, denominator: int) -> int:
-    """A fraction in units of one over a denominator. Raises `ValueError` where it is no multiple of that, and `TypeError` where it is
-    no exact number."""
+    """A fraction in units of one over a denominator. Raises `ValueError` where it is no multiple of that, and `TypeError` where it
+    is no exact number."""
     if not isinstance(number, (Fraction, int)):
         raise TypeError(f"a fraction or a whole number is wanted, not {number!r}")
     factor, rest = divmod(denominator, number.denominator)

@@ -32,7 +32,8 @@ def _whole(number: Any, key: str) -> int:
 
 
 def _listed(values: Any, key: str) -> Iterator[Any]:
-    """The elements of a list. Raises `TypeError` for a text or a table, which Python would take for a list of its letters or keys."""
+    """The elements of a list. Raises `TypeError` for a text or a table, which Python would take for a list of its letters or
+    keys."""
     if isinstance(values, (str, bytes, Mapping)):
         raise TypeError(f"{key}: a list is wanted, not {values!r}")
     return iter(values)
@@ -137,7 +138,8 @@ class Agent:
             if getattr(self, key) is not None:
                 object.__setattr__(self, key, _lists(getattr(self, key), f"agent.{key}"))
 
-    def _to_toml(self) -> str:
+    def to_toml(self) -> str:
+        """The agent as a file has it."""
         keys = ("name", "types", "weights", "outside", "utility", "utility_at")
         return "\n[[agent]]\n" + _lines({key: getattr(self, key) for key in keys if getattr(self, key) is not None})
 
@@ -212,7 +214,7 @@ class Setting:
             _HEAD.format(version=version, kind="general")
             + _lines(top)
             + objective
-            + "".join(agent._to_toml() for agent in self.agents)
+            + "".join(agent.to_toml() for agent in self.agents)
         )
 
 

@@ -46,8 +46,8 @@ def sweep(
 ) -> Iterator[tuple[Given, Outcome]]:
     """Asks a command of many settings, side by side, and yields pairs of a setting and its result, in their order.
 
-    Where a call raises an exception, that stands in the place of the result: a setting that is refused costs no other one. So does the
-    exception of a pool that fails, as one whose worker was killed: of an executor that is then broken, at each later setting.
+    Where a call raises an exception, that stands in the place of the result: a setting that is refused costs no other one. So does
+    the exception of a pool that fails, as one whose worker was killed: of an executor that is then broken, at each later setting.
 
     settings  any number of settings; they are taken as they are needed, so that a generator may be endless
     command   the name of a command that takes a setting first, or a function of a setting, which other processes must be able

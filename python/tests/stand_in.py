@@ -26,6 +26,7 @@ from second_opinion import (  # noqa: E402
     program,
     reporting,
     setting,
+    threshold,
 )
 from second_opinion.setting import Refused  # noqa: E402
 
@@ -70,6 +71,11 @@ def find(words: Sequence[str]) -> Told:
 def find_fair(words: Sequence[str]) -> Told:
     """The command `findfair SETTING`."""
     return _or_undecided(fairness.findfair, words)
+
+
+def award(words: Sequence[str]) -> Told:
+    """The command `award SETTING NUMBER PROFILE DRAW`, whose numbers may be negative."""
+    return threshold.award(["--", *words])
 
 
 def _or_undecided(search: Callable[[Sequence[str]], Told], words: Sequence[str]) -> Told:
@@ -128,6 +134,8 @@ class SecondOpinion:
         "report": reporting.report,
         "audit": audit,
         "run": run,
+        "threshold": threshold.threshold,
+        "award": award,
     }
 
     def call(self, words: Sequence[str], setting: bytes = b"", second: bytes = b"") -> Reply:

@@ -68,7 +68,6 @@ class Solving(unittest.TestCase):
         answer = mechdes.solve(setting)
         self.assertTrue(mechdes.check(setting, str(answer)))
         self.assertEqual(mechdes.read(setting, str(answer)), answer)
-        self.assertIs(mechdes.Ended, mechdes.Refused)
 
 
 class Checking(unittest.TestCase):
@@ -177,9 +176,32 @@ class Telling(unittest.TestCase):
         drawn = mechdes.draw(setting, answer, [6, 2], random.Random(1))
         self.assertEqual((drawn.winner, drawn.payments), (1, {1: Fraction(30, 8), 2: Fraction(6, 8)}))
 
+    def test_an_auction_in_which_only_winners_pay(self) -> None:
+        told = mechdes.threshold(example("used-car"), 1)
+        self.assertEqual((told.units, told.value, told.revenue, told.welfare), (1, Fraction(47125, 8), Fraction(46875, 8), 6375))
+        self.assertEqual((told.reserve, told.pools), (5000, ((5000, 5000), (6000, 6000), (7000, 7000))))
+        prices = {(price.pool, price.other, price.count): price.price for price in told.prices}
+        self.assertEqual((len(prices), prices[2, None, 0], prices[2, 1, 2]), (15, 5000, Fraction(20000, 3)))
+        several = mechdes.threshold(example("seats"), 3)
+        self.assertEqual((several.value, several.pools, several.prices), (Fraction(484, 81), ((2, 2), (3, 3)), ()))
+        nothing = mechdes.threshold(mechdes.Auction(bidders=2, values=[1, 2], weights=[1, 1], keep=5), 2)
+        self.assertEqual((nothing.value, nothing.reserve, nothing.pools, nothing.prices), (10, None, (), ()))
+
+    def test_units_are_awarded(self) -> None:
+        bids = [3, 2, 2, 1, 2]
+        found = [mechdes.award(example("seats"), 3, bids, draw) for draw in range(3)]
+        self.assertEqual([told.winners for told in found], [(1, 2, 3), (1, 3, 5), (1, 2, 5)])
+        first = found[0]
+        self.assertEqual(first.chances, {1: 1, 2: Fraction(2, 3), 3: Fraction(2, 3), 4: 0, 5: Fraction(2, 3)})
+        self.assertEqual((first.prices, first.draws), ({1: Fraction(9, 4), 2: 2, 3: 2, 5: 2}, 3))
+        self.assertEqual(found[1].payments, {1: Fraction(9, 4), 2: 0, 3: 2, 4: 0, 5: 2})
+        nobody = mechdes.award(example("used-car"), 1, [4000, 4000, 4000])
+        self.assertEqual((nobody.winners, nobody.prices, nobody.draws, set(nobody.payments.values())), ((), {}, 1, {0}))
+
     def test_what_run_does_not_read_is_not_drawn(self) -> None:
         setting = mechdes.Auction(bidders=2, values=[1, 2], weights=[1, 1])
-        told = "answer,1,units,optimal\nvalue,2,1\ninterim,1\nodds,1,1\npays,1,1\nmass,0,2,0,2\nmass,1,1,2,2\nmass,2,0,2,0\nbound,1\nend\n"
+        told = "answer,1,units,optimal\nvalue,2,1\ninterim,1\nodds,1,1\npays,1,1\n"
+        told += "mass,0,2,0,2\nmass,1,1,2,2\nmass,2,0,2,0\nbound,1\nend\n"
         with self.assertRaisesRegex(ValueError, "UnitsOptimal"):
             mechdes.draw(setting, mechdes.read(setting, told), [1, 2])
         sale = example("strong-and-weak")
@@ -253,6 +275,9 @@ class TableParts(unittest.TestCase):
         self.assertEqual((rows[2], keys[2], names), ({"weight": 1, "odds": Fraction(7, 8), "pays": Fraction(15, 4)}, 6, ["value"]))
         told = mechdes.report(example("posted-price"), stored("posted-price-answer"))
         self.assertEqual(self.table(told), ([{"gets": 0, "pays": 0}, {"gets": 0, "pays": 3}], list(told.types), ["agent", "type"]))
+        rows, keys, names = self.table(mechdes.award(example("auction-ironed"), 1, [6, 2]))
+        self.assertEqual(rows, [{"chance": 1, "price": 4, "wins": True}, {"chance": 0, "price": None, "wins": False}])
+        self.assertEqual((keys, names), ([1, 2], ["bidder"]))
         rows, keys, names = self.table(mechdes.frontier(example("posted-price")))
         self.assertEqual([row["welfare"] for row in rows], [Fraction(3, 2), 2])
 
@@ -272,6 +297,9 @@ class Tables(unittest.TestCase):
         self.assertEqual(table.loc[("much", "much"), "burn"], Fraction(5, 11))
         table = mechdes.solve(example("posted-price")).to_pandas()
         self.assertEqual((table.loc["high", "sell"], table.loc["high", "pays buyer"]), (1, 3))
+        table = mechdes.award(example("auction-ironed"), 1, [2, 3], 1).to_pandas()
+        self.assertEqual((table.index.name, list(table["wins"])), ("bidder", [False, True]))
+        self.assertEqual(list(table["chance"]), 2 * [Fraction(1, 2)])
 
     @needs_library
     def test_other_tables(self) -> None:
@@ -306,6 +334,11 @@ class Refused(unittest.TestCase):
         auction, line = example("auction-ironed"), "setting refused: other kind"
         self.refuses(mechdes.SettingRefused, 65, line, lambda: mechdes.find(auction))
         self.refuses(mechdes.SettingRefused, 65, line, lambda: mechdes.find_fair(auction))
+        self.refuses(mechdes.SettingRefused, 65, line, lambda: mechdes.threshold(setting, 1))
+        self.refuses(mechdes.WordRefused, 67, "number refused", lambda: mechdes.threshold(auction, 13))
+        self.refuses(mechdes.WordRefused, 67, "profile refused", lambda: mechdes.award(auction, 1, [2, 4]))
+        self.refuses(mechdes.WordRefused, 67, "draw refused", lambda: mechdes.award(auction, 1, [2, 3], 2))
+        self.refuses(mechdes.WordRefused, 67, "draw refused", lambda: mechdes.award(auction, 1, [2, 3], -1))
 
     @needs_library
     def test_refusals_of_further_commands(self) -> None:
@@ -370,6 +403,22 @@ class Wiring(unittest.TestCase):
                 [auction, 3],
                 mechdes.TooWide,
                 (["units", "--width", "62", "--", "setting", "3"], auction, b""),
+            ),
+            (
+                0,
+                text("seats-threshold.csv"),
+                mechdes.threshold,
+                [auction, 3],
+                mechdes.Threshold,
+                (["threshold", "--", "setting", "3"], auction, b""),
+            ),
+            (
+                0,
+                "chance,1,1,1\nprice,1,2,1\nwins,1\nend\n",
+                mechdes.award,
+                [auction, 3, [2, 1], -1],
+                mechdes.Award,
+                (["award", "--", "setting", "3", "2,1", "-1"], auction, b""),
             ),
             (22, "undecided\n", mechdes.iron, [auction], mechdes.Undecided, (["iron", "setting"], auction, b"")),
             (22, "undecided\n", mechdes.find, [goods], mechdes.Undecided, (["find", "setting"], goods, b"")),

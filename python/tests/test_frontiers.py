@@ -57,7 +57,8 @@ class Frontiers(unittest.TestCase):
         self.assertEqual(points(mechdes.frontier(auction)), [(4, 4)])
 
     def test_objectives_of_outcomes(self) -> None:
-        # One agent with one type, who may be given the outcome a, b or c: the corners are those outcomes of which no mixture is better.
+        # One agent with one type, who may be given the outcome a, b or c: the corners are those outcomes of which no mixture is
+        # better.
         agent = mechdes.Agent("a", ["t"], [[0, 0, 0, 0]], weights=[1])
         setting = mechdes.Setting(truth="bayes", rational="none", payments=False, outcomes=["a", "b", "c", "d"], agents=[agent])
         first, second = mechdes.Objective(value=[4, 3, 0, 1]), mechdes.Objective(value=[0, 3, 4, 3])
@@ -116,12 +117,18 @@ class Frontiers(unittest.TestCase):
             found = mechdes.frontier(EXAMPLES / "auction-ironed.toml")
         self.assertEqual(points(found), [(3, Fraction(63, 16)), (Fraction(23, 8), Fraction(65, 16))])
 
-    def test_a_general_setting_that_is_too_wide_has_no_frontier(self) -> None:
-        wide = text("too-wide-answer.csv").encode()
-        with calling(Changed(solve=lambda words, setting, second: mechdes.Reply(12, wide, b""))):
-            with self.assertRaises(mechdes.NoFrontier) as caught:
-                mechdes.frontier(EXAMPLES / "posted-price.toml")
-        self.assertIsInstance(caught.exception.answer, mechdes.TooWide)
+    def test_find_is_asked_where_a_general_setting_is_too_wide_to_solve(self) -> None:
+        wide = mechdes.Reply(12, text("too-wide-answer.csv").encode(), b"")
+        with calling(Changed(solve=lambda words, setting, second: wide)):
+            found = mechdes.frontier(EXAMPLES / "posted-price.toml")
+        self.assertEqual(points(found), [(Fraction(3, 2), Fraction(3, 2)), (1, 2)])
+
+    def test_a_general_setting_that_find_leaves_undecided_has_no_frontier(self) -> None:
+        wide, undecided = mechdes.Reply(12, text("too-wide-answer.csv").encode(), b""), mechdes.Reply(22, b"undecided\n", b"")
+        silent = Changed(solve=lambda words, setting, second: wide, find=lambda words, setting, second: undecided)
+        with calling(silent), self.assertRaises(mechdes.NoFrontier) as caught:
+            mechdes.frontier(EXAMPLES / "posted-price.toml")
+        self.assertIsInstance(caught.exception.answer, mechdes.Undecided)
 
     def test_what_a_picture_shows(self) -> None:
         axes = unittest.mock.Mock()
@@ -133,9 +140,13 @@ class Frontiers(unittest.TestCase):
     def test_a_picture(self) -> None:
         if importlib.util.find_spec("matplotlib") is None:
             self.skipTest("matplotlib is not there")
-        axes = mechdes.draw_frontier(mechdes.frontier(EXAMPLES / "posted-price.toml"))
-        self.assertEqual(list(axes.lines[0].get_xdata()), [1.5, 1.0])
+        axes = mechdes.draw_frontier(mechdes.frontier(EXAMPLES / "auction-reserve.toml"))
+        self.assertEqual(list(axes.lines[0].get_xdata()), [71 / 25, 68 / 25, 65 / 25])
         self.assertEqual((axes.get_xlabel(), axes.get_ylabel()), ("revenue", "welfare"))
+        axes.figure.draw_without_rendering()
+        frame, words = axes.get_window_extent(), [label.get_window_extent() for label in axes.texts]
+        self.assertEqual(len(words), 3)
+        self.assertTrue(all(frame.x0 < box.x0 and box.x1 < frame.x1 and frame.y0 < box.y0 and box.y1 < frame.y1 for box in words))
 
 
 if __name__ == "__main__":

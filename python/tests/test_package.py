@@ -13,6 +13,7 @@ import mechdes
 
 from .common import EXAMPLES, PYTHON, needs_library
 
+
 class Package(unittest.TestCase):
     def test_every_public_name_is_there(self) -> None:
         for name in mechdes.__all__:
@@ -30,7 +31,8 @@ class Package(unittest.TestCase):
         if importlib.util.find_spec("pip") is None:
             self.skipTest("pip is not there")
         with tempfile.TemporaryDirectory() as folder:
-            words = ["-m", "pip", "install", "--quiet", "--no-index", "--disable-pip-version-check", "--target", folder, str(PYTHON)]
+            words = ["-m", "pip", "install", "--quiet", "--no-index", "--disable-pip-version-check"]
+            words += ["--target", folder, str(PYTHON)]
             subprocess.run([sys.executable, *words], check=True, stderr=subprocess.DEVNULL)
             told = subprocess.run(
                 [sys.executable, "-c", f"import mechdes; print(mechdes.__file__, {call})"],

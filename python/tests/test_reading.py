@@ -287,6 +287,32 @@ class Refusals(unittest.TestCase):
             with self.subTest(new), self.assertRaises(mechdes.AnswerNotRead):
                 mechdes.read(EXAMPLES / "auction-ironed.toml", answer.replace(old, new))
 
+    def test_auctions_in_which_only_winners_pay_that_are_none_are_refused(self) -> None:
+        sold, awarded = text("used-car-threshold.csv"), "chance,1,1,2\nchance,2,1,2\nprice,1,2,1\nprice,2,2,1\nwins,2\nend\n"
+        for command, printed, old, new in (
+            ("threshold", sold, "reserve,5000", "reserve,4000"),
+            ("threshold", sold, "reserve,5000", "reserve,none"),
+            ("threshold", sold, "pool,5000,5000", "pool,5000,4000"),
+            ("threshold", sold, "units,1", "units,0"),
+            ("threshold", sold, "price,2,2,2,7000,1", "price,3,2,2,7000,1"),
+            ("threshold", sold, "price,0,0,2,5000,1", "price,0,1,2,5000,1"),
+            ("threshold", sold, "price,0,0,2,5000,1", "price,0,none,2,5000,1"),
+            ("threshold", sold, "price,0,0,2,5000,1", "price,0,0,0,5000,1"),
+            ("threshold", sold, "price,0,0,2,5000,1", "price,0,0,2,5000,0"),
+            ("threshold", sold, "end\n", ""),
+            ("award", awarded, "chance,2", "chance,1"),
+            ("award", awarded, "chance,2", "chance,3"),
+            ("award", awarded, "chance,2,1,2", "chance,2,0,1"),
+            ("award", awarded, "price,2,2,1\n", ""),
+            ("award", awarded, "wins,2", "wins,3"),
+            ("award", awarded, "wins,2\nend\n", "end\nwins,2\n"),
+        ):
+            assert old in printed
+            with self.subTest(new), self.assertRaises(mechdes.AnswerNotRead):
+                mechdes.parse(command, printed.replace(old, new, 1))
+        with self.assertRaises(mechdes.UnknownAnswer):
+            mechdes.parse("threshold", sold.replace("threshold,1", "threshold,2"))
+
     def test_numbers_that_are_none_are_refused(self) -> None:
         answer = text("posted-price-answer.csv")
         for old, new in (

@@ -100,7 +100,8 @@ class Settings(unittest.TestCase):
     def test_parts_of_another_kind_are_refused(self) -> None:
         good = {"truth": "bayes", "rational": "none", "payments": False, "outcomes": ["x"], "agents": []}
         mechdes.Setting(**good)
-        for wrong in ({"payments": 1}, {"no_deficit": "no"}, {"truth": 3}, {"rational": None}, {"outcomes": "x"}, {"outcomes": [1]}):
+        mistakes = ({"payments": 1}, {"no_deficit": "no"}, {"truth": 3}, {"rational": None}, {"outcomes": "x"}, {"outcomes": [1]})
+        for wrong in mistakes:
             with self.subTest(wrong), self.assertRaises(TypeError):
                 mechdes.Setting(**{**good, **wrong})
         for name, types, utility in (("a", "types", [[1]]), (3, ["t"], [[1]]), ("a", ["t"], "1"), ("a", ["t"], {1: 2})):

@@ -112,6 +112,11 @@ class Sweeps(unittest.TestCase):
         self.assertEqual([answer.value for _, answer in itertools.islice(found, 6)], VALUES + VALUES[:2])
         found.close()
 
+    def test_a_command_of_a_number(self) -> None:
+        found = mechdes.sweep([EXAMPLES / "seats.toml", EXAMPLES / "posted-price.toml"], "threshold", number=3)
+        (_, seats), (_, refused) = found
+        self.assertEqual((seats.value, type(refused)), (Fraction(484, 81), mechdes.SettingRefused))
+
     @needs_library
     def test_other_commands_with_their_options(self) -> None:
         ((_, seats),) = mechdes.sweep([EXAMPLES / "seats.toml"], "units", number=3)

@@ -1,7 +1,7 @@
 """Every text that the program prints, as a value, is written again byte for byte.
 
-The texts are those of examples/ and docs/, those that second-opinion/ prints by itself, and for what none of these shows some made by
-docs/FORMATS.md.
+The texts are those of examples/ and docs/, those that second-opinion/ prints by itself, and for what none of these shows some made
+by docs/FORMATS.md.
 """
 
 import dataclasses
@@ -18,7 +18,7 @@ from .common import EXAMPLES, TOP, example, stored, text
 from .stand_in import SecondOpinion
 
 OTHER_SETTINGS = {"first-price": "second-price", "price-above-value": "posted-price", "correlated-side-bets": "correlated-values"}
-NO_ANSWERS = ("interim,", "pivot,")
+NO_ANSWERS = ("interim,", "pivot,", "threshold,")
 
 
 def setting_of(name: str) -> AnySetting:
@@ -28,7 +28,7 @@ def setting_of(name: str) -> AnySetting:
 
 
 def stored_answers() -> Iterator[tuple[str, str]]:
-    """The stored answers, by name: all but odds and pivots."""
+    """The stored answers, by name: all but odds, pivots and auctions by `threshold`."""
     for path in sorted(EXAMPLES.glob("*.csv")):
         if not path.read_text().startswith(NO_ANSWERS):
             yield path.stem, path.read_text()
@@ -46,7 +46,7 @@ def shown(page: str) -> Iterator[tuple[str, list[str], str]]:
 
 def shown_whole() -> Iterator[tuple[str, AnySetting, str]]:
     """What the pages show whole: the command, its setting, and what it prints. What comes behind the end is another text's."""
-    one_line, to_end = ("audit", "check"), ("report", "realise", "solve", "fair")
+    one_line, to_end = ("audit", "check"), ("report", "realise", "solve", "fair", "threshold", "award")
     for path in sorted(EXAMPLES.glob("*.md")):
         for command, words, printed in shown(path.read_text()):
             setting = mechdes.read_setting(TOP / words[0])
@@ -55,7 +55,7 @@ def shown_whole() -> Iterator[tuple[str, AnySetting, str]]:
             elif printed and command in one_line or printed.startswith("violated"):
                 yield command, setting, printed.splitlines(keepends=True)[0]
             elif command in to_end and "end\n" in printed and not printed.startswith("end\n"):
-                first = re.search("^(answer|value|realise),", printed, re.M).start()
+                first = re.search("^(answer|value|realise|threshold|chance),", printed, re.M).start()
                 yield command, setting, printed[first : printed.index("end\n") + 4]
 
 
@@ -77,13 +77,18 @@ class Shown(Texts):
         general = {("general", word) for word in ("table", "optimal", "infeasible", "unbounded", "toowide")}
         self.assertEqual(kinds, general | {("auction", "optimal"), ("fair", "optimal"), ("determ", "optimal")})
 
+    def test_stored_auctions_in_which_only_winners_pay(self) -> None:
+        for path in sorted(EXAMPLES.glob("*-threshold.csv")):
+            with self.subTest(path.name):
+                self.again("threshold", path.read_text())
+
     def test_what_pages_show(self) -> None:
         commands = set()
         for command, setting, printed in shown_whole():
             with self.subTest(command, printed=printed):
                 self.again(command, printed, setting)
                 commands.add(command)
-        self.assertEqual(commands, {"audit", "check", "run", "report", "realise", "solve", "fair"})
+        self.assertEqual(commands, {"audit", "check", "run", "report", "realise", "solve", "fair", "threshold", "award"})
 
     def test_the_sale_of_its_page(self) -> None:
         # The page shows all but the multipliers.
@@ -101,6 +106,10 @@ class Shown(Texts):
         (rows,) = (block for block in texts if block.startswith("program,6,6\n"))
         self.assertEqual(self.again("solve", answer, auction).value, Fraction(5, 2))
         self.assertEqual(self.again("rows", rows).rows[4], mechdes.Row("cut/1", False, 1, {0: 1}))
+        (sold,) = (block for block in texts if block.startswith("threshold,1\nunits,1\n"))
+        (awarded,) = (block for block in texts if block.startswith("chance,1,1,2\n"))
+        self.assertEqual(self.again("threshold", sold).prices[3], mechdes.Price(1, 0, 1, Fraction(4)))
+        self.assertEqual(self.again("award", awarded).payments, {1: 0, 2: 2})
 
     def test_programs_and_reports_of_second_opinion(self) -> None:
         for path in sorted(EXAMPLES.glob("*.toml")):
@@ -170,7 +179,8 @@ class Made(Texts):
 
     def test_searches_with_longer_numbers(self) -> None:
         setting = mechdes.read_setting(example("fair-split"))
-        for command, printed, kind in (("find", "fair-split-answer.csv", "general"), ("findfair", "fair-split-fairest.csv", "fair")):
+        cases = (("find", "fair-split-answer.csv", "general"), ("findfair", "fair-split-fairest.csv", "fair"))
+        for command, printed, kind in cases:
             self.assertEqual(self.again(command, text(printed), setting).kind, kind)
             undecided = self.again(command, "undecided\n", setting)
             self.assertEqual((type(undecided), undecided.kind), (mechdes.Undecided, "general"))
@@ -248,7 +258,6 @@ class ByOtherHands(unittest.TestCase):
         with self.assertRaisesRegex(ValueError, "1/3 is no multiple of 1/1"):
             dataclasses.replace(answer, mechanism=third).text()
 
-
     def test_a_cut_of_what_the_setting_does_not_have_is_not_written(self) -> None:
         answer = mechdes.read(example("auction-ironed"), stored("auction-ironed-answer"))
         with self.assertRaises(ValueError):
@@ -307,7 +316,7 @@ class Refused(unittest.TestCase):
         for place, line in enumerate(lines):
             if not line.startswith(optional):
                 with self.subTest(line), self.assertRaises(mechdes.AnswerNotRead):
-                    mechdes.parse("report", "".join(lines[:place] + lines[place + 1 :]), mechdes.read_setting(example("posted-price")))
+                    mechdes.parse("report", "".join(lines[:place] + lines[place + 1 :]), example("posted-price"))
 
     def test_commands_that_are_none(self) -> None:
         for command, setting in (("sovle", None), ("make", None), ("solve", None), ("report", None)):

@@ -39,18 +39,24 @@ class Tutorial(unittest.TestCase):
         self.assertIn("nobody gains by a lie: True\nwhere 3 and 2 are reported, the chances are 1/2 1/2\n", told)
 
     def test_reserve_prices(self) -> None:
-        # The higher value is 5 in 9 of 25 profiles, 4 in 7 and 3 in 5; virtual values are 5, 3 and 1, and the item is sold where they
-        # are more than what it is worth kept.
+        # The higher value is 5 in 9 of 25 profiles, 4 in 7 and 3 in 5; virtual values are 5, 3 and 1, and the item is sold where
+        # they are more than what it is worth kept.
         values = re.findall(r"^ +\d+  (\S+) ", printed(tutorial.reserve_prices), re.M)
         self.assertEqual(values, ["71/25", "3", "84/25", "93/25", "109/25", "5", "6"])
 
     def test_held(self) -> None:
-        # A thousand auctions: within four times the standard deviation of what the odds and pays say.
+        # By hand, as in the page pooled-values.md: 2 and 3 are one pool, of which a winner pays 2. One with 6 pays 4 against the
+        # pool, so that it gains nothing by a bid of it (half a chance to keep 6 - 2), and 6 against another 6. The seller has 2 in
+        # 9 of 16 profiles, 4 in 6 and 6 in 1: 3 on average, with the variance 3/2. Odds are 3/8, 3/8 and 7/8, as in
+        # auction-ironed.md. A thousand auctions stay within four times the standard deviation.
         told = printed(tutorial.held)
-        paid = float(re.search(r"the seller has (\S+) on average; the value is 3\n", told)[1])
-        self.assertLess(abs(paid - 3), 0.3)
-        for value, odds in re.findall(r"a bidder with \d won (\S+) of the time; its odds are (\S+)\n", told):
-            self.assertLess(abs(float(value) - float(odds)), 0.1)
+        self.assertIn("The item is sold from 2 on, and brings 3\n", told)
+        (paid,) = re.findall(r"in 1000 auctions the seller has (\S+) on average; the most that a lie gained is 0\n", told)
+        self.assertLess(abs(float(paid) - 3), 0.16)
+        won = re.findall(r"a bidder with (\d) won (\S+) of the time\n", told)
+        self.assertEqual([value for value, _ in won], ["2", "3", "6"])
+        for (_, part), odds in zip(won, (3 / 8, 3 / 8, 7 / 8), strict=True):
+            self.assertLess(abs(float(part) - odds), 0.09)
 
     def test_compromises(self) -> None:
         # The page frontier.md; at 70/25 two thirds of the first corner's 88/25 and one third of the second one's 94/25.

@@ -51,11 +51,14 @@ def members(auction: AuctionSetting, number: int) -> list[int]:
     return [value for value in range(len(auction.values)) if number >> value & 1]
 
 
-def right_side(auction: AuctionSetting, number: int) -> int:
-    """The weight of the profiles in which some bidder has a value of the set."""
-    total = sum(auction.weights)
-    others = total - sum(auction.weights[value] for value in members(auction, number))
-    return total**auction.bidders - others**auction.bidders
+def right_side(auction: AuctionSetting, number: int, units: int = 1) -> int:
+    """How many of so many units there are for bidders with values of the set, over all profiles by their weights."""
+    inside = sum(auction.weights[value] for value in members(auction, number))
+    outside = sum(auction.weights) - inside
+    return sum(
+        min(count, units) * math.comb(auction.bidders, count) * inside**count * outside ** (auction.bidders - count)
+        for count in range(auction.bidders + 1)
+    )
 
 
 def excess(auction: AuctionSetting, interim: Interim, number: int) -> int:
@@ -78,8 +81,9 @@ def single_cuts(auction: AuctionSetting) -> list[int]:
     return [1 << value for value in range(len(auction.values))]
 
 
-def program_of(auction: AuctionSetting, cuts: list[int]) -> Program:
-    """The reduced program with these cuts: columns of the odds, then the plus parts of the pays, then their minus parts."""
+def program_of(auction: AuctionSetting, cuts: list[int], units: int = 1) -> Program:
+    """The reduced program of so many units with these cuts: columns of the odds, then the plus parts of the pays, then their minus
+    parts."""
     values = range(len(auction.values))
     rows = []
     for true in values:
@@ -92,7 +96,7 @@ def program_of(auction: AuctionSetting, cuts: list[int]) -> Program:
         rows.append(divided(f"rational/{auction.values[true]}", False, 0, negative(gain(auction, true, true))))
     for cut in cuts:
         terms = {value: demand(auction, value, 1) for value in members(auction, cut)}
-        rows.append(divided(f"cut/{cut}", False, right_side(auction, cut), terms))
+        rows.append(divided(f"cut/{cut}", False, right_side(auction, cut, units), terms))
     return Program(3 * len(values), rows, cost_of(auction))
 
 

@@ -26,6 +26,7 @@ class AuctionAnswer:
 def read_answer(data: bytes, auction: AuctionSetting) -> AuctionAnswer | TooWideAnswer:
     """The answer about an auction that the bytes of a file state, or `Refused`."""
     records, word, version = answer.begun(data, "auction", {"1": ["optimal", "toowide"], "2": ["toowide"]})
+    said: AuctionAnswer | TooWideAnswer
     said = read_optimal(records, auction) if word == "optimal" else read_too_wide(records, auction, version)
     records.finish()
     return said

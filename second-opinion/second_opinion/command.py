@@ -5,6 +5,7 @@ be read, 71 where the answer cannot be written, 72 for want of memory.
 """
 
 import os
+import re
 import sys
 from collections.abc import Callable
 from typing import NoReturn
@@ -15,9 +16,9 @@ Command = Callable[[list[str]], tuple[int, str]]  # from words to a status and a
 
 
 def file_names(words: list[str], count: int) -> list[str]:
-    """The names of files among the words of a command, as many as it needs. There are no options, so that a word that
-    begins with `-` is wrong where no `--` stands before it; but `-` alone is a name. Words that are not UTF-8 end a
-    command without a line."""
+    """The names of files, and numbers and reports, among the words of a command, as many as it needs. There are no options, so
+    that a word that begins with `-` is wrong where no `--` stands before it; but `-` alone is a name. Words that are not UTF-8
+    end a command without a line."""
     if not all(map(is_unicode, words)):
         raise Refused(64, None)
     names, only_names = [], False
@@ -31,6 +32,13 @@ def file_names(words: list[str], count: int) -> list[str]:
     if len(names) != count:
         raise Refused(64, "usage")
     return names
+
+
+def number_of(word: str) -> int:
+    """The whole number of at most 126 bits that a word is. A number has one text."""
+    if not re.fullmatch("0|-?[1-9][0-9]*", word, re.ASCII) or abs(int(word)) >= 2**126:
+        raise Refused(64, "usage")
+    return int(word)
 
 
 def is_unicode(word: str) -> bool:

@@ -52,7 +52,7 @@ def main() -> None:
         counts.update(words.items())
         said = ", ".join(f"{name}: {said}" for name, said in words.items())
         print("{:7.2f} s, {:6.2f} s,".format(*times[-1]), f"{Path(setting).name}, {said}", flush=True)
-    for (name, said), count in sorted(counts.items(), key=str):
-        print(f"{count:4} of {len(sys.argv) - 1}: {name}: {said}")
+    for (name, word), count in sorted(counts.items(), key=str):
+        print(f"{count:4} of {len(sys.argv) - 1}: {name}: {word}")
     print("greatest times of find: {:.2f} s, {:.2f} s".format(*map(max, zip(*times))))
 

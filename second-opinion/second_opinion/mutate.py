@@ -45,8 +45,8 @@ def main() -> None:
     tomls = [file.read_bytes() for folder in ["examples", "bench/settings"] for file in sorted((TOP / folder).glob("*.toml"))]
     for toml in tomls:
         comparison.compare_rows("rows as they are", toml)
-        for csv in sorted(TOP.glob("examples/*.csv")):
-            comparison.compare("as it is", toml, csv.read_bytes())
+        for path in sorted(TOP.glob("examples/*.csv")):
+            comparison.compare("as it is", toml, path.read_bytes())
     for toml in [*edges(), *mutate_auctions.edges()]:
         comparison.compare_rows("rows at the limits", toml)
     numbers = random.Random(3)
@@ -88,7 +88,7 @@ def fairest_pairs() -> list[tuple[bytes, bytes]]:
 
 def edges() -> Iterator[bytes]:
     """Settings at and beyond the limits of size: truth, rationality, payments, types of each agent, outcomes."""
-    forms = [
+    forms: list[tuple[str, str, str, list[int], int]] = [
         ("bayes", "none", "false", [16, 16], 1), ("bayes", "none", "false", [16, 16], 16),
         ("bayes", "interim", "true", [16, 16], 1), ("bayes", "interim", "true", [16, 16], 2),
         ("dominant", "none", "false", [9, 9], 2), ("dominant", "none", "false", [9, 9], 3),
@@ -345,4 +345,3 @@ def changed_setting(numbers: random.Random, toml: bytes) -> bytes:
         elif change == "text" and numbers.random() < 0.3:
             return text_change(numbers, "\n".join(lines) + "\n").encode("utf-8", "surrogateescape")
     return ("\n".join(lines) + "\n").encode()
-

@@ -116,7 +116,7 @@ def gains(its: GeneralSetting, mechanism: Mechanism, place: int, agent: Agent) -
         for profile in its.profiles():
             for told in reports:
                 if told != profile[place]:
-                    fields = [agent.types[profile[place]], agent.types[told], its.profile_name(profile)]
+                    fields: list[Field] = [agent.types[profile[place]], agent.types[told], its.profile_name(profile)]
                     yield fields, Fraction(more(profile, told), mechanism.den)
     else:
         for kind in reports:

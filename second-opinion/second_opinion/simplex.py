@@ -161,11 +161,12 @@ class Dictionary:
         """Makes the target (an expression, times the sign) as great as it can be; ends too where it is None."""
         idle = 0
         while (row := target()) is not None:
-            gains = [place for place in self.places() if sign * row.numbers[place] > 0]
+            numbers = row.numbers
+            gains = [place for place in self.places() if sign * numbers[place] > 0]
             if not gains:
                 return
             if idle < PATIENCE:
-                place = max(gains, key=lambda place: sign * row.numbers[place])
+                place = max(gains, key=lambda place: sign * numbers[place])
             else:
                 place = min(gains, key=lambda place: self.columns[place - FIRST])
             leaving = self.tightest(place)

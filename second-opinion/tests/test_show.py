@@ -281,8 +281,9 @@ class Auctions(unittest.TestCase):
 
     def test_pictures_fit_on_a_phone(self):
         for name, auction, answer in stored(AuctionSetting):
-            for drawn in [odds_bars, value_bars, cut_bars]:
-                self.assertLessEqual(drawn(Sale(auction, answer)).width + 2, ANY_PAGE, name)
+            sale = Sale(auction, answer)
+            for drawn in [odds_bars(auction, sale.odds, sale.pools()), value_bars(auction), cut_bars(sale)]:
+                self.assertLessEqual(drawn.width + 2, ANY_PAGE, name)
 
     def test_bars_hold_their_texts(self):
         long, name = Fraction(-(2**60) - 1, 3**30), "1, 3, 5, 7, 9, 11"
@@ -301,6 +302,10 @@ class Auctions(unittest.TestCase):
                 inside = min(x, box[1]) >= 0 and box[2] <= drawn.width + 2 and box[3] <= drawn.height
                 self.assertTrue(inside, text.text)
                 texts.append(box)
+            lines = re.findall(r"M([\d.]+) ([\d.]+)V([\d.]+)", re.search('class="axis" d="([^"]*)"', drawn.svg("a"))[1])
+            self.assertEqual(len(lines), len(rows))
+            for at, top, bottom in lines:  # a line of no width; the drawing stands one pixel to the right
+                texts.append((Fraction(at) + 1, Fraction(top), Fraction(at) + 1, Fraction(bottom)))
             for one, other in itertools.combinations(texts, 2):
                 apart = one[2] <= other[0] or other[2] <= one[0] or one[3] <= other[1] or other[3] <= one[1]
                 self.assertTrue(apart, (rows, one, other))
@@ -467,4 +472,3 @@ class Words(unittest.TestCase):
 def call(*words):
     """What `show` does with these words, in the folder of the examples."""
     yield subprocess.run([sys.executable, "-B", FOLDER / "show", *words], capture_output=True, cwd=EXAMPLES)
-

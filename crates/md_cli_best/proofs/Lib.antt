@@ -11,3 +11,4 @@ pub mod Joined
 pub mod UnitsWritable
 pub mod OneUnit
 pub mod UnitsSold
+pub mod WinnersPay

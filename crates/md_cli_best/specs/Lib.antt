@@ -10,7 +10,8 @@ pub mod Drilling
 pub mod WideTexts
 pub mod SaleTexts
 pub mod Selling
-pub mod UnitNumbers
 pub mod UnitTexts
 pub mod SellingUnits
+pub mod ThresholdTexts
+pub mod Thresholding
 pub mod Determining

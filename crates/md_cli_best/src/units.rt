@@ -5,13 +5,12 @@ ghost use Rattle.md_cli_driver.specs.Reading.{is_auction};
 ghost use Rattle.md_cli_driver.specs.Saying.{said};
 ghost use Rattle.md_cli_best.specs.SellingUnits.{IsUnitSelling, IsUnits, IsUnitsStatus};
 
-use crate::unit_number::UnitNumber;
 use crate::units_text::answer_text;
 use crate::wide_text::wide_text;
 use md_cli_driver::{Answered, DONE, OneFile, Refusal, TOO_WIDE, auction, is_auction};
 use md_num::{NoMemory, Width};
 use md_setting::{Auction, SettingFile};
-use md_units::{UnitsError, solve_units};
+use md_units::{UnitNumber, UnitsError, solve_units};
 use std::alloc::Global;
 
 /// `units SETTING NUMBER [--width W]`

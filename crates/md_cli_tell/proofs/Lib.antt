@@ -2,3 +2,4 @@ pub mod PairLaws
 pub mod RowRecords
 pub mod Profiles
 pub mod Judged
+pub mod Awards

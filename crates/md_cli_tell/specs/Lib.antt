@@ -4,4 +4,6 @@ pub mod Listing
 pub mod Replaying
 pub mod Realising
 pub mod Drawing
+pub mod AwardTexts
+pub mod Awarding
 pub mod Reporting

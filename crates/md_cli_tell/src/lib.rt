@@ -1,7 +1,9 @@
 //! The commands that tell what stands in files, and draw from it: a program is listed, its pivots are carried out, a mechanism is
-//! reported on and drawn from, and interim odds are realised.
+//! reported on and drawn from, interim odds are realised, and units are awarded.
 #![tactic(auto)]
 
+mod award;
+mod award_text;
 mod draw;
 mod listing;
 mod pairs;
@@ -12,6 +14,7 @@ mod replay;
 mod report;
 mod rows;
 
+pub use award::Awarding;
 pub use draw::Draw;
 pub use realise::Realise;
 pub use replay::Replay;

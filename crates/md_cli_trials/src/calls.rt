@@ -64,7 +64,7 @@ static FILES: [(&str, &str); 17] = [
 ];
 
 /// The calls. The last ones are refused.
-pub(crate) static CALLS: [Call; 37] = [
+pub(crate) static CALLS: [Call; 40] = [
     (&["audit", "one", "one-table"], 2, 0, "admissible\n"),
     (
         &["audit", "price", "above"],
@@ -154,6 +154,18 @@ pub(crate) static CALLS: [Call; 37] = [
         "answer,1,units,optimal\nvalue,2,1\ninterim,",
     ),
     (
+        &["threshold", "bidders", "2"],
+        1,
+        0,
+        "threshold,1\nunits,2\nvalue,2,1\nrevenue,2,1\nwelfare,2,1\nreserve,2\npool,2,2\nend\n",
+    ),
+    (
+        &["award", "bidders", "1", "2,1", "0"],
+        1,
+        0,
+        "chance,1,1,1\nchance,2,0,1\nprice,1,2,1\nwins,1\nend\n",
+    ),
+    (
         &["determ", "reach"],
         1,
         10,
@@ -176,6 +188,12 @@ pub(crate) static CALLS: [Call; 37] = [
         0,
         67,
         "mechdes: number refused\n",
+    ),
+    (
+        &["award", "bidders", "1", "2,2", "2"],
+        1,
+        67,
+        "mechdes: draw refused\n",
     ),
     (
         &["run", "vote", "first", "r,m", "0", "0"],

@@ -48,6 +48,8 @@ mod test_settings;
 #[cfg(test)]
 mod tests;
 #[cfg(test)]
+mod threshold_tests;
+#[cfg(test)]
 mod units_tests;
 #[cfg(test)]
 mod words_tests;

@@ -10,7 +10,7 @@ const READ: &str = "mechdes: read fault\n";
 
 // Words, the status, and what is said. Words that are a command over files say that these could not be read, since no file has
 // their names.
-static WORDS: [(&[&str], u8, &str); 76] = [
+static WORDS: [(&[&str], u8, &str); 86] = [
     (&["make", "1000000"], 67, NUMBER),
     (&["drill", "1000000"], 67, NUMBER),
     (&["make", "--", "-1"], 67, NUMBER),
@@ -43,6 +43,16 @@ static WORDS: [(&[&str], u8, &str); 76] = [
     (&["units", "a", "02"], 64, USAGE),
     (&["units", "a", "2", "3"], 64, USAGE),
     (&["units", "a", "2", "--width", "3"], 64, USAGE),
+    (&["threshold", "a", "0"], 67, NUMBER),
+    (&["threshold", "a", "13"], 67, NUMBER),
+    (&["threshold", "a"], 64, USAGE),
+    (&["threshold", "a", "2", "--width", "4"], 64, USAGE),
+    (&["threshold", "a", "2"], 70, READ),
+    (&["award", "a", "13", "3,5", "0"], 67, NUMBER),
+    (&["award", "a", "2", "3,5"], 64, USAGE),
+    (&["award", "a", "2", "3,5", "00"], 64, USAGE),
+    (&["award", "a", "2", "3,5", "0", "0"], 64, USAGE),
+    (&["award", "--", "a", "2", "", "-1"], 70, READ),
     (&["run", "--", "a", "b", "-l", "-3", "-1"], 70, READ),
     (&["run", "a", "b", "", "0", "7"], 70, READ),
     (&["run", "a", "b", "l", "-3", "0"], 64, USAGE),

@@ -5,7 +5,7 @@ use Rattle.clap.specs.Words.{Text}
 use Rattle.clap.proofs.OnLiterals.{clap_on_literals}
 use Rattle.md_cli_words.specs.Words.{Order, command_of}
 use Rattle.md_cli_words.specs.declared.command.Command.{Command}
-use Rattle.md_cli_words.specs.declared.command.Command.TheVariants.{Audit, Rows, Solve, Replay, Units, Run, Make}
+use Rattle.md_cli_words.specs.declared.command.Command.TheVariants.{Audit, Rows, Solve, Replay, Units, Threshold, Award, Run, Make}
 
 -- a command of files, within a width
 abbrev of_files : Command → Text → Text → ℕ → Order
@@ -93,3 +93,19 @@ units_of_no_number = refl
 drill_of_zeros : command_of (codes "drill" ∷ codes "01" ∷ []) ≡ None
 unfolding clap_on_literals
 drill_of_zeros = refl
+
+threshold_of_two : command_of (codes "threshold" ∷ codes "x" ∷ codes "2" ∷ []) ≡ Some (record { command = Threshold; setting = codes "x"; second = []; width = 62; profile = []; first_draw = pos 0; second_draw = pos 0; number = pos 2 })
+unfolding clap_on_literals
+threshold_of_two = refl
+
+threshold_within_a_width : command_of (codes "threshold" ∷ codes "x" ∷ codes "2" ∷ codes "--width" ∷ codes "4" ∷ []) ≡ None
+unfolding clap_on_literals
+threshold_within_a_width = refl
+
+award_of_two : command_of (codes "award" ∷ codes "x" ∷ codes "2" ∷ codes "3,5" ∷ codes "1" ∷ []) ≡ Some (record { command = Award; setting = codes "x"; second = []; width = 62; profile = codes "3,5"; first_draw = pos 1; second_draw = pos 0; number = pos 2 })
+unfolding clap_on_literals
+award_of_two = refl
+
+award_without_a_draw : command_of (codes "award" ∷ codes "x" ∷ codes "2" ∷ codes "3,5" ∷ []) ≡ None
+unfolding clap_on_literals
+award_without_a_draw = refl

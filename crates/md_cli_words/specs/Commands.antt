@@ -12,6 +12,8 @@
 --   faircheck SETTING ANSWER
 --   asym SETTING [--width W]
 --   units SETTING NUMBER [--width W]
+--   threshold SETTING NUMBER
+--   award SETTING NUMBER PROFILE DRAW
 --   determ SETTING [--width W]
 --   determcheck SETTING ANSWER
 --   run SETTING ANSWER PROFILE DRAW1 DRAW2
@@ -23,9 +25,9 @@ use Rattle.std.specs.Prelude.{List, [], ◌∷◌, Option, Some, None, codes, if
 use Rattle.std.specs.Str.{bytes_eq}
 use Rattle.clap.specs.Words.{Text}
 use Rattle.md_cli_words.specs.declared.command.Command.{Command}
-use Rattle.md_cli_words.specs.declared.command.Command.TheVariants.{Audit, Rows, Check, Solve, Replay, Realise, Fair, Find, FindFair, FairCheck, Asym, Units, Determ, DetermCheck, Run, Report, Iron, Make, Drill}
+use Rattle.md_cli_words.specs.declared.command.Command.TheVariants.{Audit, Rows, Check, Solve, Replay, Realise, Fair, Find, FindFair, FairCheck, Asym, Units, Threshold, Award, Determ, DetermCheck, Run, Report, Iron, Make, Drill}
 use Rattle.md_cli_words.specs.declared.form.Form.{Form}
-use Rattle.md_cli_words.specs.declared.form.Form.TheVariants.{One, OneWidth, Two, TwoWidth, NumberWidth, Draws, Number}
+use Rattle.md_cli_words.specs.declared.form.Form.TheVariants.{One, OneWidth, Two, TwoWidth, NumberWidth, OneNumber, NumberDraw, Draws, Number}
 
 -- The command of a name. A text is a list of bytes, and the name is compared byte by byte: a part of a name, or one in
 -- other letters, is none.
@@ -43,6 +45,8 @@ command_named word =
     else (if bytes_eq word (codes "faircheck") then Some FairCheck
     else (if bytes_eq word (codes "asym") then Some Asym
     else (if bytes_eq word (codes "units") then Some Units
+    else (if bytes_eq word (codes "threshold") then Some Threshold
+    else (if bytes_eq word (codes "award") then Some Award
     else (if bytes_eq word (codes "determ") then Some Determ
     else (if bytes_eq word (codes "determcheck") then Some DetermCheck
     else (if bytes_eq word (codes "run") then Some Run
@@ -50,7 +54,7 @@ command_named word =
     else (if bytes_eq word (codes "iron") then Some Iron
     else (if bytes_eq word (codes "make") then Some Make
     else (if bytes_eq word (codes "drill") then Some Drill
-    else None))))))))))))))))))
+    else None))))))))))))))))))))
 
 -- the command that the first word names; none where there is no word, or it is no name
 abbrev pub command_in : List Text → Option Command
@@ -71,6 +75,8 @@ form_of FindFair = One
 form_of FairCheck = Two
 form_of Asym = OneWidth
 form_of Units = NumberWidth
+form_of Threshold = OneNumber
+form_of Award = NumberDraw
 form_of Determ = OneWidth
 form_of DetermCheck = Two
 form_of Run = Draws

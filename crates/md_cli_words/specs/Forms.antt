@@ -6,7 +6,7 @@
 use Rattle.std.specs.Prelude.{◌==◌, List, length, Option, Some, None, true, codes, if◌then◌else◌}
 use Rattle.clap.specs.Words.{App, Row, Rule, Text, fault_of, matches_of, new_app, new_rule, with_rule}
 use Rattle.md_cli_words.specs.declared.form.Form.{Form}
-use Rattle.md_cli_words.specs.declared.form.Form.TheVariants.{One, OneWidth, Two, TwoWidth, NumberWidth, Draws, Number}
+use Rattle.md_cli_words.specs.declared.form.Form.TheVariants.{One, OneWidth, Two, TwoWidth, NumberWidth, OneNumber, NumberDraw, Draws, Number}
 
 -- an argument known by its place, which has to be there
 abbrev pub place_rule : Text → Rule
@@ -24,12 +24,18 @@ no_place = new_app (codes "mechdes")
 abbrev pub with_place : App → Text → App
 with_place app id = with_rule app (place_rule id)
 
--- two more, the names of files; and three more, a profile and two draws
+-- two more, the names of files, or the name of a file and a number; and a profile with one draw more, or with two
 abbrev pub with_files : App → App
 with_files app = with_place (with_place app (codes "first")) (codes "second")
 
+abbrev pub with_number : App → App
+with_number app = with_place (with_place app (codes "first")) (codes "number")
+
+abbrev pub with_draw : App → App
+with_draw app = with_place (with_place app (codes "profile")) (codes "first_draw")
+
 abbrev pub with_draws : App → App
-with_draws app = with_place (with_place (with_place app (codes "profile")) (codes "first_draw")) (codes "second_draw")
+with_draws app = with_place (with_draw app) (codes "second_draw")
 
 -- the command of clap that reads arguments of a form
 abbrev pub app_of_form : Form → App
@@ -37,7 +43,9 @@ app_of_form One = with_place no_place (codes "first")
 app_of_form OneWidth = with_rule (with_place no_place (codes "first")) width_rule
 app_of_form Two = with_files no_place
 app_of_form TwoWidth = with_rule (with_files no_place) width_rule
-app_of_form NumberWidth = with_rule (with_place (with_place no_place (codes "first")) (codes "number")) width_rule
+app_of_form NumberWidth = with_rule (with_number no_place) width_rule
+app_of_form OneNumber = with_number no_place
+app_of_form NumberDraw = with_draw (with_number no_place)
 app_of_form Draws = with_draws (with_files no_place)
 app_of_form Number = with_place no_place (codes "number")
 

@@ -31,6 +31,10 @@ pub enum Command {
     Asym,
     /// `units SETTING NUMBER [--width W]` sells so many units to the bidders of an auction within a width.
     Units,
+    /// `threshold SETTING NUMBER` tells the best auction of so many units in which only winners pay.
+    Threshold,
+    /// `award SETTING NUMBER PROFILE DRAW` tells what each bidder has in it at a profile of reports and a draw.
+    Award,
     /// `determ SETTING [--width W]` finds the best deterministic mechanism of a setting within a width.
     Determ,
     /// `determcheck SETTING ANSWER` checks an answer about the deterministic mechanisms of a setting.
@@ -71,6 +75,8 @@ fn named(word: &str) -> Option<Command>
         "faircheck" => Some(Command::FairCheck),
         "asym" => Some(Command::Asym),
         "units" => Some(Command::Units),
+        "threshold" => Some(Command::Threshold),
+        "award" => Some(Command::Award),
         "determ" => Some(Command::Determ),
         "determcheck" => Some(Command::DetermCheck),
         "run" => Some(Command::Run),
@@ -97,6 +103,8 @@ pub(crate) fn form(command: Command) -> Form
         | Command::Report => Form::Two,
         Command::Replay => Form::TwoWidth,
         Command::Units => Form::NumberWidth,
+        Command::Threshold => Form::OneNumber,
+        Command::Award => Form::NumberDraw,
         Command::Run => Form::Draws,
         Command::Make | Command::Drill => Form::Number,
     }

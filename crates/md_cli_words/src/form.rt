@@ -1,7 +1,7 @@
 //! The forms that the arguments of commands have, each with the command of `clap` that reads it.
 ghost use Rattle.std.specs.Prelude.{◌≡◌, IfOk};
 ghost use Rattle.clap.specs.Words.{app_of, with_rule};
-ghost use Rattle.md_cli_words.specs.Forms.{app_of_form, place_rule, width_rule, with_draws, with_files};
+ghost use Rattle.md_cli_words.specs.Forms.{app_of_form, place_rule, width_rule, with_draw, with_draws, with_files, with_number};
 
 use clap::{Arg, Command};
 use std::alloc::{AllocError, Global};
@@ -19,6 +19,10 @@ pub(crate) enum Form {
     TwoWidth,
     /// One argument, a number, and a width or none.
     NumberWidth,
+    /// One argument and a number.
+    OneNumber,
+    /// One argument, a number, a profile and a draw.
+    NumberDraw,
     /// Two arguments, a profile and two draws.
     Draws,
     /// A number.
@@ -53,12 +57,27 @@ fn with_files<'a>(alloc: Global, command: Command<'a>) -> Result<Command<'a>, Al
     with_place(alloc, first, "second")
 }
 
+// The command with two arguments, the name of a file and a number.
+fn with_number<'a>(alloc: Global, command: Command<'a>) -> Result<Command<'a>, AllocError>
+    ensures { IfOk result (λ more. app_of more ≡ with_number (app_of command.entry)) }
+{
+    let first = with_place(alloc, command, "first")?;
+    with_place(alloc, first, "number")
+}
+
+// The command with a profile and a draw.
+fn with_draw<'a>(alloc: Global, command: Command<'a>) -> Result<Command<'a>, AllocError>
+    ensures { IfOk result (λ more. app_of more ≡ with_draw (app_of command.entry)) }
+{
+    let profile = with_place(alloc, command, "profile")?;
+    with_place(alloc, profile, "first_draw")
+}
+
 // The command with a profile and two draws.
 fn with_draws<'a>(alloc: Global, command: Command<'a>) -> Result<Command<'a>, AllocError>
     ensures { IfOk result (λ more. app_of more ≡ with_draws (app_of command.entry)) }
 {
-    let profile = with_place(alloc, command, "profile")?;
-    let first = with_place(alloc, profile, "first_draw")?;
+    let first = with_draw(alloc, command)?;
     with_place(alloc, first, "second_draw")
 }
 
@@ -79,9 +98,13 @@ pub(crate) fn reader_of<'a>(alloc: Global, form: Form) -> Result<Command<'a>, Al
             with_width(alloc, two)
         }
         Form::NumberWidth => {
-            let one = with_place(alloc, bare, "first")?;
-            let two = with_place(alloc, one, "number")?;
+            let two = with_number(alloc, bare)?;
             with_width(alloc, two)
+        }
+        Form::OneNumber => with_number(alloc, bare),
+        Form::NumberDraw => {
+            let two = with_number(alloc, bare)?;
+            with_draw(alloc, two)
         }
         Form::Draws => {
             let two = with_files(alloc, bare)?;

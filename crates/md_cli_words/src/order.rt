@@ -28,7 +28,7 @@ pub struct Order<'a> {
     pub width: Width,
     /// The reports at which an outcome is drawn, as they were typed.
     pub profile: &'a str,
-    /// The draw of the outcome; of an auction, of the value that wins.
+    /// The draw of the outcome; of an auction, of the value that wins; where units are awarded, of who wins in a pool.
     pub first_draw: i128,
     /// The draw of the bidder among those with the value that wins.
     pub second_draw: i128,

@@ -8,7 +8,7 @@ use Rattle.md_ports.specs.Faults.{Rose}
 use Rattle.md_cli_words.specs.Commands.{command_in}
 use Rattle.md_cli_words.specs.Words.{Order, command_of}
 use Rattle.md_cli_words.specs.declared.command.Command.{Command}
-use Rattle.md_cli_words.specs.declared.command.Command.TheVariants.{Audit, Rows, Check, Solve, Replay, Realise, Fair, Find, FindFair, FairCheck, Asym, Units, Determ, DetermCheck, Run, Report, Iron, Make, Drill}
+use Rattle.md_cli_words.specs.declared.command.Command.TheVariants.{Audit, Rows, Check, Solve, Replay, Realise, Fair, Find, FindFair, FairCheck, Asym, Units, Threshold, Award, Determ, DetermCheck, Run, Report, Iron, Make, Drill}
 use Rattle.md_setting.specs.declared.file.SettingFile.{SettingFile}
 use Rattle.md_setting.specs.declared.file.SettingFile.TheVariants.{General, Auction}
 use Rattle.md_cli_driver.specs.declared.refusal.Refusal.{Refusal}
@@ -132,6 +132,8 @@ headline-of_command Realise order content before after saying status out err sai
 headline-of_command Fair order content before after saying status out err said delivered = tt
 headline-of_command Asym order content before after saying status out err said delivered = tt
 headline-of_command Units order content before after saying status out err said delivered = tt
+headline-of_command Threshold order content before after saying status out err said delivered = tt
+headline-of_command Award order content before after saying status out err said delivered = tt
 headline-of_command Determ order content before after saying status out err said delivered = tt
 headline-of_command DetermCheck order content before after saying status out err said delivered = tt
 headline-of_command Run order content before after saying status out err said delivered = tt

@@ -2,7 +2,7 @@
 use Rattle.std.specs.Prelude.{◌≡◌, ◌⊎◌, ℕ, ℤ, unsigned_abs, Bool, true, false, List, Option, None, Some, IsSome}
 use Rattle.md_cli_words.specs.Commands.{command_in}
 use Rattle.md_cli_words.specs.declared.command.Command.{Command}
-use Rattle.md_cli_words.specs.declared.command.Command.TheVariants.{Audit, Rows, Check, Solve, Replay, Realise, Fair, Find, FindFair, FairCheck, Asym, Units, Determ, DetermCheck, Run, Report, Iron, Make, Drill}
+use Rattle.md_cli_words.specs.declared.command.Command.TheVariants.{Audit, Rows, Check, Solve, Replay, Realise, Fair, Find, FindFair, FairCheck, Asym, Units, Threshold, Award, Determ, DetermCheck, Run, Report, Iron, Make, Drill}
 use Rattle.md_cli_words.specs.Words.{Order, command_of}
 use Rattle.md_mech.specs.declared.mechanism.Mechanism.{Mechanism}
 use Rattle.md_border.specs.declared.interim.Interim.{Interim}
@@ -32,17 +32,29 @@ use Rattle.md_cli_best.specs.Making.{IsMake, IsMakeStatus}
 use Rattle.md_cli_best.specs.Drilling.{IsDrill, IsDrillStatus}
 use Rattle.md_cli_best.specs.Selling.{IsAsym, IsAsymStatus}
 use Rattle.md_cli_best.specs.SellingUnits.{IsUnits, IsUnitsStatus}
-use Rattle.md_cli_best.specs.UnitNumbers.{is_unit_number}
+use Rattle.md_units.specs.Numbers.{is_unit_number}
+use Rattle.md_cli_best.specs.Thresholding.{IsThresholding, IsThresholdStatus}
+use Rattle.md_cli_tell.specs.Awarding.{IsAwardOf, IsAwardStatus}
 use Rattle.md_cli_best.specs.Determining.{IsDeterm, IsDetermStatus}
 use Rattle.md_cli_judge.specs.DetermChecking.{determ_text_in, IsDetermCheck, IsDetermCheckStatus}
 
--- So many units are sold to the bidders of an auction, where so many may be sold. Else the number is refused, and no file is read.
-abbrev pub units_work_by : Bool → ℕ → ℕ → Work
-units_work_by true units width = one_file is_auction (IsUnits units width) IsUnitsStatus
-units_work_by false units width = number_refused
+-- what is done with so many units, where so many may be sold; else the number is refused, and no file is read
+abbrev pub sale_by : Bool → Work → Work
+sale_by true work = work
+sale_by false work = number_refused
 
+abbrev pub sale_of : ℤ → (ℕ → Work) → Work
+sale_of number work = sale_by (is_unit_number number) (work (unsigned_abs number))
+
+-- They are sold to the bidders of an auction; they are sold so that only winners pay; and who has what of that at a profile and a draw.
 abbrev pub units_work : ℤ → ℕ → Work
-units_work number width = units_work_by (is_unit_number number) (unsigned_abs number) width
+units_work number width = sale_of number (λ units. one_file is_auction (IsUnits units width) IsUnitsStatus)
+
+abbrev pub threshold_work : ℤ → Work
+threshold_work number = sale_of number (λ units. one_file is_auction (IsThresholding units) IsThresholdStatus)
+
+abbrev pub award_work : ℤ → List ℕ → ℤ → Work
+award_work number profile draw = sale_of number (λ units. one_file is_auction (IsAwardOf units profile draw) IsAwardStatus)
 
 -- the commands: the files of each, what it says of them, and its statuses
 abbrev pub work_by : Command → Order → Work
@@ -58,6 +70,8 @@ work_by FindFair order = one_file is_general IsFindFair IsFindStatus
 work_by FairCheck order = two_files FairAnswer is_general fair_answer_in IsFairCheck IsCheckStatus
 work_by Asym order = one_file is_general (IsAsym order.width) IsAsymStatus
 work_by Units order = units_work order.number order.width
+work_by Threshold order = threshold_work order.number
+work_by Award order = award_work order.number order.profile order.first_draw
 work_by Determ order = one_file is_general (IsDeterm order.width) IsDetermStatus
 work_by DetermCheck order = two_files (List ℕ) is_general determ_text_in IsDetermCheck IsDetermCheckStatus
 work_by Run order = two_files Answer is_any drawable_in (IsRun order.profile order.first_draw order.second_draw) IsRunStatus

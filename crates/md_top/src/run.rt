@@ -1,18 +1,19 @@
 //! The commands, each carried out over its files.
 ghost use Rattle.std.specs.Prelude.{ℕ, List};
 ghost use Rattle.md_cli_words.specs.Orders.{asked};
-ghost use Rattle.md_top.specs.Reply.{units_work, work_of};
+ghost use Rattle.md_top.specs.Reply.{award_work, threshold_work, units_work, work_of};
 ghost use Rattle.md_cli_driver.specs.Works.{IsCarriedOut};
 
 use md_cli_best::{
-    Asym, Determ, Drill, Fair, Find, FindFair, Iron, Make, Solve, UnitNumber, Units,
+    Asym, Determ, Drill, Fair, Find, FindFair, Iron, Make, Solve, ThresholdSale, Units,
 };
 use md_cli_driver::{Answered, NumberRefused, Refusal, of_none, of_one, of_two};
 use md_cli_judge::{Audit, Check, DetermCheck, FairCheck};
-use md_cli_tell::{Draw, Realise, Replay, Rows, Tell};
+use md_cli_tell::{Awarding, Draw, Realise, Replay, Rows, Tell};
 use md_cli_words::{Command, Order};
 use md_num::Width;
 use md_ports::Shelf;
+use md_units::UnitNumber;
 use std::alloc::Global;
 
 /// Carries a command out.
@@ -46,6 +47,8 @@ pub(crate) fn run<F: Shelf>(
         Command::FairCheck => of_two(alloc, &FairCheck, setting, second, shelf),
         Command::Asym => of_one(alloc, &Asym { width }, setting, shelf),
         Command::Units => sell_units(alloc, number, width, setting, shelf),
+        Command::Threshold => sell_to_winners(alloc, number, setting, shelf),
+        Command::Award => award(alloc, number, profile, first_draw, setting, shelf),
         Command::Determ => of_one(alloc, &Determ { width }, setting, shelf),
         Command::DetermCheck => of_two(alloc, &DetermCheck, setting, second, shelf),
         Command::Run => {
@@ -75,6 +78,45 @@ fn sell_units<F: Shelf>(
 {
     match UnitNumber::new(number) {
         Some(units) => of_one(alloc, &Units { units, width }, setting, shelf),
+        None => of_none(alloc, &NumberRefused),
+    }
+}
+
+// Sells so many units where only winners pay. A number of them that may not be sold is refused before the setting is read.
+fn sell_to_winners<F: Shelf>(
+    alloc: Global,
+    number: i128,
+    setting: &str,
+    shelf: &mut F,
+) -> Result<Answered, Refusal>
+    ensures { (second : List ℕ) → IsCarriedOut (threshold_work number) setting.now second (F.content shelf.old) (F.faults shelf.old) (F.faults shelf.new) result }
+{
+    match UnitNumber::new(number) {
+        Some(units) => of_one(alloc, &ThresholdSale { units }, setting, shelf),
+        None => of_none(alloc, &NumberRefused),
+    }
+}
+
+// Awards so many units at a profile by a draw. A number of them that may not be sold is refused before the setting is read.
+fn award<F: Shelf>(
+    alloc: Global,
+    number: i128,
+    profile: &str,
+    draw: i128,
+    setting: &str,
+    shelf: &mut F,
+) -> Result<Answered, Refusal>
+    ensures { (second : List ℕ) → IsCarriedOut (award_work number profile.now draw) setting.now second (F.content shelf.old) (F.faults shelf.old) (F.faults shelf.new) result }
+{
+    match UnitNumber::new(number) {
+        Some(units) => {
+            let command = Awarding {
+                units,
+                profile,
+                draw,
+            };
+            of_one(alloc, &command, setting, shelf)
+        }
         None => of_none(alloc, &NumberRefused),
     }
 }

@@ -5,6 +5,7 @@
 mod programs;
 mod solving;
 mod unit_cuts;
+mod unit_number;
 mod units_answer;
 mod worth;
 
@@ -13,4 +14,5 @@ pub use md_cut_runs::CutsError as UnitsError;
 pub use md_unit_tables::{UnitEnd, realise_units};
 pub use programs::program;
 pub use solving::solve_units;
+pub use unit_number::UnitNumber;
 pub use units_answer::UnitsAnswer;

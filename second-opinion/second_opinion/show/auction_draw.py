@@ -7,7 +7,7 @@ sets that bind.
 from fractions import Fraction
 
 from second_opinion.setting import AuctionSetting
-from second_opinion.show.auction_facts import Sale, counted_values, ironed
+from second_opinion.show.auction_facts import Run, Sale, counted_values, ironed
 from second_opinion.show.bars import Bar, Bars, Group
 from second_opinion.show.draw import picture_file, text_at
 from second_opinion.show.text import number, set_words, with_decimal
@@ -21,23 +21,20 @@ def run_words(auction: AuctionSetting, first: int, last: int, rest: str) -> str:
     return f"{set_words(auction.values, range(first, last + 1))}: {rest}"
 
 
-def odds_bars(sale: Sale) -> Bars:
-    """How often a bidder wins, by its own value; values that win as often are marked as one."""
-    auction = sale.auction
+def odds_bars(auction: AuctionSetting, odds: list[Fraction], pools: list[Run]) -> Bars:
+    """How often a bidder wins, by its own value; the pools, whose values win as often, are marked."""
     bars = []
-    for value, odds in zip(auction.values, sale.odds):
-        spoken = f"The value {number(value)} wins with the odds {number(odds)}"
-        bars.append(Bar(number(value), odds, with_decimal(odds), spoken, limit=1))
+    for value, often in zip(auction.values, odds):
+        spoken = f"The value {number(value)} wins with the odds {number(often)}"
+        bars.append(Bar(number(value), often, with_decimal(often), spoken, limit=1))
     groups = [
-        Group(first, last, run_words(auction, first, last, "pooled" if odds else "never win"))
-        for odds, first, last in sale.pools()
+        Group(first, last, run_words(auction, first, last, "pooled" if often else "never win")) for often, first, last in pools
     ]
     return Bars("How often a bidder wins, by its value", bars, groups)
 
 
-def value_bars(sale: Sale) -> Bars:
+def value_bars(auction: AuctionSetting) -> Bars:
     """What each value counts, and the averages of those that fall."""
-    auction = sale.auction
     bars = []
     for value, counts in zip(auction.values, counted_values(auction)):
         spoken = f"The value {number(value)} counts {number(counts)}"
@@ -68,7 +65,7 @@ def cut_bars(sale: Sale) -> Bars:
 
 def odds_file(sale: Sale, heading: str) -> str:
     """The odds as an SVG file of its own."""
-    drawn = odds_bars(sale)
+    drawn = odds_bars(sale.auction, sale.odds, sale.pools())
     words = f"{drawn.heading}: {drawn.description()}"
     made = [text_at(18, 32, heading, "heading"), text_at(18, 56, drawn.heading, "agent"), drawn.body(18, 68)]
     wide = max(drawn.width, len(heading) * HEADING)

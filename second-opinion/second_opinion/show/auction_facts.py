@@ -15,6 +15,9 @@ from second_opinion.auction_answer import AuctionAnswer
 from second_opinion.setting import AuctionSetting
 
 
+Run = tuple[Fraction, int, int]  # of values next to each other: what they have in common, and the places of the first and the last
+
+
 @dataclass(frozen=True)
 class Cut:
     """A set of values: its number and its places, the weight of the profiles in which it is to win, the weight of those
@@ -97,7 +100,7 @@ def greatest_value(auction: AuctionSetting) -> Fraction:
     return sum(gains, Fraction(auction.keep))
 
 
-def runs(numbers: list[Fraction]) -> list[tuple[Fraction, int, int]]:
+def runs(numbers: list[Fraction]) -> list[Run]:
     """The runs of equal numbers next to each other."""
     found, place = [], 0
     for number, same in groupby(numbers):
@@ -133,7 +136,7 @@ class Sale:
         """What a bidder with a value is left with on average."""
         return self.auction.values[place] * self.odds[place] - self.pays[place]
 
-    def pools(self) -> list[tuple[Fraction, int, int]]:
+    def pools(self) -> list[Run]:
         """The runs of at least two values that win as often, each with its odds."""
         return [(odds, first, last) for odds, first, last in runs(self.odds) if first < last]
 

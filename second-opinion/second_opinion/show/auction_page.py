@@ -22,8 +22,68 @@ FORMULA = (
 )
 
 
-class AuctionPage:
+class AnyAuctionPage:
+    """What the pages about an auction share: its values and what they count. The words on truth, rationality and payments are
+    those of what its answers are about."""
+
+    auction: AuctionSetting
+    truth: str
+    rational: str
+    payments: str
+
+    def setting_section(self) -> str:
+        """The auction in a few words, and its values."""
+        auction = self.auction
+        have = "who each have" if auction.bidders > 1 else "who has"
+        apart = ", whatever the others have" if auction.bidders > 1 else ""
+        facts = [
+            ("Bidders", f"{auction.bidders}, {have} one of {count(len(auction.values), 'value')}{apart}"),
+            ("Maximised", auction_objective_words(auction)),
+            ("Truth", self.truth),
+            ("Rationality", self.rational),
+            ("Payments", self.payments),
+        ]
+        text = "".join(f"<dt>{term}</dt><dd>{words}</dd>\n" for term, words in facts)
+        return section("The auction", f"<dl>\n{text}</dl>\n{values_table(auction)}")
+
+    def counts_section(self) -> str:
+        """What each value counts, and which of them are averaged."""
+        auction = self.auction
+        text = paragraph(
+            "The virtual value of a value is what selling to it brings in revenue, less what the values above must "
+            f"then be left with: {FORMULA}."
+        )
+        if counted_values(auction) != virtual_values(auction):
+            text += paragraph(f"What a value counts is {self.counts_words()}.")
+        text += paragraph(
+            "The best auction gives the item to a bidder whose value counts most, as long as it counts more than 0."
+            + (" Striped bars are below 0." if min(counted_values(auction)) < 0 else "")
+        )
+        blocks = [block for block in ironed(auction) if block.first < block.last]
+        for block in blocks:
+            run = set_words(auction.values, range(block.first, block.last + 1))
+            text += paragraph(
+                f"At the values {run} these numbers fall, where odds may not. So they are ironed: all of them count "
+                f"their average by weight, {html_number(block.counts)}. A broken line is drawn there."
+            )
+        drawn = figure("", value_bars(self.auction), "counts", "What each value counts")
+        return section("Virtual values", f'{text}<div class="flow">\n{drawn}{counts_table(auction)}</div>\n')
+
+    def counts_words(self) -> str:
+        """What the objective gains where the item goes to a value, in words."""
+        auction = self.auction
+        counted = [(auction.revenue, "its virtual value"), (auction.welfare, "the value itself")]
+        parts = [(f"{number(factor)} {TIMES} " if factor != 1 else "") + words for factor, words in counted if factor]
+        keep = f", less the {number(auction.keep)} that keeping the item is worth" if auction.keep else ""
+        return (" + ".join(parts) or "0") + keep
+
+
+class AuctionPage(AnyAuctionPage):
     """A page about an answer, by the words of `Page`."""
+
+    truth = "Bayes: on average over the values of the others, no report is better than the truth"
+    rational = "interim: on average over the values of the others, no bidder loses"
+    payments = "yes, of any size and sign"
 
     def __init__(
         self, auction: AuctionSetting, answer: AuctionAnswer | TooWideAnswer, title: str, names: list[str],
@@ -39,7 +99,7 @@ class AuctionPage:
 
     def html(self) -> str:
         """The whole page."""
-        if not self.sale:
+        if isinstance(self.answer, TooWideAnswer):
             parts = [self.verdict(), self.setting_section(), too_wide_section(self.answer.paths, "all values")]
             return whole(self, "".join(parts))
         parts = [hidden(pattern_definitions(PATTERNS_USED)), self.verdict(), self.setting_section()]
@@ -57,7 +117,7 @@ class AuctionPage:
 
     def verdict(self) -> str:
         """What the answer says, above all else, and what is wrong with it where that is easily seen."""
-        if not self.sale:
+        if isinstance(self.answer, TooWideAnswer):
             made = big("Too wide") + paragraph(
                 "A number on the way to the answer grew beyond the width that was asked for. This says nothing of the "
                 "auction: every auction has a best mechanism."
@@ -78,7 +138,7 @@ class AuctionPage:
     def mistakes(self) -> list[str]:
         """What is wrong with an optimal answer, as sentences of HTML."""
         sale, found = self.sale, []
-        if sale.value() != Fraction(*self.answer.value):
+        if sale.value() != Fraction(*sale.answer.value):
             found.append(
                 f"The value of the odds and pays below is {html_number(sale.value())}, and not what the answer says."
             )
@@ -101,21 +161,6 @@ class AuctionPage:
         """The greatest value that there is, as HTML."""
         return html_number(greatest_value(self.auction))
 
-    def setting_section(self) -> str:
-        """The auction in a few words, and its values."""
-        auction = self.auction
-        have = "who each have" if auction.bidders > 1 else "who has"
-        apart = ", whatever the others have" if auction.bidders > 1 else ""
-        facts = [
-            ("Bidders", f"{auction.bidders}, {have} one of {count(len(auction.values), 'value')}{apart}"),
-            ("Maximised", auction_objective_words(auction)),
-            ("Truth", "Bayes: on average over the values of the others, no report is better than the truth"),
-            ("Rationality", "interim: on average over the values of the others, no bidder loses"),
-            ("Payments", "yes, of any size and sign"),
-        ]
-        text = "".join(f"<dt>{term}</dt><dd>{words}</dd>\n" for term, words in facts)
-        return section("The auction", f"<dl>\n{text}</dl>\n{values_table(auction)}")
-
     def odds_section(self) -> str:
         """How often a bidder wins and what it pays, by its value."""
         sale, words = self.sale, []
@@ -133,7 +178,7 @@ class AuctionPage:
             + (" A bracket marks values that win as often." if sale.pools() else "")
         )
         text += "".join(map(paragraph, words))
-        text += large_figure("", odds_bars(sale), "odds", "Odds by value") + odds_table(sale)
+        text += large_figure("", odds_bars(self.auction, sale.odds, sale.pools()), "odds", "Odds by value") + odds_table(sale)
         text += paragraph(
             "A bidder may pay just what stands under <em>Pays</em> each time, whether it wins or not"
             + ("." if free else "; or what stands under <em>Pays per win</em> where it wins, and else nothing.")
@@ -141,37 +186,6 @@ class AuctionPage:
             f"{sale.interim.den}."
         )
         return section("Odds and pays", text)
-
-    def counts_section(self) -> str:
-        """What each value counts, and which of them are averaged."""
-        auction = self.auction
-        text = paragraph(
-            "The virtual value of a value is what selling to it brings in revenue, less what the values above must "
-            f"then be left with: {FORMULA}."
-        )
-        if counted_values(auction) != virtual_values(auction):
-            text += paragraph(f"What a value counts is {self.counts_words()}.")
-        text += paragraph(
-            "The best auction gives the item to a bidder whose value counts most, as long as it counts more than 0."
-            + (" Striped bars are below 0." if min(counted_values(auction)) < 0 else "")
-        )
-        blocks = [block for block in ironed(auction) if block.first < block.last]
-        for block in blocks:
-            run = set_words(auction.values, range(block.first, block.last + 1))
-            text += paragraph(
-                f"At the values {run} these numbers fall, where odds may not. So they are ironed: all of them count "
-                f"their average by weight, {html_number(block.counts)}. A broken line is drawn there."
-            )
-        drawn = figure("", value_bars(self.sale), "counts", "What each value counts")
-        return section("Virtual values", f'{text}<div class="flow">\n{drawn}{counts_table(auction)}</div>\n')
-
-    def counts_words(self) -> str:
-        """What the objective gains where the item goes to a value, in words."""
-        auction = self.auction
-        parts = [(auction.revenue, "its virtual value"), (auction.welfare, "the value itself")]
-        parts = [(f"{number(factor)} {TIMES} " if factor != 1 else "") + words for factor, words in parts if factor]
-        keep = f", less the {number(auction.keep)} that keeping the item is worth" if auction.keep else ""
-        return (" + ".join(parts) or "0") + keep
 
     def value_section(self) -> str:
         """The parts of the value, and the greatest one by the virtual values."""

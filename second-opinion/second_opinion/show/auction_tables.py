@@ -9,14 +9,14 @@ from second_opinion.show.auction_facts import Sale, counted_values, highest_chan
 from second_opinion.show.tables import Cell, head, multiplier_text, numeric, table
 from second_opinion.show.text import MINUS, TIMES, count, html_name, html_number, number, set_words
 
-PLAIN_ROWS = 40  # of masses; more are folded
+PLAIN_ROWS = 40  # of a table; more are folded
 MOST_ROWS = 400  # of masses; more are left out
 
 
 def values_table(auction: AuctionSetting) -> str:
     """The values with their weights."""
     total = sum(auction.weights)
-    rows = [
+    rows: list[list[Cell]] = [
         [head(number(value)), numeric(weight), numeric(Fraction(weight, total))]
         for value, weight in zip(auction.values, auction.weights)
     ]
@@ -140,7 +140,11 @@ def masses_table(sale: Sale) -> str:
     caption = "Who wins, by the values that are there"
     if every > MOST_ROWS:
         caption = f"Who wins: the first {MOST_ROWS:,} of {count(every, 'list')}, {every - MOST_ROWS:,} are left out"
-    made = table(caption, heads, rows)
-    if len(rows) <= PLAIN_ROWS:
+    return folded(table(caption, heads, rows), caption, len(rows))
+
+
+def folded(made: str, caption: str, rows: int) -> str:
+    """A table, folded where it has many rows."""
+    if rows <= PLAIN_ROWS:
         return made
-    return f"<details>\n<summary>{caption} ({count(len(rows), 'row')})</summary>\n{made}</details>\n"
+    return f"<details>\n<summary>{caption} ({count(rows, 'row')})</summary>\n{made}</details>\n"

@@ -1,10 +1,11 @@
 """A picture with a bar for each of a few numbers, with the exact number beside it or below it.
 
 A bar begins at nothing: to the right are numbers above 0, to the left those below. A frame shows how long a bar may be.
-A bracket marks bars that belong together. As in `show_draw.py`, what fits is counted in characters of one width, and
+A bracket marks bars that belong together. As in `draw.py`, what fits is counted in characters of one width, and
 bars are told apart by pattern and words, and by colour only beside these.
 """
 
+import itertools
 from collections.abc import Iterable
 from dataclasses import dataclass
 from fractions import Fraction
@@ -64,7 +65,7 @@ class Bars:
         """How large everything is."""
         names = max(len(bar.name) for bar in self.bars)
         self.above = names > NAME
-        self.axis_left = (0 if self.above else names * CHAR + 10) + (BRACKET if self.groups else 0)
+        self.axis_left = (Fraction(0) if self.above else names * CHAR + 10) + (BRACKET if self.groups else 0)
         longest = max(len(bar.text) for bar in self.bars) * CHAR
         self.track = WIDTH - self.axis_left - longest - 10
         self.beside = self.track >= TRACK
@@ -75,8 +76,9 @@ class Bars:
             self.track = max(WIDTH - self.axis_left, widest)
         words = [self.axis_left + len(group.words) * CHAR for group in self.groups]
         words += [self.axis_left + names * CHAR] * self.above
-        self.width = max([self.axis_left + self.track + (longest + 10) * self.beside, WIDTH, *words])
-        numbers = [Fraction(0), *(bar.number for bar in self.bars), *(bar.limit for bar in self.bars if bar.limit)]
+        words.append(self.axis_left + self.track + (longest + 10) * self.beside)
+        self.width = max(Fraction(WIDTH), *words)
+        numbers = [Fraction(0), *(bar.number for bar in self.bars), *(Fraction(bar.limit or 0) for bar in self.bars)]
         self.low, self.span = min(numbers), max(numbers) - min(numbers)
         self.tops, y = [], 4
         ends = {group.last for group in self.groups}
@@ -113,6 +115,15 @@ class Bars:
             made.append(text_at(*(beside if self.beside else (self.axis_left, y + BAR + 13 + LINE * line)), text))
         return "".join(made)
 
+    def axis(self) -> str:
+        """The path of a line where nothing stands. It leaves out the words between bars."""
+        x, over = place(self.at(0)), 0 if self.above or not self.beside else 3
+        steps = []
+        for top, below in itertools.zip_longest(self.tops, self.tops[1:]):
+            end = below if below == top + BAR + BETWEEN else top + BAR + over
+            steps.append(f"M{x} {place(top - over)}V{place(end)}")
+        return "".join(steps)
+
     def group(self, group: Group) -> str:
         """The bracket of a group, the line across it, and its words."""
         top, bottom = self.tops[group.first], self.bottom(group.last)
@@ -126,9 +137,8 @@ class Bars:
     def body(self, left: Number = 0, top: Number = 0) -> str:
         """The drawing itself."""
         made = [self.row(row, bar) for row, bar in enumerate(self.bars)]
-        if not any(bar.limit for bar in self.bars):  # where nothing stands
-            x = place(self.at(0))
-            made.append(f'<path class="bracket" d="M{x} {place(self.tops[0] - 3)}V{place(self.height - 2)}"/>')
+        if not any(bar.limit for bar in self.bars):
+            made.append(f'<path class="axis" d="{self.axis()}"/>')
         made += [self.group(group) for group in self.groups]
         return f'<g transform="translate({place(left)} {place(top)})">{"".join(made)}</g>'
 

@@ -19,6 +19,8 @@ CHAR = Fraction(63, 8)  # the width of a character of 13 pixels
 LINE = 15  # the height of a line of text
 BAR = 20  # the height of a bar
 GAP = 10  # between cells
+NARROW = 64  # the least width of a cell
+WIDE = 390  # the least width of a picture: a phone has it, a fifth smaller
 LONGEST = 20  # characters of a line in a cell; a longer fraction takes two lines
 
 
@@ -112,11 +114,9 @@ class Matrix:
         self.lines = {cell: chance_lines(self.labels, chances) for cell, chances in self.cells.items()}
         longest = max(len(line) for lines in self.lines.values() for line in lines)
         self.side = max(len(name) for name in [*self.rows, self.agents[0].name]) * CHAR + 14
-        if len(self.agents) == 1:
-            self.cell = max(390 - self.side, longest * CHAR)
-        else:
-            heads = max(map(len, self.columns))
-            self.cell = max([64, longest * CHAR, heads * CHAR, len(self.agents[1].name) * CHAR / len(self.columns)])
+        texts = [longest, *(len(name) for name in self.columns if name)]
+        rows = [WIDE - self.side, *(len(agent.name) * CHAR for agent in self.agents[1:])]
+        self.cell = max(Fraction(NARROW), max(texts) * CHAR, (max(rows) + GAP) / len(self.columns) - GAP)
         self.head = 24 if len(self.agents) == 1 else 24 + LINE
         self.tops = [self.head]
         for row in range(len(self.rows)):
@@ -171,7 +171,8 @@ def picture(name: str, title: str, description: str, width: Number, height: Numb
     wide, tall = place(width), place(height)
     return (
         f'<svg class="picture" role="img" aria-labelledby="{name}-title" aria-describedby="{name}-desc" '
-        f'width="{wide}" height="{tall}" viewBox="0 0 {wide} {tall}" style="min-width:{place(width * 4 / 5)}px">'
+        f'width="{wide}" height="{tall}" viewBox="0 0 {wide} {tall}" preserveAspectRatio="xMinYMin" '
+        f'style="min-width:{place(width * Fraction(4, 5))}px">'
         f'<title id="{name}-title">{escape(title)}</title>'
         f'<desc id="{name}-desc">{escape(description)}</desc>{body}</svg>'
     )
@@ -195,12 +196,12 @@ def standalone(play: Play, heading: str) -> str:
     made = [text_at(left, y, heading, "heading")]
     drawn = matrices(play)
     width = max([matrix.width for matrix in drawn] + [len(heading) * Fraction(42, 5)])
-    x, y = left, y + 16
+    x, y = Fraction(left), y + 16
     for outcome in used_outcomes(play):
         name = play.setting.outcomes[outcome]
         wide = 26 + 8 + len(name) * CHAR + 18
         if x > left and x + wide > left + width:
-            x, y = left, y + 26
+            x, y = Fraction(left), y + 26
         made.append(bar_key(x, y, outcome) + text_at(x + 34, y + 14, name))
         x += wide
     y += 40

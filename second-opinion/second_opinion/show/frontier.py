@@ -69,7 +69,7 @@ class Chart:
         self.low = (min(revenues), min(welfares))
         self.span = [(max(each) - min(each)) or Fraction(1) for each in (revenues, welfares)]
         longest = max(len(self.words(point)) for point in points)
-        self.width = max(LEFT + SIDE + 12 + longest * CHAR, LEFT + len(AXES) * CHAR)
+        self.width = LEFT + max(SIDE + 12 + longest * CHAR, len(AXES) * CHAR)
         self.height = ROOM + SIDE + BELOW
 
     @staticmethod
@@ -118,9 +118,11 @@ def frontier_page(title: str, lead: str, steps: list[Step]) -> str:
     corners = table("Corners", [("Revenue", True), ("Welfare", True), ("Best by the weights", False)], rules)
     main = section("What can be had", chart + corners)
     main += section("What one costs of the other", "".join(costs))
-    words = "The value of each answer is the most that any rule brings by the weights of its setting. So no rule lies beyond its line."
+    words = "The value of each answer is the most that any rule brings by the weights of its setting. "
+    words += "So no rule lies beyond its line."
     main += section("The answers that show it", paragraph(words) + table("Answers", heads, rows))
-    header = f'<p class="over"><a href="index.html">All pages</a></p>\n<h1>{escape(title)}</h1>\n<p class="lead">{escape(lead)}</p>\n'
+    header = '<p class="over"><a href="index.html">All pages</a></p>\n'
+    header += f'<h1>{escape(title)}</h1>\n<p class="lead">{escape(lead)}</p>\n'
     foot = paragraph(f"Made by <code>second-opinion/gallery</code> from the odds and payments of the answers. {EXACT}")
     return document(escape(title), header, main, foot)
 
@@ -134,7 +136,7 @@ def edge_words(one: Point, other: Point, edge: Step) -> str:
     """What is given for what between two neighbours, and by which weights they bring the same."""
     given, gained = one[0] - other[0], other[1] - one[1]
     return (
-        f"From {html_number(one[0])} to {html_number(other[0])} of revenue, {html_number(given)} of it buys {html_number(gained)} of "
-        f"welfare. By the weights {weight_words(edge.weights)} both bring {html_number(edge.value)}, and no rule brings more: what lies "
-        "between them is had by drawing lots between the two."
+        f"From {html_number(one[0])} to {html_number(other[0])} of revenue, {html_number(given)} of it buys "
+        f"{html_number(gained)} of welfare. By the weights {weight_words(edge.weights)} both bring {html_number(edge.value)}, "
+        "and no rule brings more: what lies between them is had by drawing lots between the two."
     )

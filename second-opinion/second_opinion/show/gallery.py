@@ -12,7 +12,7 @@ from html import escape
 from pathlib import Path
 
 from second_opinion.places import ENDING, EXAMPLES, stored_names
-from second_opinion.setting import read_setting
+from second_opinion.setting import AuctionSetting, read_setting
 from second_opinion.show.frontier import frontier_page, step_of
 from second_opinion.show.kinds import page_of, picture_of, read_answer
 from second_opinion.show.parts import document, paragraph
@@ -22,6 +22,8 @@ Entry = tuple[str, str, str, str, str]  # of the list: a name, a title, a kind, 
 
 PICTURES = {"auction-ironed", "divorce", "two-goods"}  # the examples whose lotteries or odds are stored as a picture too
 FRONTIER = ("auction-reserve", "compromise-2-1", "compromise-1-1", "compromise-1-3", "compromise-1-4")  # one auction, weighed anew
+# The texts of `threshold` that are stored, each with the page of examples/ that tells of it.
+THRESHOLDS = {"used-car": "used-car", "auction-ironed": "pooled-values", "seats": "seat-prices"}
 FRONTIER_LEAD = "What can be had of revenue and welfare at once, in the auction of two bidders with a reserve price."
 
 
@@ -69,7 +71,7 @@ def index(entries: list[Entry]) -> str:
     words = paragraph(
         "A page for each setting of the examples whose answer is stored: its lotteries as bars, its payments, what "
         "each type gets, and the conditions that hold with equality; or of an auction its odds and payments by value, "
-        "its virtual values, and the sets of values that bind."
+        "its virtual values, and the sets of values that bind; or who wins where only winners pay, and what they pay."
     )
     foot = paragraph("Made by <code>second-opinion/gallery</code>. All numbers are exact.")
     heading = "Settings and their answers"
@@ -81,8 +83,24 @@ def frontier() -> str:
     steps = []
     for name in FRONTIER:
         setting = read_setting((EXAMPLES / f"{name}.toml").read_bytes())
+        assert isinstance(setting, AuctionSetting), name
         steps.append(step_of(name, setting, read_answer((EXAMPLES / (name + ENDING)).read_bytes(), setting)))
     return frontier_page(title_of("frontier"), FRONTIER_LEAD, steps)
+
+
+def page_about(name: str, stored: str, told: str, entries: list[Entry]) -> dict[str, str]:
+    """The texts about a stored answer to a setting, by their names; `told` names the page of examples/ about it. The page is added to
+    the list of all."""
+    data = (EXAMPLES / f"{name}.toml").read_bytes()
+    setting = read_setting(data)
+    answer = read_answer((EXAMPLES / stored).read_bytes(), setting)
+    title, own = title_of(told), stored.removesuffix(".csv").removesuffix("-answer")
+    files = [file_link(f"{name}.toml"), file_link(stored)]
+    page = page_of(setting, answer, title, files, lead_of(told, remark(data)), "index.html")
+    value = f" of the value {html_number(page.value())}" if page.value() is not None else ""
+    entries.append((own, title, page.kind(), value, remark(data)))
+    made = {f"{own}.html": page.html()}
+    return made | ({f"{own}.svg": picture_of(setting, answer, title)} if own in PICTURES else {})
 
 
 def pages() -> dict[str, str]:
@@ -90,18 +108,9 @@ def pages() -> dict[str, str]:
     made, entries = {"frontier.html": frontier()}, []
     entries.append(("frontier", title_of("frontier"), "the corners of a frontier", "", FRONTIER_LEAD))
     for name in stored_names():
-        path = EXAMPLES / (name + ENDING)
-        data = (EXAMPLES / f"{name}.toml").read_bytes()
-        setting = read_setting(data)
-        answer = read_answer(path.read_bytes(), setting)
-        title = title_of(name)
-        files = [file_link(f"{name}.toml"), file_link(path.name)]
-        page = page_of(setting, answer, title, files, lead_of(name, remark(data)), "index.html")
-        made[f"{name}.html"] = page.html()
-        value = f" of the value {html_number(page.value())}" if page.value() is not None else ""
-        entries.append((name, title, page.kind(), value, remark(data)))
-        if name in PICTURES:
-            made[f"{name}.svg"] = picture_of(setting, answer, title)
+        made |= page_about(name, name + ENDING, name, entries)
+    for name, told in THRESHOLDS.items():
+        made |= page_about(name, f"{name}-threshold.csv", told, entries)
     made["index.html"] = index(entries)
     return made
 

@@ -13,13 +13,13 @@ EXACT = (
     "All whole numbers and fractions are exact. A decimal number with two dots behind it is rounded toward 0; nothing else is "
     "rounded but the coordinates of the pictures."
 )
-LARGE = 2  # how many times as large the main picture of a page is, where the page is wide enough
 
 
 class Drawing(Protocol):
     """A picture that knows how wide it is."""
 
-    width: Number
+    @property
+    def width(self) -> Number: ...
 
     def svg(self, name: str) -> str: ...
 
@@ -52,18 +52,21 @@ def alert(strong: str, words: str) -> str:
 
 
 def large_figure(caption: str, drawn: Drawing, name: str, label: str) -> str:
-    """The same in a size that can be read from afar: it fills the page as far as it can."""
-    return figure(caption, drawn, name, label, LARGE)
+    """A picture that can be read from afar: as wide as the page, and no taller than a screen."""
+    return sized_figure(caption, drawn, name, label, 'class="large"')
 
 
-def figure(caption: str, drawn: Drawing, name: str, label: str, times: int = 1) -> str:
-    """A picture that scrolls where it is wider than the page. Its caption is no wider than it is."""
-    wide = times * max(NARROWEST, int(drawn.width) + 2)
-    classes = ' class="large"' if times > 1 else ""
-    scroll = f' role="region" tabindex="0" aria-label="{escape(label)}"' if wide > times * ANY_PAGE else ""
+def figure(caption: str, drawn: Drawing, name: str, label: str) -> str:
+    """A picture in its own size. Its caption is no wider than it is."""
+    return sized_figure(caption, drawn, name, label, f'style="width:{max(NARROWEST, int(drawn.width) + 2)}px"')
+
+
+def sized_figure(caption: str, drawn: Drawing, name: str, label: str, size: str) -> str:
+    """A picture that scrolls where it is wider than the page."""
+    scroll = f' role="region" tabindex="0" aria-label="{escape(label)}"' if int(drawn.width) + 2 > ANY_PAGE else ""
     caption = f"<figcaption>{escape(caption)}</figcaption>\n" if caption else ""
     picture = f'<div class="scroll"{scroll}>\n{drawn.svg(name)}\n</div>\n'
-    return f'<figure{classes} style="width:{wide}px">\n{caption}{picture}</figure>\n'
+    return f"<figure {size}>\n{caption}{picture}</figure>\n"
 
 
 def hidden(definitions: str) -> str:

@@ -61,7 +61,7 @@ def drawing_style() -> str:
         ".arrow.some,.ring.some{stroke-dasharray:5 3}.point{fill:var(--link)}.node{fill:var(--panel);stroke:var(--ink)}"
         ".ring{fill:none;stroke:var(--link);stroke-width:1.5}"
         ".frame{fill:var(--panel);stroke:var(--soft);stroke-width:1}.edge.thick{stroke-width:3}"
-        ".bracket{fill:none;stroke:var(--ink);stroke-width:1.5}"
+        ".axis,.bracket{fill:none;stroke:var(--ink);stroke-width:1.5}"
         ".across{fill:none;stroke:var(--ink);stroke-width:3;stroke-dasharray:6 2}"
         "svg .agent{font-weight:700}svg .heading{font-size:14px;font-weight:700}"
         "svg .letter{font-weight:700;stroke-width:4px;stroke-linejoin:round;paint-order:stroke}"
@@ -120,8 +120,8 @@ td.num{font-family:ui-monospace,SFMono-Regular,Menlo,Consolas,"DejaVu Sans Mono"
 figure{margin:.6rem 0}
 figcaption{font-weight:600;margin-bottom:.3rem}
 .picture{display:block;max-width:100%;height:auto}
-figure.large{max-width:100%}
-.large .picture{width:100%}
+.large,.large .picture{width:100%}
+.large .picture{max-height:85vh}
 .legend{list-style:none;display:flex;flex-wrap:wrap;gap:.3rem 1.2rem;padding:0;margin:.6rem 0}
 .legend li{display:flex;align-items:flex-start;gap:.45rem;overflow-wrap:anywhere}
 .swatch{flex:none}

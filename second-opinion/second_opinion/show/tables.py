@@ -37,8 +37,8 @@ def table(caption: str, heads: Sequence[ColumnHead], rows: Sequence[Sequence[Cel
     it; a third word stands above those that share it. A row is a list of cells: texts of HTML, or pairs of a text and a
     class; those of `Head` name the row."""
     body = "".join("<tr>" + "".join(map(cell, row)) + "</tr>\n" for row in rows)
-    classes = ["short"] * (len(rows) <= SHORT) + ["many"] * (len(heads) > MANY)
-    classes = f' class="{" ".join(classes)}"' if classes else ""
+    names = ["short"] * (len(rows) <= SHORT) + ["many"] * (len(heads) > MANY)
+    classes = f' class="{" ".join(names)}"' if names else ""
     soft = f' <span class="soft">{note}</span>' if note else ""
     return (
         f'<div class="scroll" role="region" tabindex="0" aria-label="{caption}">\n<table{classes}>\n'
@@ -226,6 +226,6 @@ def value_table(setting: GeneralSetting, play: Play) -> str:
 def multiplier_text(multipliers: Pair, bound: int) -> str:
     """A pair of multipliers as text: the main one over its denominator, and the face one before it where it counts."""
     face, main = multipliers
-    main = number(Fraction(main, bound))
-    text = f"{number(face)} (face), {main}" if face else main
+    price = number(Fraction(main, bound))
+    text = f"{number(face)} (face), {price}" if face else price
     return text if len(text) <= UNBROKEN else text.replace("/", "/<wbr>")

@@ -188,10 +188,10 @@ def condition_words(setting: GeneralSetting, row: Condition) -> str:
 
 def place_words(setting: GeneralSetting, place: Place) -> str:
     """A chance or a payment of the linear program, as a word of an inequality."""
-    profile = setting.profile_name(place[0])
+    profile, last = setting.profile_name(place[0]), place[-1]
     if len(place) == 3:
-        return f"pay({setting.agents[place[2]].name}, {profile})"
-    return f"chance({setting.outcomes[place[1]]}, {profile})"
+        return f"pay({setting.agents[last].name}, {profile})"
+    return f"chance({setting.outcomes[last]}, {profile})"
 
 
 def inequality(setting: GeneralSetting, terms: dict[Place, int], right: int, exact: bool) -> str:

@@ -5,9 +5,4 @@ use Rattle.md_cli_words.specs.Forms.{with_place}
 use Rattle.md_cli_words.proofs.form.with_draws.Goals as goal
 
 pub returns : goal.returns
-returns c =
-    IfOk-weaker c.with_place-3.result _ _
-    (λ more h.
-    h ∙ ap (λ (a : App). with_place a (codes "second_draw"))
-    (c.in_ok-first.ensures ∙ ap (λ (a : App). with_place a (codes "first_draw")) c.in_ok-profile.ensures))
-    c.with_place-3.ensures
+returns c = IfOk-weaker c.with_place.result _ _ (λ more h. h ∙ ap (λ (a : App). with_place a (codes "second_draw")) c.in_ok-first.ensures) c.with_place.ensures

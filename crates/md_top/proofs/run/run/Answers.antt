@@ -27,6 +27,20 @@ returns-in-Units g c =
     let fits : FitsSigned w128 number = search rules in
     rw c.in-Units.is (rw (to_z-of_z w128 number fits) at (c.sell_units.ensures c.args.order.now.second.now))
 
+pub returns-in-Threshold : goal.returns-in-Threshold
+returns-in-Threshold g c =
+    let number = c.args.order.now.number in
+    let fits : FitsSigned w128 number = search rules in
+    rw c.in-Threshold.is (rw (to_z-of_z w128 number fits) at (c.sell_to_winners.ensures c.args.order.now.second.now))
+
+pub returns-in-Award : goal.returns-in-Award
+returns-in-Award g c =
+    let number = c.args.order.now.number in
+    let draw = c.args.order.now.first_draw in
+    let fits : FitsSigned w128 number = search rules in
+    let draw_fits : FitsSigned w128 draw = search rules in
+    rw c.in-Award.is (rw (to_z-of_z w128 number fits, to_z-of_z w128 draw draw_fits) at (c.award.ensures c.args.order.now.second.now))
+
 pub returns-in-Determ : goal.returns-in-Determ
 returns-in-Determ g c = rw c.in-Determ.is (c.of_one-in-Determ.ensures c.args.order.now.second.now)
 

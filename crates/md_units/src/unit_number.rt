@@ -1,7 +1,6 @@
 //! Numbers of units.
 ghost use Rattle.std.specs.Prelude.{◌≡◌, true, false, unsigned_abs, MatchOption};
-ghost use Rattle.md_units.specs.Numbers.{IsUnitNumber};
-ghost use Rattle.md_cli_best.specs.UnitNumbers.{is_unit_number};
+ghost use Rattle.md_units.specs.Numbers.{IsUnitNumber, is_unit_number};
 
 use std::marker::Model;
 

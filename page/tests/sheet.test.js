@@ -1,0 +1,48 @@
+import assert from "node:assert/strict";
+import { spawnSync } from "node:child_process";
+import { fileURLToPath } from "node:url";
+import { test } from "node:test";
+import { Script } from "node:vm";
+
+import { COMMANDS, FIELDS } from "../commands.js";
+
+const folder = fileURLToPath(new URL("../", import.meta.url));
+const CODE = "import sheet; import sys; sys.stdout.buffer.write(sheet.page(b'module', 'the worker').encode())";
+
+/** The page as sheet.py writes it, with no module in it, or null where there is no Python. */
+function written(seed) {
+  const env = { ...process.env, PYTHONPATH: folder, PYTHONDONTWRITEBYTECODE: "1", PYTHONHASHSEED: seed };
+  const { error, status, stdout } = spawnSync("python3", ["-c", CODE], { env, encoding: "utf8", maxBuffer: 1 << 26 });
+  assert.ok(error || status === 0);
+  return error ? null : stdout;
+}
+
+const page = written("1");
+
+/** The content of an element of the page with an id. */
+const contentOf = (id) => new RegExp(`<script [^>]*id="${id}">\\n?(.*?)\\n?</script>`, "s").exec(page)[1];
+
+test("the page is the same each time that it is written", { skip: page === null }, () => {
+  assert.equal(written("2"), page);
+  assert.ok(!page.includes("{{"));
+  assert.equal(contentOf("worker"), "the worker");
+});
+
+test("all scripts together are one script", { skip: page === null }, () => {
+  const [, script] = /<script type="module">\n(.*?)\n<\/script>/s.exec(page);
+  assert.ok(new Script(script));
+  assert.ok(!/^(import|export) /m.test(script));
+});
+
+test("each setting of the menu has a title and a question, and asks a command", { skip: page === null }, () => {
+  const { words, gallery } = JSON.parse(contentOf("contents"));
+  assert.ok(words.includes("solve") && gallery.length > 30);
+  assert.equal(new Set(gallery.map(({ title }) => title)).size, gallery.length);
+  for (const { name, title, question, asks } of gallery) {
+    const { ask, ...fields } = asks;
+    assert.ok(title && title !== name, name);
+    assert.match(question, /\?$/, name);
+    assert.ok(COMMANDS.some(({ word }) => word === ask), name);
+    assert.ok(Object.keys(fields).every((field) => field in FIELDS), name);
+  }
+});

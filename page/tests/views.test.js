@@ -1,0 +1,113 @@
+import assert from "node:assert/strict";
+import { test } from "node:test";
+
+import { cellsOfTables, picturesOf } from "./elements.js";
+import { answerView, asymView, determView, findView, unitsView } from "../answers.js";
+import { awardView, thresholdView } from "../awards.js";
+import { recordsOf } from "../records.js";
+import { readSetting } from "../setting.js";
+import { checkView, determCheckView, fairCheckView, reportView, runView } from "../views.js";
+
+const AUCTION = readSetting("kind = 'auction'\nbidders = 2\nvalues = [1, 3]\nweights = [1, 1]\n");
+const SALE = readSetting(
+  "outcomes = ['keep', 'a', 'b']\n[[agent]]\nname = 'x'\ntypes = ['l', 'h']\nweights = [1, 2]\n[[agent]]\nname = 'y'\ntypes = ['m']\nweights = [3]\n",
+  true,
+);
+
+test("an optimal answer of a general setting tells its value, and the chances in words", () => {
+  const setting = readSetting("outcomes = ['keep', 'sell']\npayments = true\n[[agent]]\nname = 'buyer'\ntypes = ['low', 'high']\nweights = [1, 1]\n");
+  const text = "answer,1,general,optimal\nvalue,3,2\ntable,1\nlottery,low,1,0\nlottery,high,0,1\npay,low,0\npay,high,3\nbound,2\nrow,1,0,1\nend\n";
+  const view = answerView(recordsOf(text), { setting, names: ["first", "second"] });
+  assert.equal(view.large, "Value 3/2 = 1 + 1/2");
+  assert.equal(view.kind, "good");
+  assert.deepEqual(picturesOf(view), ["buyer low: keep 1. buyer high: sell 1."]);
+  assert.deepEqual(cellsOfTables(view), [[["low", "0"], ["high", "3"]], [["1", "second", "1/2"]]]);
+});
+
+test("where there is no answer, the view says so", () => {
+  assert.equal(findView(recordsOf("undecided\n"), { setting: AUCTION }).large, "Undecided");
+  assert.equal(answerView(recordsOf("answer,1,general,infeasible\nrow,0,1\nend\n"), { setting: AUCTION }).large, "No rule");
+});
+
+test("units that nobody gets are kept", () => {
+  // Three units at a profile with one bidder of each value, of weight 2: the higher value gets one always, the lower one half the time.
+  const text = "answer,1,units,optimal\nvalue,1,1\ninterim,4\nodds,2,4\npays,2,8\nmass,1,1,4,8\nend\n";
+  const [odds, masses] = cellsOfTables(unitsView(recordsOf(text), { setting: AUCTION, values: { units: "3" } }));
+  assert.deepEqual(odds, [["1", "1", "1/2", "1/2", "1"], ["3", "1", "1", "2", "2"]]);
+  assert.deepEqual(masses, [["1 with 1, 1 with 3", "1: 1/2, 3: 1", "3/2"]]);
+});
+
+test("a sale is shown by bidder, and by what all report", () => {
+  // The weights of the profiles are 3 and 6. At l the item goes to y one time in three, at h to x always.
+  const text = "answer,1,asym,optimal\nvalue,5,1\ninterim,3\nodds,x,0,3\nodds,y,1\npays,x,0,6\npays,y,2\nmass,l,m,0,3\nmass,h,m,18,0\ncut,4\nbound,2\nrow,0,0,3\nrow,4,0,1\nrow,5,0,1\nend\n";
+  const view = asymView(recordsOf(text), { setting: SALE });
+  const [first, second, sales, multipliers] = cellsOfTables(view);
+  assert.deepEqual(first, [["l", "0", "0", ""], ["h", "1", "2", "2"]]);
+  assert.deepEqual(second, [["m", "1/3", "2/3", "2"]]);
+  assert.deepEqual(sales, [["l", "m", "0", "1/3", "2/3"], ["h", "m", "1", "0", "0"]]);
+  assert.deepEqual(multipliers, [["0", "truth/x/l/h", "3/2"], ["4", "rational/y/m", "1/2"], ["5", "cut/4", "1/2"]]);
+});
+
+test("the rule of a search tree is shown without those of its leaves", () => {
+  const setting = readSetting("outcomes = ['a', 'b']\n[[agent]]\nname = 'x'\ntypes = ['t']\nweights = [1]\n");
+  const text = "answer,1,determ,optimal\nvalue,4,1\ntable,1\nlottery,t,0,1\nbranch,0\nleaf,infeasible\nrow,0,1\n" +
+    "leaf,optimal\ntable,1\nlottery,t,1,0\nbound,1\nrow,0,0,1\nend\n";
+  const view = determView(recordsOf(text), { setting });
+  assert.deepEqual(picturesOf(view), ["x t: b 1."]);
+  assert.ok(view.content.at(-1).textContent.includes("1 branch and 2 leaves"));
+});
+
+test("an award says who wins, what winners pay, and who shares", () => {
+  const values = { units: "2", profile: "6,3,3,2" };
+  const text = "chance,1,1,1\nchance,2,1,2\nchance,3,1,2\nchance,4,0,1\nprice,1,5,2\nprice,2,2,1\nprice,3,2,1\nwins,1\nwins,3\nend\n";
+  const view = awardView(recordsOf(text), { values });
+  assert.equal(view.large, "Bidders 1 and 3 win");
+  assert.equal(view.words, "Losers pay nothing. Bidders 2 and 3 share what is left for them: the draw, from 0 to 1, decides.");
+  assert.deepEqual(cellsOfTables(view)[0], [
+    ["Bidder 1", "6", "yes", "5/2", "1"],
+    ["Bidder 2", "3", "no", "0", "1/2"],
+    ["Bidder 3", "3", "yes", "2", "1/2"],
+    ["Bidder 4", "2", "no", "0", "0"],
+  ]);
+  assert.deepEqual(picturesOf(view), ["Bidder 1: 6, pays 5/2. Bidder 2: 3. Bidder 3: 3, pays 2. Bidder 4: 2."]);
+});
+
+test("an award of one winner names it with its price, and one of nobody says why", () => {
+  const one = recordsOf("chance,1,0,1\nchance,2,1,1\nprice,2,3,1\nwins,2\nend\n");
+  assert.equal(awardView(one, { values: { units: "1", profile: "1,5" } }).large, "Bidder 2 wins and pays 3");
+  const none = awardView(recordsOf("chance,1,0,1\nend\n"), { values: { units: "1", profile: "1" } });
+  assert.deepEqual([none.large, none.words], ["Nobody wins", "No bid reaches the reserve price, and nobody pays anything."]);
+});
+
+test("prices are told by pools", () => {
+  const text = "threshold,1\nunits,1\nvalue,3,1\nrevenue,3,1\nwelfare,4,1\nreserve,2\npool,2,3\npool,6,6\n" +
+    "price,0,none,0,2,1\nprice,0,0,1,2,1\nprice,1,none,0,2,1\nprice,1,0,1,4,1\nprice,1,1,1,6,1\nend\n";
+  const view = thresholdView(recordsOf(text), { values: { units: "1" } });
+  assert.equal(view.large, "Value 3");
+  assert.ok(view.words.startsWith("No bid below 2 wins: that is the reserve price."));
+  assert.equal(view.content[0].textContent, "Treated alike: 2 to 3.");
+  assert.deepEqual(picturesOf(view), ["none: 2. 2 to 3: 4. 6: 6."]);
+  assert.deepEqual(cellsOfTables(view)[0], [
+    ["2 to 3", "nobody reaches the reserve", "2"],
+    ["2 to 3", "2 to 3: 1 of them", "2"],
+    ["6", "nobody reaches the reserve", "2"],
+    ["6", "2 to 3: 1 of them", "4"],
+    ["6", "6: 1 of them", "6"],
+  ]);
+});
+
+test("each checker has its own reasons", () => {
+  const rejected = recordsOf("rejected,11,2\n");
+  assert.ok(determCheckView(rejected).words.includes("not on one outcome"));
+  assert.ok(fairCheckView(rejected).words.includes("level"));
+  assert.ok(checkView(recordsOf("rejected,2,3,2\n")).words.includes("another one than the mechanism's"));
+  assert.equal(checkView(recordsOf("valid\n")).kind, "good");
+});
+
+test("a report tells what is broken, and a run who has the item", () => {
+  const text = "value,2,1\nrevenue,2,1\nwelfare,3,2\ntype,buyer,low,0,1,0,1\ngain,buyer,high,low,high,1,1\nloss,buyer,high,0,1\nend\n";
+  const [types, worst] = cellsOfTables(reportView(recordsOf(text)));
+  assert.deepEqual(types, [["buyer: low", "0", "0"]]);
+  assert.deepEqual(worst.map((row) => row.slice(2)), [["1", "broken"], ["0", "met"]]);
+  assert.equal(runView(recordsOf("outcome,2\npays,10,15,33\n"), { setting: AUCTION }).large, "Bidder 2");
+});
