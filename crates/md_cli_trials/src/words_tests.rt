@@ -10,7 +10,7 @@ const READ: &str = "mechdes: read fault\n";
 
 // Words, the status, and what is said. Words that are a command over files say that these could not be read, since no file has
 // their names.
-static WORDS: [(&[&str], u8, &str); 86] = [
+static WORDS: [(&[&str], u8, &str); 70] = [
     (&["make", "1000000"], 67, NUMBER),
     (&["drill", "1000000"], 67, NUMBER),
     (&["make", "--", "-1"], 67, NUMBER),
@@ -92,7 +92,10 @@ static WORDS: [(&[&str], u8, &str); 86] = [
     (&["solve"], 64, USAGE),
     (&["find"], 64, USAGE),
     (&["findfair"], 64, USAGE),
-    // Widths of 4 to 62 bits, once, where a path is taken.
+];
+
+// Widths of 4 to 62 bits, once, where a path is taken.
+static WIDTHS: [(&[&str], u8, &str); 16] = [
     (&["solve", "--width=61", "a"], 70, READ),
     (&["replay", "a", "--width", "62", "b"], 70, READ),
     (&["fair", "a", "--width", "63"], 64, USAGE),
@@ -115,6 +118,18 @@ static WORDS: [(&[&str], u8, &str); 86] = [
 fn other_words_are_refused(rt: HostRuntime) -> Result<(), Fail> {
     let alloc = rt.alloc();
     for (texts, status, said) in &WORDS {
+        let reply = carried_out(alloc, texts, "", b"")?;
+        assert_eq!(rt; reply.status, *status, "at {texts:?}");
+        assert!(rt; reply.out.bytes().is_empty(), "at {texts:?}");
+        assert!(rt; reply.err.bytes() == said.as_bytes(), "at {texts:?}");
+    }
+    Ok(())
+}
+
+#[test]
+fn other_widths_are_refused(rt: HostRuntime) -> Result<(), Fail> {
+    let alloc = rt.alloc();
+    for (texts, status, said) in &WIDTHS {
         let reply = carried_out(alloc, texts, "", b"")?;
         assert_eq!(rt; reply.status, *status, "at {texts:?}");
         assert!(rt; reply.out.bytes().is_empty(), "at {texts:?}");
