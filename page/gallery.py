@@ -8,7 +8,7 @@ HERE = pathlib.Path(__file__).resolve().parent
 EXAMPLES = HERE.parent / "examples"
 
 # Second files that commands of the page print themselves.
-PRINTED = ("-answer", "-found", "-fairest", "-rule")
+PRINTED = ("-answer", "-found", "-fairest", "-rule", "-threshold")
 
 # Titles of settings that have no page of their own.
 TITLES = {
