@@ -38,9 +38,11 @@ int main(int count, char **words)
     static char text[1 << 12];
     struct bytes files[2] = {{(uint8_t *)"", 0}, {(uint8_t *)"", 0}};
     struct mechdes_counts counts;
-    /* The files of each command come behind its word: at most two, behind `units` one, behind `make` and `drill` none. */
-    int with_files = count > 1 && strcmp(words[1], "make") != 0 && strcmp(words[1], "drill") != 0;
-    int last_file = count > 1 && strcmp(words[1], "units") == 0 ? 2 : 3;
+    /* The files of each command come behind its word: at most two, one where a number of units follows, none behind `make` and `drill`. */
+    const char *command = count > 1 ? words[1] : "";
+    int with_files = strcmp(command, "make") != 0 && strcmp(command, "drill") != 0;
+    int with_units = strcmp(command, "units") == 0 || strcmp(command, "threshold") == 0 || strcmp(command, "award") == 0;
+    int last_file = with_units ? 2 : 3;
     for (int k = 1; k < count; k++) {
         int is_file = with_files && k >= 2 && k <= last_file && words[k][0] != '-';
         if (is_file)
