@@ -61,15 +61,18 @@ export function answerView(records, { setting, names = [] }) {
 }
 
 /** A view of an answer, or of the words that tell why there is none. */
-function answerOr(words) {
+function answerOr(words, viewOfAnswer = answerView) {
   return (records, context) =>
-    firstWith(records, "answer") ? answerView(records, context) : view(verdict("Undecided", words));
+    firstWith(records, "answer") ? viewOfAnswer(records, context) : view(verdict("Undecided", words));
 }
 
+const TOO_LONG = "The multipliers that show the best rule to be best need more than 62 bits, so that nothing is answered.";
+
 /** What `iron` prints: an answer, or that the multipliers that show its rule to be best are too long. */
-export const ironView = answerOr(
-  "The multipliers that show the best rule to be best need more than 62 bits, so that nothing is answered.",
-);
+export const ironView = answerOr(TOO_LONG);
+
+/** The same of `ironunits`. */
+export const ironUnitsView = answerOr(TOO_LONG, unitsView);
 
 /** What `find` and `findfair` print: an answer, or that none was found. */
 export const findView = answerOr(

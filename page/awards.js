@@ -111,8 +111,9 @@ function wordsFor(winners, bidders) {
 async function certificate({ call, values, namesFor }) {
   const isOne = values.units === "1";
   const prices = await call(["threshold", "setting", values.units]);
-  const answer = await call(isOne ? ["iron", "setting"] : ["units", "setting", values.units]);
-  const checked = isOne && answer.status === 0 ? await call(["check", "setting", "second"], answer.out) : null;
+  const answer = await call(isOne ? ["iron", "setting"] : ["ironunits", "setting", values.units]);
+  const check = isOne ? ["check", "setting", "second"] : ["unitcheck", "setting", values.units, "second"];
+  const checked = answer.status === 0 ? await call(check, answer.out) : null;
   const records = recordsOf(prices.out);
   const parts = [prices.status === 0 && paragraph(`${reserveWords(records)} ${valueText(fractionWith(records, "value"))}.`)];
   if (answer.status !== 0) {

@@ -1,10 +1,11 @@
 // The commands of the page, each in one entry: a further command of the program wants one more entry here, and a `view` only where its
 // text should be shown as more than text.
 
-import { answerView, asymView, determView, findView, ironView, unitsView } from "./answers.js";
+import { answerView, asymView, determView, findView, ironUnitsView, ironView, unitsView } from "./answers.js";
 import { awardView, thresholdView } from "./awards.js";
 import { rangeOfAward, rangeOfFirst, rangeOfSecond } from "./draws.js";
 import {
+  asymCheckView,
   auditView,
   checkView,
   determCheckView,
@@ -16,6 +17,7 @@ import {
   reportView,
   rowsView,
   runView,
+  unitCheckView,
 } from "./views.js";
 
 /** What commands are for, in the order in which they are offered. */
@@ -26,6 +28,8 @@ export const SECONDS = {
   answer: { label: "Answer", file: "answer.csv", hint: "What solve, find or iron printed, or a mechanism of your own" },
   fairest: { label: "Answer", file: "fairest.csv", hint: "What fair or findfair printed" },
   rule: { label: "Answer", file: "rule.csv", hint: "What determ printed" },
+  sale: { label: "Answer", file: "sale.csv", hint: "What asym printed" },
+  units: { label: "Answer", file: "units.csv", hint: "What units or ironunits printed for so many units" },
   pivots: { label: "Pivots", file: "pivots.csv", hint: "Records pivot,ROW,COLUMN and then end" },
   odds: { label: "Odds", file: "odds.csv", hint: "interim,DEN, then odds with a number for each value, then end" },
 };
@@ -103,6 +107,17 @@ export const COMMANDS = [
     fields: ["units", "width"],
     view: unitsView,
     makes: "units",
+    tooWide: ["ironunits", "threshold"],
+  },
+  {
+    word: "ironunits",
+    group: "find",
+    asks: "Which auction of several units is best, by virtual values? Also where the numbers of units grow too wide.",
+    button: "Sell the units in closed form",
+    kind: "auction",
+    fields: ["units"],
+    view: ironUnitsView,
+    makes: "units",
     tooWide: ["threshold"],
   },
   {
@@ -171,6 +186,28 @@ export const COMMANDS = [
     second: "fairest",
     fields: [],
     view: fairCheckView,
+  },
+  {
+    word: "asymcheck",
+    group: "judge",
+    asks: "Is what an answer about bidders who differ claims so?",
+    button: "Check",
+    next: "Check this answer",
+    kind: "sale",
+    second: "sale",
+    fields: [],
+    view: asymCheckView,
+  },
+  {
+    word: "unitcheck",
+    group: "judge",
+    asks: "Is what an answer about several units claims so?",
+    button: "Check",
+    next: "Check this answer",
+    kind: "auction",
+    second: "units",
+    fields: ["units"],
+    view: unitCheckView,
   },
   {
     word: "determcheck",
@@ -305,16 +342,23 @@ function follows({ word, second, follows: kind = second, isOfMechanism }, { make
   return kind !== undefined && kind === makes && DONE.includes(status) && !(isOfMechanism && status === NONE);
 }
 
-/** The words of a call, as they would stand behind the program's name. */
-export function wordsOf(command, values) {
-  const files = [...(command.takesNoSetting ? [] : ["setting"]), ...(command.second ? ["second"] : [])];
-  const further = command.fields.flatMap((field) => {
+/** The words of a call, as they would stand behind the program's name. How many units there are stands before a second file. */
+export function wordsOf({ word, second, fields, takesNoSetting }, values) {
+  const given = (field) => {
     if (!FIELDS[field].isOption) {
       return [values[field]];
     }
     return values[field] === "" ? [] : [`--${field}`, values[field]];
-  });
-  return [command.word, ...files, ...further];
+  };
+  const units = fields.filter((field) => field === "units");
+  const others = fields.filter((field) => field !== "units");
+  return [
+    word,
+    ...(takesNoSetting ? [] : ["setting"]),
+    ...units.flatMap(given),
+    ...(second ? ["second"] : []),
+    ...others.flatMap(given),
+  ];
 }
 
 /** How a file that a command printed is called, after the name of its setting. */

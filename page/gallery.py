@@ -52,7 +52,7 @@ QUESTIONS = {
 ASKS = {"fair-split": {"ask": "fair"}}
 
 # Names of the further words of commands, in their order, as the page has them.
-FIELDS = {"units": ["units"], "threshold": ["units"], "award": ["units", "profile", "draw"]}
+FIELDS = {"units": ["units"], "ironunits": ["units"], "threshold": ["units"], "award": ["units", "profile", "draw"]}
 
 
 def pages(name):
@@ -98,7 +98,7 @@ def kind_of(text):
     """Which second file of a command a text is, or None."""
     word, *fields = text.split("\n")[0].split(",")
     if word == "answer":
-        return {"fair": "fairest", "determ": "rule"}.get(fields[1], "answer")
+        return {"fair": "fairest", "determ": "rule", "asym": "sale", "units": "units"}.get(fields[1], "answer")
     return {"pivot": "pivots", "cut": "pivots", "interim": "odds"}.get(word)
 
 

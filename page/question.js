@@ -30,7 +30,7 @@ export class Question {
     const groups = Object.entries(GROUPS).map(([group, title]) => {
       const choices = this.offered.filter((command) => command.group === group).map((command) => this.choiceOf(command));
       const id = `group-${group}`;
-      return make("div", { class: "group", role: "group", "aria-labelledby": id }, make("span", { class: "soft", id }, title), choices);
+      return make("div", { class: "group", role: "group", "aria-labelledby": id }, make("span", { class: "soft", id }, title), make("div", { class: "choices" }, choices));
     });
     byId("commands").append(...groups);
   }

@@ -61,6 +61,12 @@ export const checkView = checking({});
 /** What `faircheck` prints. */
 export const fairCheckView = checking({ 11: "the level of the mechanism has more than 62 bits" });
 
+/** What `asymcheck` prints. */
+export const asymCheckView = checking({ 9: "the masses of a type do not make its odds" });
+
+/** What `unitcheck` prints. */
+export const unitCheckView = checking({});
+
 /** What `determcheck` prints. */
 export const determCheckView = checking({
   11: "the lottery at a profile is not on one outcome",

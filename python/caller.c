@@ -38,15 +38,17 @@ int main(int count, char **words)
     static char text[1 << 12];
     struct bytes files[2] = {{(uint8_t *)"", 0}, {(uint8_t *)"", 0}};
     struct mechdes_counts counts;
-    /* The files of each command come behind its word: at most two, one where a number of units follows, none behind `make` and `drill`. */
+    /* The setting comes behind the command's word, but for `make` and `drill`. Then comes the second file: behind a number of units for
+       `unitcheck`, and none where such a number ends the names of files. */
     const char *command = count > 1 ? words[1] : "";
     int with_files = strcmp(command, "make") != 0 && strcmp(command, "drill") != 0;
-    int with_units = strcmp(command, "units") == 0 || strcmp(command, "threshold") == 0 || strcmp(command, "award") == 0;
-    int last_file = with_units ? 2 : 3;
+    int with_units = strcmp(command, "units") == 0 || strcmp(command, "ironunits") == 0 || strcmp(command, "threshold") == 0 ||
+                     strcmp(command, "award") == 0;
+    int second = with_units ? 0 : strcmp(command, "unitcheck") == 0 ? 4 : 3;
     for (int k = 1; k < count; k++) {
-        int is_file = with_files && k >= 2 && k <= last_file && words[k][0] != '-';
+        int is_file = with_files && (k == 2 || k == second) && words[k][0] != '-';
         if (is_file)
-            files[k - 2] = read_file(words[k]);
+            files[k == 2 ? 0 : 1] = read_file(words[k]);
         strcat(text, k == 1 ? "" : "\n");
         strcat(text, is_file ? (k == 2 ? "setting" : "second") : words[k]);
     }

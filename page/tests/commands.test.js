@@ -43,9 +43,9 @@ test("a width that is left empty is left out", () => {
 
 test("commands that do not fit a setting are not offered", () => {
   const left = (setting) => COMMANDS.filter((command) => !fits(command, setting)).map(({ word }) => word);
-  assert.deepEqual(left(general), ["iron", "threshold", "units", "asym", "realise", "award"]);
-  assert.deepEqual(left(sale), ["iron", "threshold", "units", "realise", "award"]);
-  assert.deepEqual(left(auction), ["find", "asym", "determ", "fair", "findfair", "faircheck", "determcheck", "audit"]);
+  assert.deepEqual(left(general), ["iron", "threshold", "units", "ironunits", "asym", "asymcheck", "unitcheck", "realise", "award"]);
+  assert.deepEqual(left(sale), ["iron", "threshold", "units", "ironunits", "unitcheck", "realise", "award"]);
+  assert.deepEqual(left(auction), ["find", "asym", "determ", "fair", "findfair", "faircheck", "asymcheck", "determcheck", "audit"]);
   assert.deepEqual(left(null), []);
 });
 
@@ -56,7 +56,8 @@ test("what may follow an answer, and where numbers grow too wide", () => {
     ["solve", 12, auction, "iron threshold"],
     ["fair", 12, general, "findfair"],
     ["asym", 12, sale, "find"],
-    ["units", 12, auction, "threshold"],
+    ["units", 12, auction, "threshold ironunits"],
+    ["ironunits", 22, auction, "threshold"],
     ["iron", 22, auction, "threshold"],
     ["determ", 12, general, ""],
     ["find", 22, general, ""],
@@ -67,6 +68,9 @@ test("what may follow an answer, and where numbers grow too wide", () => {
     ["solve", 0, auction, "check run report"],
     ["fair", 0, general, "faircheck"],
     ["findfair", 10, general, "faircheck"],
+    ["asym", 0, sale, "asymcheck"],
+    ["units", 0, auction, "unitcheck"],
+    ["ironunits", 0, auction, "unitcheck"],
     ["determ", 0, general, "determcheck"],
     ["threshold", 0, auction, "award"],
     ["solve", 65, general, ""],

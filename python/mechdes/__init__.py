@@ -56,6 +56,7 @@ from .answers import (
 from .commands import (
     AnswerLike,
     asym,
+    asymcheck,
     audit,
     award,
     check,
@@ -68,6 +69,7 @@ from .commands import (
     find,
     find_fair,
     iron,
+    iron_units,
     make,
     read,
     realise,
@@ -77,6 +79,7 @@ from .commands import (
     run,
     solve,
     threshold,
+    unitcheck,
     units,
 )
 from .errors import (
@@ -167,6 +170,7 @@ __all__ = [
     "WordRefused",
     "Worst",
     "asym",
+    "asymcheck",
     "audit",
     "award",
     "call",
@@ -182,6 +186,7 @@ __all__ = [
     "find_fair",
     "frontier",
     "iron",
+    "iron_units",
     "library",
     "library_path",
     "make",
@@ -197,6 +202,7 @@ __all__ = [
     "solve_all",
     "sweep",
     "threshold",
+    "unitcheck",
     "units",
     "use",
 ]

@@ -360,8 +360,8 @@ class TooWide(Answer):
 
 @dataclasses.dataclass(frozen=True, kw_only=True)
 class Undecided(Answer):
-    """`iron`: the multipliers in closed form have more than 62 bits. `find` and `find_fair`: nothing was found, and nothing is said
-    of the setting. The kind is that of the setting."""
+    """`iron`, `iron_units`: the multipliers in closed form have more than 62 bits. `find` and `find_fair`: nothing was found, and
+    nothing is said of the setting. The kind is that of the setting."""
 
     word = "undecided"
     setting: AnySetting = dataclasses.field(repr=False)
@@ -372,7 +372,7 @@ class Undecided(Answer):
 
 @dataclasses.dataclass(frozen=True)
 class Verdict(Printed):
-    """What `check`, `faircheck` or `determcheck` says. It is true exactly where the word is `valid`.
+    """What `check`, `faircheck`, `asymcheck`, `unitcheck` or `determcheck` says. It is true exactly where the word is `valid`.
 
     word       `valid`, `undecided` (the answer claims nothing) or `rejected`
     condition  where rejected, the number of the first condition that fails, as docs/FORMATS.md counts them

@@ -97,7 +97,7 @@ def _printed(expected: set[int], words: Sequence[str], setting: bytes = b"", sec
 
 
 # Those of another command have its name.
-_KINDS = {"solve": ("general", "auction"), "find": ("general",), "findfair": ("fair",), "iron": ("auction",)}
+_KINDS = {"solve": ("general", "auction"), "find": ("general",), "findfair": ("fair",), "iron": ("auction",), "ironunits": ("units",)}
 
 
 def _answered(
@@ -202,6 +202,12 @@ def iron(setting: SettingLike) -> AuctionOptimal | Undecided:
     return _answered(["iron", "setting"], setting, {0, 22}, (AuctionOptimal, Undecided))
 
 
+def iron_units(setting: SettingLike, number: int) -> UnitsOptimal | Undecided:
+    """What `units` finds, in closed form, also where `units` is too wide; or undecided, where its multipliers have more than 62
+    bits. Another number than 1 to 12 raises `WordRefused`."""
+    return _answered(["ironunits", "--", "setting", str(number)], setting, {0, 22}, (UnitsOptimal, Undecided), number)
+
+
 def read(setting: SettingLike, answer: AnswerLike, units: int | None = None) -> Answer:
     """An answer as a value. One that a command gave is given back as it is. `units` is the number that `units` was asked for, which
     its text does not say.
@@ -227,6 +233,19 @@ def check(setting: SettingLike, answer: AnswerLike) -> Verdict:
 def faircheck(setting: SettingLike, answer: AnswerLike) -> Verdict:
     """Whether what an answer of `fair` or `find_fair` claims is so. It uses nothing of the part that searches."""
     words = ["faircheck", "setting", "answer"]
+    return read_verdict(_printed({0, 20, 22}, words, setting_bytes(setting), answer_bytes(setting, answer)))
+
+
+def asymcheck(setting: SettingLike, answer: AnswerLike) -> Verdict:
+    """Whether what an answer of `asym` claims is so. It uses nothing of the part that searches."""
+    words = ["asymcheck", "setting", "answer"]
+    return read_verdict(_printed({0, 20, 22}, words, setting_bytes(setting), answer_bytes(setting, answer)))
+
+
+def unitcheck(setting: SettingLike, number: int, answer: AnswerLike) -> Verdict:
+    """Whether what an answer of `units` about so many units claims is so. It uses nothing of the part that searches. Another number
+    than 1 to 12 raises `WordRefused`."""
+    words = ["unitcheck", "--", "setting", str(number), "answer"]
     return read_verdict(_printed({0, 20, 22}, words, setting_bytes(setting), answer_bytes(setting, answer)))
 
 
@@ -343,8 +362,11 @@ _COMMANDS: tuple[Command, ...] = (
     award,
     determ,
     iron,
+    iron_units,
     check,
     faircheck,
+    asymcheck,
+    unitcheck,
     determcheck,
     audit,
     rows,

@@ -325,7 +325,7 @@ def read_answer(setting: AnySetting, text: str, units: int | None = None) -> Ans
 
 
 def read_verdict(text: str) -> Verdict:
-    """What `check`, `faircheck` or `determcheck` prints."""
+    """What `check`, `faircheck`, `asymcheck`, `unitcheck` or `determcheck` prints."""
     records = Records(text)
     word = records.word()
     if word not in ("valid", "undecided", "rejected"):
@@ -519,11 +519,13 @@ def _worst(records: Records, setting: AnySetting, fields: list[str], is_gain: bo
     return Worst(names[0], names[1], amount, names[2] if is_gain else None, tuple(names[-1].split("+")) if each else None)
 
 
-_ANSWERS = ("solve", "find", "fair", "findfair", "asym", "units", "determ", "iron")
+_ANSWERS = ("solve", "find", "fair", "findfair", "asym", "units", "determ", "iron", "ironunits")
 _OF_SETTINGS: dict[str, Callable[[Any, str], Printed]] = {"realise": read_realised, "run": read_draw, "report": read_report}
 _ALONE: dict[str, Callable[[str], Printed]] = {
     "check": read_verdict,
     "faircheck": read_verdict,
+    "asymcheck": read_verdict,
+    "unitcheck": read_verdict,
     "determcheck": read_verdict,
     "audit": read_audit,
     "rows": read_program,
@@ -538,7 +540,7 @@ def parse(command: str, text: str, setting: SettingLike | None = None, units: in
     """What a command printed, as a value, of which `text()` is the text again.
 
     setting  what the command was asked about, where its text has names or numbers of that
-    units    the number that `units` was asked for
+    units    the number that `units` or `ironunits` was asked for
 
     Raises `UnknownAnswer` for what this package does not know, `AnswerNotRead` where the text is none of the command, and
     `ValueError` where there is no such command or the setting is missing. The text of `make` is a setting: see `read_setting`.

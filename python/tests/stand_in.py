@@ -25,8 +25,10 @@ from second_opinion import (  # noqa: E402
     listing,
     program,
     reporting,
+    sale_checking,
     setting,
     threshold,
+    unit_checking,
 )
 from second_opinion.setting import Refused  # noqa: E402
 
@@ -130,6 +132,8 @@ class SecondOpinion:
         "findfair": find_fair,
         "check": checking.check,
         "faircheck": fair_checking.faircheck,
+        "asymcheck": sale_checking.asymcheck,
+        "unitcheck": unit_checking.unitcheck,
         "rows": listing.rows,
         "report": reporting.report,
         "audit": audit,

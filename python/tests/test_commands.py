@@ -53,7 +53,9 @@ class Solving(unittest.TestCase):
         self.assertEqual(mechdes.determ(example("two-goods")).value, Fraction(7, 3))
         self.assertEqual(mechdes.iron(example("auction-reserve")).value, Fraction(71, 25))
         seats = mechdes.units(example("seats"), 3)
-        self.assertEqual((seats.value, seats.mechanism.units), (Fraction(484, 81), 3))
+        closed = mechdes.iron_units(example("seats"), 3)
+        for found in (seats, closed):
+            self.assertEqual((type(found), found.value, found.mechanism.units), (mechdes.UnitsOptimal, Fraction(484, 81), 3))
 
     @needs_library
     def test_numbers(self) -> None:
@@ -91,6 +93,18 @@ class Checking(unittest.TestCase):
         self.assertTrue(mechdes.faircheck(setting, answer))
         rejected = mechdes.faircheck(setting, answer.replace("value,4,5", "value,1,1"))
         self.assertEqual((bool(rejected), rejected.condition, rejected.numbers), (False, 2, (4, 5)))
+
+    def test_the_best_mechanism_of_a_sale_is_checked(self) -> None:
+        setting, answer = example("strong-and-weak"), text("strong-and-weak-by-hand.csv")
+        self.assertTrue(mechdes.asymcheck(setting, answer))
+        rejected = mechdes.asymcheck(setting, answer.replace("mass,v3,v4,2,0", "mass,v3,v4,1,1"))
+        self.assertEqual((bool(rejected), rejected.condition, rejected.numbers), (False, 9, (1, 1, 2)))
+
+    def test_an_answer_about_several_units_is_checked(self) -> None:
+        setting, answer = example("seats"), text("seats-three.csv")
+        self.assertTrue(mechdes.unitcheck(setting, 3, answer))
+        rejected = mechdes.unitcheck(setting, 3, answer.replace("value,484,81", "value,6,1"))
+        self.assertEqual((bool(rejected), rejected.condition, rejected.numbers), (False, 2, (484, 81)))
 
     @needs_library
     def test_the_tree_of_determ_is_checked(self) -> None:
@@ -347,6 +361,7 @@ class Refused(unittest.TestCase):
         self.refuses(mechdes.SettingRefused, 65, "setting refused: not a sale", lambda: mechdes.asym(setting))
         self.refuses(mechdes.WordRefused, 67, "number refused", lambda: mechdes.make(-1))
         self.refuses(mechdes.WordRefused, 67, "number refused", lambda: mechdes.units(example("seats"), 13))
+        self.refuses(mechdes.WordRefused, 67, "number refused", lambda: mechdes.unitcheck(example("seats"), 0, text("seats-three.csv")))
         self.refuses(mechdes.WordRefused, 67, "pivot 1 refused", lambda: mechdes.replay(setting, [(0, 99)]))
         self.refuses(mechdes.UsageRefused, 64, "usage", lambda: mechdes.solve(setting, width=63))
 
@@ -382,7 +397,7 @@ class Wiring(unittest.TestCase):
 
     def test_questions_and_answers(self) -> None:
         auction, sale, goods = (example(name).read_bytes() for name in ("seats", "strong-and-weak", "two-goods"))
-        rule, fairest = text("two-goods-rule.csv"), text("fair-split-fairest.csv")
+        rule, fairest, by_hand = map(text, ("two-goods-rule.csv", "fair-split-fairest.csv", "strong-and-weak-by-hand.csv"))
         wide = "cut,1\nwide,0,0,9,1\nagain\nwide,0,0,9,1\nend\n"
         split, drilled = example("fair-split").read_bytes(), "drill,2,general,optimal,91,4\ncheck,valid\n"
         for status, printed, command, words, kind, question in (
@@ -421,6 +436,7 @@ class Wiring(unittest.TestCase):
                 (["award", "--", "setting", "3", "2,1", "-1"], auction, b""),
             ),
             (22, "undecided\n", mechdes.iron, [auction], mechdes.Undecided, (["iron", "setting"], auction, b"")),
+            (22, "undecided\n", mechdes.iron_units, [auction, 3], mechdes.Undecided, (["ironunits", "--", "setting", "3"], auction, b"")),
             (22, "undecided\n", mechdes.find, [goods], mechdes.Undecided, (["find", "setting"], goods, b"")),
             (22, "undecided\n", mechdes.find_fair, [goods], mechdes.Undecided, (["findfair", "setting"], goods, b"")),
             (0, fairest, mechdes.find_fair, [split], mechdes.Fairest, (["findfair", "setting"], split, b"")),
@@ -431,6 +447,22 @@ class Wiring(unittest.TestCase):
                 [split, fairest],
                 mechdes.Verdict,
                 (["faircheck", "setting", "answer"], split, fairest.encode()),
+            ),
+            (
+                20,
+                "rejected,9,1,1,2\n",
+                mechdes.asymcheck,
+                [sale, by_hand],
+                mechdes.Verdict,
+                (["asymcheck", "setting", "answer"], sale, by_hand.encode()),
+            ),
+            (
+                20,
+                "rejected,9,1,3,4\n",
+                mechdes.unitcheck,
+                [auction, 2, "answer,1,units,toowide\n"],
+                mechdes.Verdict,
+                (["unitcheck", "--", "setting", "2", "answer"], auction, b"answer,1,units,toowide\n"),
             ),
             (
                 20,

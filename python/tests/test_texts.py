@@ -75,7 +75,7 @@ class Shown(Texts):
                 found = self.again("solve", printed, setting_of(name))
                 kinds.add((found.kind, found.word))
         general = {("general", word) for word in ("table", "optimal", "infeasible", "unbounded", "toowide")}
-        self.assertEqual(kinds, general | {("auction", "optimal"), ("fair", "optimal"), ("determ", "optimal")})
+        self.assertEqual(kinds, general | {(kind, "optimal") for kind in ("auction", "fair", "asym", "units", "determ")})
 
     def test_stored_auctions_in_which_only_winners_pay(self) -> None:
         for path in sorted(EXAMPLES.glob("*-threshold.csv")):
@@ -92,7 +92,7 @@ class Shown(Texts):
 
     def test_the_sale_of_its_page(self) -> None:
         # The page shows all but the multipliers.
-        ((_, words, printed),) = shown(text("strong-and-weak.md"))
+        ((_, words, printed),) = (call for call in shown(text("strong-and-weak.md")) if call[0] == "asym")
         printed = printed[printed.index("answer,") :] + "bound,2\nrow,3,0,2\nrow,4,-1,0\nend\n"
         found = self.again("asym", printed, mechdes.read_setting(TOP / words[0]))
         self.assertEqual((found.bound, found.multipliers[0].main), (2, 1))
@@ -176,6 +176,7 @@ class Made(Texts):
         auction = mechdes.read_setting(example("auction-ironed"))
         self.assertEqual(type(self.again("iron", "undecided\n", auction)), mechdes.Undecided)
         self.assertEqual(type(self.again("iron", text("auction-ironed-answer.csv"), auction)), mechdes.AuctionOptimal)
+        self.assertEqual(type(self.again("ironunits", "undecided\n", auction, 2)), mechdes.Undecided)
 
     def test_searches_with_longer_numbers(self) -> None:
         setting = mechdes.read_setting(example("fair-split"))
@@ -213,12 +214,14 @@ class Made(Texts):
             ("rejected,4,0,-1,0", False),
             ("rejected,5,7", False),
             ("rejected,6,1,2,3,4", False),
+            ("rejected,9,1,1,2", False),
+            ("rejected,10,3,1,0", False),
             ("rejected,11,-9223372036854775808", False),
             ("rejected,12,rational/a/t,-1,0", False),
             ("rejected,16", False),
         ):
             with self.subTest(printed):
-                for command in ("check", "faircheck", "determcheck"):
+                for command in ("check", "faircheck", "asymcheck", "unitcheck", "determcheck"):
                     found = self.again(command, printed + "\n")
                     self.assertEqual((bool(found), str(found)), (truth, printed))
         self.assertFalse(self.again("audit", "broken,deficit/low+low,-2,0\n"))

@@ -1,4 +1,5 @@
-"""What an auction means: how often an item can go to some values, what odds and pays are worth, and the reduced program.
+"""What an auction means: how often its item, or so many units of it, can go to some values, what odds and pays are worth, and the
+reduced program.
 
 A symmetric auction is told by how often a bidder wins and what it pays, by its own value, on average over the values of
 the others. Values go by their places from 0, and a set of them is a number: its bit v is set where v is in it. A list of
@@ -61,19 +62,19 @@ def right_side(auction: AuctionSetting, number: int, units: int = 1) -> int:
     )
 
 
-def excess(auction: AuctionSetting, interim: Interim, number: int) -> int:
+def excess(auction: AuctionSetting, interim: Interim, number: int, units: int = 1) -> int:
     """By how much the odds of a set ask for more than there is, over the denominator."""
     asked = sum(demand(auction, value, interim.odds[value]) for value in members(auction, number))
-    return asked - interim.den * right_side(auction, number)
+    return asked - interim.den * right_side(auction, number, units)
 
 
-def value_of(auction: AuctionSetting, interim: Interim) -> Fraction:
-    """The objective: that of keeping the item, and what each bidder adds."""
+def value_of(auction: AuctionSetting, interim: Interim, units: int = 1) -> Fraction:
+    """The objective: that of keeping all units, and what each bidder adds."""
     added = sum(
         weight * ((auction.welfare * value - auction.keep) * odds + auction.revenue * pay)
         for value, weight, odds, pay in zip(auction.values, auction.weights, interim.odds, interim.pays)
     )
-    return auction.keep + Fraction(auction.bidders * added, sum(auction.weights) * interim.den)
+    return units * auction.keep + Fraction(auction.bidders * added, sum(auction.weights) * interim.den)
 
 
 def single_cuts(auction: AuctionSetting) -> list[int]:

@@ -1,4 +1,4 @@
-"""Reads and writes answers about auctions, as docs/FORMATS.md states them."""
+"""Reads and writes answers about auctions and about several units, as docs/FORMATS.md states them."""
 
 from collections.abc import Sequence
 from dataclasses import dataclass
@@ -32,10 +32,20 @@ def read_answer(data: bytes, auction: AuctionSetting) -> AuctionAnswer | TooWide
     return said
 
 
-def read_optimal(records: Records, auction: AuctionSetting) -> AuctionAnswer:
+def read_unit_answer(data: bytes, auction: AuctionSetting, units: int) -> AuctionAnswer | TooWideAnswer:
+    """The same about so many units: one that is too wide has two paths in either version."""
+    records, word, _ = answer.begun(data, "units", {"1": ["optimal", "toowide"], "2": ["toowide"]})
+    said: AuctionAnswer | TooWideAnswer
+    said = read_optimal(records, auction, units) if word == "optimal" else read_too_wide(records, auction, "2")
+    records.finish()
+    return said
+
+
+def read_optimal(records: Records, auction: AuctionSetting, units: int | None = None) -> AuctionAnswer:
+    """An optimal answer about so many units, or about the one item."""
     value = answer.read_value(records)
     interim = read_interim(records, auction)
-    masses = read_masses(records, auction, interim.den)
+    masses = read_masses(records, auction, interim.den, units)
     cuts: list[int] = []
     while records.expect(cut=2, bound=2) == "cut":
         read_cut(records, auction, cuts)
@@ -55,18 +65,19 @@ def read_interim(records: Records, auction: AuctionSetting) -> Interim:
     return Interim(den, odds, records.integers(2, -GREATEST, GREATEST))
 
 
-def read_masses(records: Records, auction: AuctionSetting, den: int) -> dict[Counts, list[int]]:
-    """One record for each list of counts. A value that no bidder has there has no mass."""
+def read_masses(records: Records, auction: AuctionSetting, den: int, units: int | None) -> dict[Counts, list[int]]:
+    """One record for each list of counts. A value that no bidder has there has no mass, and where units are sold another one at
+    most a unit for each bidder with it."""
     kinds = len(auction.values)
     masses = {}
     for counts in count_lists(auction.bidders, kinds):
         records.expect(mass=1 + 2 * kinds)
         for place, count in enumerate(counts, 2):
             records.integer(place, count, count)
-        masses[counts] = [
-            records.integer(2 + kinds + value, 0, GREATEST_WIDE if count else 0) for value, count in enumerate(counts)
-        ]
-        if sum(masses[counts]) > den * weight_of(auction, counts):
+        whole = den * weight_of(auction, counts)
+        greatest = [GREATEST_WIDE if count else 0 for count in counts] if units is None else [count * whole for count in counts]
+        masses[counts] = [records.integer(place, 0, most) for place, most in enumerate(greatest, 2 + kinds)]
+        if sum(masses[counts]) > (units or 1) * whole:
             records.refuse("sum")
     return masses
 
@@ -91,9 +102,9 @@ def read_too_wide(records: Records, auction: AuctionSetting, version: str) -> To
     return TooWideAnswer(paths)
 
 
-def write_answer(said: AuctionAnswer) -> str:
-    """The text of an optimal answer. Rows whose multipliers are 0 are left out."""
-    records: list[list[object]] = [["answer", 1, "auction", "optimal"], ["value", *said.value], ["interim", said.interim.den]]
+def write_answer(said: AuctionAnswer, kind: str = "auction") -> str:
+    """The text of an optimal answer of a kind. Rows whose multipliers are 0 are left out."""
+    records: list[list[object]] = [["answer", 1, kind, "optimal"], ["value", *said.value], ["interim", said.interim.den]]
     records += [["odds", *said.interim.odds], ["pays", *said.interim.pays]]
     records += [["mass", *counts, *masses] for counts, masses in said.masses.items()]
     records += [["cut", cut] for cut in said.cuts]

@@ -10,6 +10,7 @@ from second_opinion import answer, auction, auction_answer, command, setting
 from second_opinion.answer import Answer, InfeasibleAnswer, Mechanism, OptimalAnswer, Pair, UnboundedAnswer
 from second_opinion.auction_answer import AuctionAnswer
 from second_opinion.program import Program, broken, point_of, program_of, sum_over, value_of
+from second_opinion.sale_answer import SaleAnswer
 from second_opinion.setting import AuctionSetting, GeneralSetting, Setting
 
 Failed = tuple[int | str, ...]  # the number of a condition, with what is printed
@@ -59,25 +60,25 @@ def failed_optimal(setting: GeneralSetting, answer: OptimalAnswer) -> Failed | N
     return failed_bound(program, answer, reached)
 
 
-def failed_auction(its: AuctionSetting, said: AuctionAnswer) -> Failed | None:
-    """The same of an optimal answer about an auction: its masses make the odds, and the odds and pays are a point of the
-    reduced program, which no point with a greater cost has."""
+def failed_auction(its: AuctionSetting, said: AuctionAnswer, units: int = 1) -> Failed | None:
+    """The same of an optimal answer about an auction, or about so many units: its masses make the odds, and the odds and pays
+    are a point of the reduced program, which no point with a greater cost has."""
     interim = said.interim
     for place, odds in enumerate(interim.odds):
         given = sum(masses[place] for masses in said.masses.values())
         if given != auction.demand(its, place, odds):
             return 9, place, given, auction.demand(its, place, odds)
-    program, point = auction.program_of(its, said.cuts), auction.point_of(interim)
+    program, point = auction.program_of(its, said.cuts, units), auction.point_of(interim)
     for index, row in enumerate(program.rows):
         if sum_over(row.terms, point) > interim.den * row.right:
             return 10, index, sum_over(row.terms, point), interim.den * row.right
-    value = auction.value_of(its, interim)
+    value = auction.value_of(its, interim, units)
     if value != Fraction(*said.value):
         return 2, value.numerator, value.denominator
     return failed_bound(program, said, Fraction(sum_over(program.cost, point), interim.den))
 
 
-def failed_bound(program: Program, answer: OptimalAnswer | AuctionAnswer, reached: Fraction) -> Failed | None:
+def failed_bound(program: Program, answer: OptimalAnswer | AuctionAnswer | SaleAnswer, reached: Fraction) -> Failed | None:
     """Conditions 3 to 6 of an optimal answer: its multipliers bound the cost of every point by the one that is reached."""
     failed = failed_multipliers(program, answer.multipliers, answer.bound)
     if failed is not None:

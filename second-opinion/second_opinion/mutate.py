@@ -3,9 +3,10 @@
 Answers of examples/, and of small auctions made at random, are taken and changed: a number, a record, a byte, or the
 mechanism as a whole. `mechdes check` and `check` get the same two files, and what they print, their lines on standard
 error and their statuses must be the same; of answers about the fairest mechanism, found here for the settings of examples/,
-the same of `faircheck`. So with settings that were changed, with those at the limits of size, and with
-all settings and answers of examples/ and bench/settings as they are; of the settings, what `rows` prints is compared too.
-The changes are the same at each call.
+the same of `faircheck`; of answers about several units, found here for the small auctions, of `unitcheck`; and of answers about
+sales, made at random, of `asymcheck`. So with settings that were changed, with those at the limits of size, and with all
+settings and answers of examples/ and bench/settings as they are; of the settings, what `rows` prints is compared too. The
+changes are the same at each call.
 PROGRAM is mechdes's program: this word, the variable MECHDES, or the one that the repository's tests build. The commands
 of this folder run inside this process, and each hundredth time as a process of their own too. Pairs on which the two
 differ are kept in a folder, which is named. A run that was broken off is taken up again with FROM, the number of files that
@@ -22,13 +23,30 @@ from collections.abc import Iterator
 from fractions import Fraction
 from typing import NoReturn
 
-from second_opinion import answer, checking, command, fair_checking, fairness, finding, listing, mutate_auctions, program, setting
+from second_opinion import (
+    answer,
+    checking,
+    command,
+    fair_checking,
+    fairness,
+    finding,
+    listing,
+    mutate_auctions,
+    mutate_sales,
+    program,
+    sale_checking,
+    setting,
+    unit_checking,
+)
 from second_opinion.places import FOLDER, TOP, needed_program
 
 ANSWERS = 2000
 FAIREST = 1000
+SOLD = 2000
+UNITS = 1000
 SETTINGS = 1000
 AUCTIONS = 30
+SALES = 40
 TOKENS = ["0", "1", "-1", "2", "-0", "+1", "01", "", " ", "x", "1.0", "end", "row", "lottery", "mass", "cut", "again",
           '"1"', '"', "1000", str(2**62 - 1), str(2**62), str(-(2**62)), str(1 - 2**62), str(2**126 - 1),
           str(2**126), str(2**32), "9" * 60]
@@ -62,6 +80,17 @@ def main() -> None:
     for _ in range(FAIREST):
         toml, csv = numbers.choice(fairest)
         comparison.compare("answer about the fairest", toml, changed_answer(numbers, toml, csv))
+    sales = mutate_sales.made_pairs(comparison.path, SALES)
+    for toml, csv in sales:
+        comparison.compare("answer about a sale as it is", toml, csv)
+    for _ in range(SOLD):
+        toml, csv = numbers.choice(sales)
+        comparison.compare("answer about a sale", toml, changed_answer(numbers, toml, csv))
+    sold = mutate_auctions.unit_pairs(AUCTIONS)
+    for _ in range(UNITS):
+        units, toml, csv = numbers.choice(sold)
+        changed = changed_answer(numbers, toml, csv, units)
+        comparison.compare_units("answer about units", units + numbers.choice([0, 0, 0, 0, 1, -1]), toml, changed)
     comparison.report()
 
 
@@ -129,18 +158,26 @@ class Comparison:
         self.differ = 0
 
     def compare(self, sort: str, toml: bytes, csv: bytes) -> None:
-        """Compares `check` on two files, or `faircheck` where the second one is about the fairest mechanism."""
+        """Compares `check` on two files, `faircheck` where the second one is about the fairest mechanism, or `asymcheck` where
+        it is about a sale."""
         if is_fairest(csv):
             self.compare_command(sort, "faircheck", fair_checking.faircheck, [toml, csv])
+        elif is_sold(csv):
+            self.compare_command(sort, "asymcheck", sale_checking.asymcheck, [toml, csv])
         else:
             self.compare_command(sort, "check", checking.check, [toml, csv])
+
+    def compare_units(self, sort: str, units: int, toml: bytes, csv: bytes) -> None:
+        """Compares `unitcheck` of so many units on two files."""
+        self.compare_command(sort, "unitcheck", unit_checking.unitcheck, [toml, csv], str(units))
 
     def compare_rows(self, sort: str, toml: bytes) -> None:
         """Compares `rows` on a setting."""
         self.compare_command(sort, "rows", listing.rows, [toml])
 
-    def compare_command(self, sort: str, word: str, function: command.Command, contents: list[bytes]) -> None:
-        """Compares a command on files with these contents, and keeps them where it differs."""
+    def compare_command(self, sort: str, word: str, function: command.Command, contents: list[bytes], *others: str) -> None:
+        """Compares a command on files with these contents, and keeps them where it differs. Other words stand behind the name of the
+        first one."""
         self.number += 1
         if self.number <= self.passed:
             return
@@ -149,15 +186,16 @@ class Comparison:
         names = [str(self.folder / f"{self.differ}.{end}") for end in ["toml", "csv"][: len(contents)]]
         for name, content in zip(names, contents):
             pathlib.Path(name).write_bytes(content)
-        theirs = run([self.path, word, *names])
-        status, text, line = command.outcome(function, names)
+        words = [names[0], *others, *names[1:]]
+        theirs = run([self.path, word, *words])
+        status, text, line = command.outcome(function, words)
         ours = status, text, "" if line is None else f"mechdes: {line}\n"
-        if self.number % 100 == 0 and ours != run([FOLDER / word, *names]):
-            sys.exit(f"mutate: {word} {names}: another outcome as a process of its own")
+        if self.number % 100 == 0 and ours != run([FOLDER / word, *words]):
+            sys.exit(f"mutate: {word} {words}: another outcome as a process of its own")
         self.tried[sort] += 1
         if theirs != ours:
             self.differ += 1
-            print(f"{word} {names[0]}: mechdes {str(theirs)[:200]}, here {str(ours)[:200]}", flush=True)
+            print(f"{word} {words}: mechdes {str(theirs)[:200]}, here {str(ours)[:200]}", flush=True)
         status, printed, error = theirs
         self.counts[word, status, short(printed + error)] += 1
 
@@ -180,6 +218,11 @@ def is_fairest(csv: bytes) -> bool:
     return csv.startswith(b"answer,1,fair,")
 
 
+def is_sold(csv: bytes) -> bool:
+    """Whether an answer begins as one about a sale."""
+    return csv.startswith(b"answer,1,asym,")
+
+
 def run(words: list[str | pathlib.Path]) -> tuple[int, str, str]:
     """The status of a command, what it prints, and its standard error."""
     done = subprocess.run([str(word) for word in words], capture_output=True)
@@ -196,10 +239,10 @@ def short(text: str) -> str:
     return " ".join(word for word in words if not word.rstrip(":").isdigit())
 
 
-def changed_answer(numbers: random.Random, toml: bytes, csv: bytes) -> bytes:
-    """An answer with one to three changes."""
+def changed_answer(numbers: random.Random, toml: bytes, csv: bytes, units: int | None = None) -> bytes:
+    """An answer with one to three changes; of several units their number is told."""
     if numbers.random() < 0.3:
-        return whole_change(numbers, toml, csv)
+        return whole_change(numbers, toml, csv, units)
     records = [line.split(",") for line in csv.decode().splitlines()]
     for _ in range(numbers.choice([1, 1, 1, 2, 3])):
         if records:
@@ -260,12 +303,14 @@ def text_change(numbers: random.Random, text: str) -> str:
     return text + numbers.choice(["x", "\n\n", "end\n", " ", ",", '"'])
 
 
-def whole_change(numbers: random.Random, toml: bytes, csv: bytes) -> bytes:
+def whole_change(numbers: random.Random, toml: bytes, csv: bytes, units: int | None) -> bytes:
     """An answer that is read, changed as a whole, so that its texts stay in order, and written again."""
     its = setting.read_setting(toml)
     try:
         if isinstance(its, setting.AuctionSetting):
-            return mutate_auctions.whole_change(numbers, its, csv)
+            return mutate_auctions.whole_change(numbers, its, csv, units)
+        if is_sold(csv):
+            return mutate_sales.whole_change(numbers, its, csv)
         said = (answer.read_fair_answer if is_fairest(csv) else answer.read_answer)(csv, its)
     except setting.Refused:
         return csv

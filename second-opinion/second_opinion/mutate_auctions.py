@@ -7,6 +7,7 @@ from second_opinion import auction, auction_answer, auction_finding
 from second_opinion.auction_answer import AuctionAnswer
 from second_opinion.setting import AuctionSetting
 
+UNITS_TOO_WIDE = b"answer,1,units,toowide\ncut,1\npivot,0,1\nwide,1,2,5,3\nagain\nwide,0,0,7,1\nend\n"
 TOO_WIDE = [b"answer,1,auction,toowide\ncut,1\npivot,0,1\nwide,1,2,-9223372036854775808,3\nend\n",
             b"answer,2,auction,toowide\ncut,1\npivot,0,1\npivot,1,0\nwide,1,2,5,3\nagain\nwide,0,0,7,1\nend\n"]
 
@@ -18,6 +19,18 @@ def made_pairs(count: int) -> list[tuple[bytes, bytes]]:
     its = [made_auction(numbers) for _ in range(count)]
     pairs = [(written(one), auction_answer.write_answer(auction_finding.found_answer(one)).encode()) for one in its]
     return pairs + [(written(its[0]), text) for text in TOO_WIDE]
+
+
+def unit_pairs(count: int) -> list[tuple[int, bytes, bytes]]:
+    """So many auctions by a fixed seed, each with a number of units and the answer about them that is found here, as bytes, and one
+    with an answer that is too wide."""
+    numbers = random.Random(11)
+    sales = [(numbers.choice([1, 2, 2, 3, 4]), made_auction(numbers)) for _ in range(count)]
+    pairs = [
+        (units, written(its), auction_answer.write_answer(auction_finding.found_answer(its, units), "units").encode())
+        for units, its in sales
+    ]
+    return [*pairs, (2, written(sales[0][1]), UNITS_TOO_WIDE)]
 
 
 def made_auction(numbers: random.Random) -> AuctionSetting:
@@ -44,27 +57,33 @@ def edges() -> Iterator[bytes]:
         yield written(AuctionSetting(bidders, [7 * kind for kind in range(kinds)], [weight] * kinds, 1, 1, 3))
 
 
-def whole_change(numbers: random.Random, its: AuctionSetting, csv: bytes) -> bytes:
-    """An answer that is read, changed as a whole, so that its texts stay in order, and written again. One that is too wide
-    stays as it is."""
-    said = auction_answer.read_answer(csv, its)
+def whole_change(numbers: random.Random, its: AuctionSetting, csv: bytes, units: int | None) -> bytes:
+    """An answer about the item, or about so many units, that is read, changed as a whole, so that its texts stay in order, and
+    written again. One that is too wide stays as it is."""
+    said = auction_answer.read_answer(csv, its) if units is None else auction_answer.read_unit_answer(csv, its, units)
     if not isinstance(said, AuctionAnswer):
         return csv
     for _ in range(numbers.choice([1, 1, 2])):
         change = numbers.choice([change_odds, change_odds, change_pay, change_masses, change_cuts, change_multiplier, double])
         change(numbers, its, said)
+        if change is change_odds and numbers.random() < 0.9:
+            have_odds(its, said, units or 1)
     if numbers.random() < 0.9:
-        value = auction.value_of(its, said.interim)
+        value = auction.value_of(its, said.interim, units or 1)
         said.value = value.numerator, value.denominator
-    return auction_answer.write_answer(said).encode()
+    return auction_answer.write_answer(said, "auction" if units is None else "units").encode()
 
 
 def change_odds(numbers: random.Random, its: AuctionSetting, said: AuctionAnswer) -> None:
-    """Other odds of a value, mostly with masses that have them, where there are any."""
+    """Other odds of a value."""
     place, odds = numbers.randrange(len(its.values)), said.interim.odds
     odds[place] = min(said.interim.den, max(0, odds[place] + numbers.choice([-2, -1, 1])))
-    if auction_finding.worst_set(its, said.interim) is None and numbers.random() < 0.9:
-        said.masses = auction_finding.masses_of(its, said.interim)
+
+
+def have_odds(its: AuctionSetting, said: AuctionAnswer, units: int) -> None:
+    """Masses of so many units that have the odds, where there are any."""
+    if auction_finding.worst_set(its, said.interim, units) is None:
+        said.masses = auction_finding.masses_of(its, said.interim, units)
 
 
 def change_pay(numbers: random.Random, its: AuctionSetting, said: AuctionAnswer) -> None:

@@ -1,6 +1,6 @@
--- An answer about an auction that is written is read as the same answer.
+-- An answer about an auction, or about several units, that is written is read as the same answer.
 use Rattle.std.proofs.Common.{◌≡◌, ℕ, zero, suc, ◌+◌, ◌<◌, ◌≤◌, ◌^◌, ℤ, pos, ◌≤ℤ◌, int_le, Bool, true, false, List, [], ◌∷◌, ◌++◌, map, length, replicate, codes, Option, None, Some, Ok, refl, sym, ap, subst, ◌∙◌, arith, All, append-nil, append_assoc, lit≤}
-use Rattle.std.specs.Prelude.{unsigned_abs}
+use Rattle.std.specs.Prelude.{unsigned_abs, IfSome}
 use Rattle.std.proofs.lemmas.Int.{ints}
 use Rattle.std.proofs.lemmas.List.Elements.{All-nil, All-cons, All-append, All-head, All-tail}
 use Rattle.md_math.specs.Lists.{number_at, up_to}
@@ -21,6 +21,7 @@ use Rattle.md_records.specs.Written.{IsReadBack}
 use Rattle.md_records.proofs.RecordTexts.{records_of-text}
 use Rattle.md_parts.specs.declared.first_record.Head.{Head}
 use Rattle.md_parts.specs.Cuts.{cuts_of}
+use Rattle.md_parts.specs.Fitting.{HasFraction}
 use Rattle.md_parts.specs.Fields.{Field, number_field, any_number, denominator_field, is_place}
 use Rattle.md_parts.specs.FirstRecord.{word_among, stands_in, first_of}
 use Rattle.md_parts.specs.Repeated.{comes_next}
@@ -41,16 +42,18 @@ use Rattle.md_answer.specs.declared.answer.Answer.TheVariants.{Table, Optimal, I
 use Rattle.md_answer.specs.declared.auction_kind.AuctionKind.{AuctionKind}
 use Rattle.md_answer.specs.declared.auction_kind.AuctionKind.TheVariants as kind
 use Rattle.md_answer.specs.AnswerTo.{HasPlaces}
-use Rattle.md_answer.specs.AuctionAnswerTo.{IsAuctionAnswer}
-use Rattle.md_answer.specs.AuctionAnswers.{answer_by, whole_answer, auction_answer_of}
+use Rattle.md_answer.specs.AuctionAnswerTo.{HasSecond, IsAnswerFor}
+use Rattle.md_answer.specs.AuctionAnswers.{answer_by, whole_answer, answer_for, version_for}
 use Rattle.md_answer.specs.AuctionKinds.{auction_words, place_of, word_of, kind_of}
-use Rattle.md_answer.specs.AuctionRows.{inner_rows, kind_in, auction_rows, text_of_auction_answer}
+use Rattle.md_answer.specs.AuctionRows.{inner_rows, kind_in, rows_for, text_for, written_version}
 use Rattle.md_answer.specs.InterimRecords.{pays_in, interim_in, interim_rows}
 use Rattle.md_answer.specs.MassReading.{masses_over}
 use Rattle.md_answer.specs.MassRecords.{mass_rows}
 use Rattle.md_answer.specs.Odds.{interim_den, odds_field, odds_in}
 use Rattle.md_answer.specs.ReducedRows.{reduced_rows}
-use Rattle.md_answer.specs.Rows.{version_in}
+use Rattle.md_answer.specs.Supplies.{word_for}
+use Rattle.md_answer.specs.declared.supply.Supply.{Supply}
+use Rattle.md_answer.specs.declared.supply.Supply.TheVariants.{Item, Units}
 use Rattle.md_answer.proofs.MassesWritten.{masses-written, masses-some}
 use Rattle.md_answer.proofs.WrittenAnswers.{version-with}
 
@@ -118,12 +121,23 @@ no-cut wide others = by_path wide.path
     by_path [] = refl
     by_path (p ∷ path) = refl
 
-inner-written : (a : SymmetricAuction) (told : Answer) → IsAuction a → IsAuctionAnswer a told → HasPlaces told → IsWrittenBefore the_end (answer_by a (version_in told) (kind_in told)) (inner_rows a told) told
-inner-written a (Table mechanism) shaped h p = absurd h
-inner-written a (Optimal value mechanism bound) shaped h p = absurd h
-inner-written a (Infeasible face) shaped h p = absurd h
-inner-written a (Unbounded mechanism ray) shaped h p = absurd h
-inner-written a (AuctionOptimal value interim masses cuts bound) shaped h p =
+-- the version by which a second part is read is the one with which it was written
+version-read : (supply : Supply) (cuts : List ℕ) (first : Wide) (second : Option Wide) → HasSecond supply second → version_for supply (written_version supply (TooWide cuts first second)) ≡ version_with second
+version-read Item cuts first second h = version-with cuts first second
+version-read (Units units) cuts first None h = absurd h
+version-read (Units units) cuts first (Some second) h = refl
+
+second-fits : (supply : Supply) (second : Option Wide) → HasSecond supply second → IfSome second HasFraction
+second-fits Item second h = h
+second-fits (Units units) None h = absurd h
+second-fits (Units units) (Some second) h = h
+
+inner-written : (supply : Supply) (a : SymmetricAuction) (told : Answer) → IsAuction a → IsAnswerFor supply a told → HasPlaces told → IsWrittenBefore the_end (answer_by supply a (written_version supply told) (kind_in told)) (inner_rows a told) told
+inner-written supply a (Table mechanism) shaped h p = absurd h
+inner-written supply a (Optimal value mechanism bound) shaped h p = absurd h
+inner-written supply a (Infeasible face) shaped h p = absurd h
+inner-written supply a (Unbounded mechanism ray) shaped h p = absurd h
+inner-written supply a (AuctionOptimal value interim masses cuts bound) shaped h p =
     let (fraction, odds, are, same, sets, multipliers) = h in
     let rows = reduced_rows a cuts in
     let last = bound_rows rows bound in
@@ -131,38 +145,40 @@ inner-written a (AuctionOptimal value interim masses cuts bound) shaped h p =
     let from_masses = mass_rows a masses ++ from_cuts in
     let from_odds = interim_rows interim ++ from_masses in
     let told : Answer = AuctionOptimal value interim masses cuts bound in
-    written-then the_end value_of (λ v. interim_in a >>= (λ i. masses_over a i.den >>= (λ m. cuts_of (value_count a) >>= (λ c. bound_of (reduced_rows a c) >>= (λ b. nothing_more (AuctionOptimal v i m c b)))))) (value_row value ∷ []) from_odds value told
+    written-then the_end value_of (λ v. interim_in a >>= (λ i. masses_over supply a i.den >>= (λ m. cuts_of (value_count a) >>= (λ c. bound_of (reduced_rows a c) >>= (λ b. nothing_more (AuctionOptimal v i m c b)))))) (value_row value ∷ []) from_odds value told
     (value-written value (from_odds ++ the_end) fraction)
-    (written-then the_end (interim_in a) (λ i. masses_over a i.den >>= (λ m. cuts_of (value_count a) >>= (λ c. bound_of (reduced_rows a c) >>= (λ b. nothing_more (AuctionOptimal value i m c b))))) (interim_rows interim) from_masses interim told
+    (written-then the_end (interim_in a) (λ i. masses_over supply a i.den >>= (λ m. cuts_of (value_count a) >>= (λ c. bound_of (reduced_rows a c) >>= (λ b. nothing_more (AuctionOptimal value i m c b))))) (interim_rows interim) from_masses interim told
     (interim-written a interim (from_masses ++ the_end) odds)
-    (written-then the_end (masses_over a interim.den) (λ m. cuts_of (value_count a) >>= (λ c. bound_of (reduced_rows a c) >>= (λ b. nothing_more (AuctionOptimal value interim m c b)))) (mass_rows a masses) from_cuts masses told
-    (subst (λ (den : ℤ). IsWrittenBefore (from_cuts ++ the_end) (masses_over a den) (mass_rows a masses) masses) same (masses-written a masses (from_cuts ++ the_end) shaped are))
+    (written-then the_end (masses_over supply a interim.den) (λ m. cuts_of (value_count a) >>= (λ c. bound_of (reduced_rows a c) >>= (λ b. nothing_more (AuctionOptimal value interim m c b)))) (mass_rows a masses) from_cuts masses told
+    (subst (λ (den : ℤ). IsWrittenBefore (from_cuts ++ the_end) (masses_over supply a den) (mass_rows a masses) masses) same (masses-written supply a masses shaped are (subst (λ (den : ℤ). den ≤ℤ pos number_limit) (sym same) odds.den_size) (from_cuts ++ the_end)))
     (written-then the_end (cuts_of (value_count a)) (λ c. bound_of (reduced_rows a c) >>= (λ b. nothing_more (AuctionOptimal value interim masses c b))) (cut_rows cuts) last cuts told
     (cuts-written cuts (value_count a) (last ++ the_end) shaped.few_values sets refl)
     (written-as the_end (bound_of rows) (λ b. AuctionOptimal value interim masses cuts b) last bound (bound-written rows bound the_end multipliers (rows-few a cuts shaped sets) refl)))))
-inner-written a (TooWide cuts first second) shaped h p =
+inner-written supply a (TooWide cuts first second) shaped h p =
     let (sets, one, other) = h in
     let version = version_with second in
     let paths = wide_rows first ++ second_rows second in
     let told : Answer = TooWide cuts first second in
-    rw (version-with cuts first second)
+    rw (version-read supply cuts first second other)
     (written-then the_end (cuts_of (value_count a)) (λ c. wide_of >>= (λ w. second_of version >>= (λ o. nothing_more (TooWide c w o)))) (cut_rows cuts) paths cuts told
     (cuts-written cuts (value_count a) (paths ++ the_end) shaped.few_values sets (ap (comes_next (codes "cut")) (append_assoc (wide_rows first) (second_rows second) the_end) ∙ no-cut first (second_rows second ++ the_end)))
     (written-then the_end wide_of (λ w. second_of version >>= (λ o. nothing_more (TooWide cuts w o))) (wide_rows first) (second_rows second) first told
     (wide-written first (second_rows second ++ the_end) one p.0)
-    (written-as the_end (second_of version) (λ o. TooWide cuts first o) (second_rows second) second (second-written second the_end other p.1))))
+    (written-as the_end (second_of version) (λ o. TooWide cuts first o) (second_rows second) second (second-written second the_end (second-fits supply second other) p.1))))
 
 -- ---- the whole
 
 -- each answer about an auction stands in its version, and its word is among the words of such answers
-answer-stands : (a : SymmetricAuction) (told : Answer) → IsAuctionAnswer a told → stands_in (version_in told) (word_of (kind_in told)) ≡ true
-answer-stands a (Table mechanism) h = absurd h
-answer-stands a (Optimal value mechanism bound) h = absurd h
-answer-stands a (Infeasible face) h = absurd h
-answer-stands a (Unbounded mechanism ray) h = absurd h
-answer-stands a (AuctionOptimal value interim masses cuts bound) h = refl
-answer-stands a (TooWide cuts first None) h = refl
-answer-stands a (TooWide cuts first (Some second)) h = refl
+answer-stands : (supply : Supply) (a : SymmetricAuction) (told : Answer) → IsAnswerFor supply a told → stands_in (written_version supply told) (word_of (kind_in told)) ≡ true
+answer-stands supply a (Table mechanism) h = absurd h
+answer-stands supply a (Optimal value mechanism bound) h = absurd h
+answer-stands supply a (Infeasible face) h = absurd h
+answer-stands supply a (Unbounded mechanism ray) h = absurd h
+answer-stands Item a (AuctionOptimal value interim masses cuts bound) h = refl
+answer-stands Item a (TooWide cuts first None) h = refl
+answer-stands Item a (TooWide cuts first (Some second)) h = refl
+answer-stands (Units units) a (AuctionOptimal value interim masses cuts bound) h = refl
+answer-stands (Units units) a (TooWide cuts first second) h = refl
 
 word-among : (k : AuctionKind) → word_among auction_words (word_of k) ≡ Some (pos (place_of k))
 word-among kind.Optimal = refl
@@ -172,15 +188,15 @@ kind-placed : (k : AuctionKind) → kind_of (place_of k) ≡ k
 kind-placed kind.Optimal = refl
 kind-placed kind.TooWide = refl
 
-whole-written : (a : SymmetricAuction) (told : Answer) → IsAuction a → IsAuctionAnswer a told → HasPlaces told → IsWrittenBefore [] (whole_answer a) (auction_rows a told) told
-whole-written a told shaped h p =
+whole-written : (supply : Supply) (a : SymmetricAuction) (told : Answer) → IsAuction a → IsAnswerFor supply a told → HasPlaces told → IsWrittenBefore [] (whole_answer supply a) (rows_for supply a told) told
+whole-written supply a told shaped h p =
     let place = place_of (kind_in told) in
-    let head : Head = record { version = version_in told; word = place } in
-    written-then [] (first_of (codes "auction") auction_words) (λ found. answer_by a found.version (kind_of found.word) >>= (λ answer. read_end >>= (λ _. nothing_more answer)))
-    (first_row (version_in told) (codes "auction") (word_of (kind_in told)) ∷ []) (inner_rows a told ++ the_end) head told
-    (first-written (version_in told) (codes "auction") (word_of (kind_in told)) auction_words place ((inner_rows a told ++ the_end) ++ []) (word-among (kind_in told)) (answer-stands a told h))
-    (written-then [] (answer_by a (version_in told) (kind_of place)) (λ found. read_end >>= (λ _. nothing_more found)) (inner_rows a told) the_end told told
-    (subst (λ (k : AuctionKind). IsWrittenBefore the_end (answer_by a (version_in told) k) (inner_rows a told) told) (sym (kind-placed (kind_in told))) (inner-written a told shaped h p))
+    let head : Head = record { version = written_version supply told; word = place } in
+    written-then [] (first_of (word_for supply) auction_words) (λ found. answer_by supply a found.version (kind_of found.word) >>= (λ answer. read_end >>= (λ _. nothing_more answer)))
+    (first_row (written_version supply told) (word_for supply) (word_of (kind_in told)) ∷ []) (inner_rows a told ++ the_end) head told
+    (first-written (written_version supply told) (word_for supply) (word_of (kind_in told)) auction_words place ((inner_rows a told ++ the_end) ++ []) (word-among (kind_in told)) (answer-stands supply a told h))
+    (written-then [] (answer_by supply a (written_version supply told) (kind_of place)) (λ found. read_end >>= (λ _. nothing_more found)) (inner_rows a told) the_end told told
+    (subst (λ (k : AuctionKind). IsWrittenBefore the_end (answer_by supply a (written_version supply told) k) (inner_rows a told) told) (sym (kind-placed (kind_in told))) (inner-written supply a told shaped h p))
     (written-as [] read_end (λ _. told) the_end tt end-written))
 
 -- ---- the text
@@ -206,9 +222,9 @@ inner-some a (AuctionOptimal value interim masses cuts bound) =
 inner-some a (TooWide cuts first second) =
     All-append IsSome (cut_rows cuts) (wide_rows first ++ second_rows second) (cuts-some cuts) (All-append IsSome (wide_rows first) (second_rows second) (wide-some first) (second-some second))
 
-answer-read_back : (a : SymmetricAuction) (told : Answer) → IsReadBack (auction_rows a told)
-answer-read_back a told = record {
-  fields = All-cons IsSome (first_row (version_in told) (codes "auction") (word_of (kind_in told))) (inner_rows a told ++ the_end) (omega arith)
+answer-read_back : (supply : Supply) (a : SymmetricAuction) (told : Answer) → IsReadBack (rows_for supply a told)
+answer-read_back supply a told = record {
+  fields = All-cons IsSome (first_row (written_version supply told) (word_for supply) (word_of (kind_in told))) (inner_rows a told ++ the_end) (omega arith)
       (All-append IsSome (inner_rows a told) the_end (inner-some a told) (All-cons IsSome end_row [] (omega arith) (All-nil IsSome)));
   no_mark = λ e. first_byte e;
 }
@@ -216,8 +232,8 @@ answer-read_back a told = record {
     first_byte : ◌≡◌ {A = ℕ} 97 239 → ⊥
     first_byte e = omega arith
 
-pub auction-reads_back : (a : SymmetricAuction) (told : Answer) → IsAuction a → IsAuctionAnswer a told → HasPlaces told → auction_answer_of a (text_of_auction_answer a told) ≡ Ok told
-auction-reads_back a told shaped h p =
-    let whole = (whole-written a told shaped h p).read 0 in
-    ap (λ (l : Rows). answered (whole_answer a record { read = 0; left = l })) (records_of-text (auction_rows a told) (answer-read_back a told) ∙ sym (append-nil (auction_rows a told)))
+pub auction-reads_back : (supply : Supply) (a : SymmetricAuction) (told : Answer) → IsAuction a → IsAnswerFor supply a told → HasPlaces told → answer_for supply a (text_for supply a told) ≡ Ok told
+auction-reads_back supply a told shaped h p =
+    let whole = (whole-written supply a told shaped h p).read 0 in
+    ap (λ (l : Rows). answered (whole_answer supply a record { read = 0; left = l })) (records_of-text (rows_for supply a told) (answer-read_back supply a told) ∙ sym (append-nil (rows_for supply a told)))
     ∙ ap answered whole

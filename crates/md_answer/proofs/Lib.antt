@@ -3,6 +3,7 @@ pub mod FieldsKnown
 pub mod OddsRead
 pub mod OddsSteps
 pub mod MassSteps
+pub mod MassTables
 pub mod MassesRead
 pub mod MassesWritten
 pub mod AuctionWritten

@@ -1,5 +1,5 @@
 -- The records of a mass table, by the steps over their fields and over the ranks.
-use Rattle.std.proofs.Common.{◌≡◌, ℕ, zero, suc, ◌+◌, ◌*◌, ◌<◌, ◌≤◌, ◌^◌, ℤ, pos, ◌≤ℤ◌, min, Bool, true, false, ◌&&◌, int_le, nat_le, List, [], ◌∷◌, ◌++◌, map, drop, length, codes, Result, Ok, Err, add-one, refl, sym, ap, subst, ◌∙◌, arith, mul-le-mul, inl, inr}
+use Rattle.std.proofs.Common.{◌≡◌, ℕ, zero, suc, ◌+◌, ◌*◌, ◌<◌, ◌≤◌, ◌^◌, ℤ, pos, ◌*ℤ◌, ◌≤ℤ◌, min, Bool, true, false, ◌&&◌, int_le, nat_le, List, [], ◌∷◌, ◌++◌, map, drop, length, codes, Result, Ok, Err, add-one, refl, sym, ap, subst, ◌∙◌, arith, mul-le-mul, inl, inr}
 use Rattle.std.specs.Prelude.{unsigned_abs, slice_index}
 use Rattle.std.proofs.lemmas.Bool.{cases_lt}
 use Rattle.std.proofs.lemmas.Int.{ints}
@@ -25,7 +25,9 @@ use Rattle.md_parts.proofs.FieldSteps.{reads-then, fails-then}
 use Rattle.md_parts.proofs.NumbersRead.{number_field-is}
 use Rattle.md_parts.proofs.RecordSteps.{named-read, names-fail, numbers-fail, named-missing}
 use Rattle.md_answer.specs.MassRecords.{count_numbers}
-use Rattle.md_answer.specs.MassReading.{count_field, count_fields, most_mass, most_masses, mass_fields, masses_at, masses_to, masses_over}
+use Rattle.md_answer.specs.MassReading.{count_field, count_fields, most_mass, most_masses, weight_at, mass_fields, masses_at, masses_to, masses_over}
+use Rattle.md_answer.specs.Supplies.{units_in}
+use Rattle.md_answer.specs.declared.supply.Supply.{Supply}
 use Rattle.md_answer.proofs.FieldsKnown.{built-fail, reads-known, built-known}
 
 -- ---- counts
@@ -57,32 +59,27 @@ counts-fail a rank kind start now count refusal l h is fails =
 
 -- ---- what there is to give
 
-whole-most : (den weight : ℕ) → den < 2 ^ 62 → weight ≤ 10 ^ 12 → den * weight ≤ 2 ^ 62 * 10 ^ 12
-whole-most den weight l m = mul-le-mul (let k : den ≤ 2 ^ 62 = omega arith in k) m
-
--- it has at most 126 bits
-pub whole-small : (a : SymmetricAuction) (rank den weight : ℕ) → IsAuction a → rank < rank_count a → den < 2 ^ 62 → weight ≡ weight_of_counts a.weights a.bidders (counts_in a rank) → den * weight < 2 ^ 126
-whole-small a rank den weight h b l e =
+pub weight-most : (a : SymmetricAuction) (rank den weight : ℕ) → IsAuction a → rank < rank_count a → den < 2 ^ 62 → weight ≡ weight_of_counts a.weights a.bidders (counts_in a rank) → den * weight ≤ 2 ^ 62 * 10 ^ 12
+weight-most a rank den weight h b l e =
     let small = weight-small a rank h b in
-    let most = whole-most den weight l (omega (arith, e, small)) in
-    omega (arith, most)
+    mul-le-mul (let k : den ≤ 2 ^ 62 = omega arith in k) (let k : weight ≤ 10 ^ 12 = omega (arith, e, small) in k)
 
 -- ---- the record of a rank
 
 -- the fields of amounts are those of masses
-pub mass-fields : (a : SymmetricAuction) (rank : ℕ) → map amount_field (most_masses a rank) ≡ mass_fields a rank
-mass-fields a rank = map-list_to amount_field (value_count a) (λ v. most_mass (count_of a rank v))
+pub mass-fields : (supply : Supply) (a : SymmetricAuction) (den : ℤ) (rank : ℕ) → map amount_field (most_masses supply a den rank) ≡ mass_fields supply a den rank
+mass-fields supply a den rank = map-list_to amount_field (value_count a) (λ v. most_mass supply (weight_at a den rank) (count_of a rank v))
 
 pub counts-long : (a : SymmetricAuction) (rank : ℕ) → length (count_fields a rank) ≡ value_count a
 counts-long a rank = length-list_to (value_count a) (λ v. count_field (count_of a rank v))
 
-pub mosts-long : (a : SymmetricAuction) (rank : ℕ) → length (most_masses a rank) ≡ value_count a
-mosts-long a rank = length-list_to (value_count a) (λ v. most_mass (count_of a rank v))
+pub mosts-long : (supply : Supply) (a : SymmetricAuction) (den : ℤ) (rank : ℕ) → length (most_masses supply a den rank) ≡ value_count a
+mosts-long supply a den rank = length-list_to (value_count a) (λ v. most_mass supply (weight_at a den rank) (count_of a rank v))
 
-fields-long : (a : SymmetricAuction) (rank count : ℕ) → count ≡ 2 * value_count a → length (count_fields a rank) + length (mass_fields a rank) ≡ count
-fields-long a rank count e =
+fields-long : (supply : Supply) (a : SymmetricAuction) (den : ℤ) (rank count : ℕ) → count ≡ 2 * value_count a → length (count_fields a rank) + length (mass_fields supply a den rank) ≡ count
+fields-long supply a den rank count e =
     let counts = length-list_to (value_count a) (λ v. count_field (count_of a rank v)) in
-    let masses = length-list_to (value_count a) (λ v. amount_field (most_mass (count_of a rank v))) in
+    let masses = length-list_to (value_count a) (λ v. amount_field (most_mass supply (weight_at a den rank) (count_of a rank v))) in
     omega (arith, e, counts, masses)
 
 both-tests : (x y : Bool) → (x && y) ≡ true → x ≡ true
@@ -96,14 +93,14 @@ amount-nonneg most z h = from_zero (both-tests (int_le (pos 0) z) (nat_le (unsig
     from_zero e = grind (arith, ints)
 
 -- masses that were read are not negative together
-total-nonneg : (a : SymmetricAuction) (rank : ℕ) (mid end : Left) (numbers : List ℤ) → Reads (mass_fields a rank) mid end numbers → pos 0 ≤ℤ total numbers
-total-nonneg a rank mid end numbers reads =
-    let known = reads-known (mass_fields a rank) mid end numbers reads in
-    let long : length numbers ≡ value_count a = known.long ∙ length-list_to (value_count a) (λ v. amount_field (most_mass (count_of a rank v))) in
+total-nonneg : (supply : Supply) (a : SymmetricAuction) (den : ℤ) (rank : ℕ) (mid end : Left) (numbers : List ℤ) → Reads (mass_fields supply a den rank) mid end numbers → pos 0 ≤ℤ total numbers
+total-nonneg supply a den rank mid end numbers reads =
+    let known = reads-known (mass_fields supply a den rank) mid end numbers reads in
+    let long : length numbers ≡ value_count a = known.long ∙ length-list_to (value_count a) (λ v. amount_field (most_mass supply (weight_at a den rank) (count_of a rank v))) in
     subst (λ (z : ℤ). pos 0 ≤ℤ z) (sym (total_by-places (λ x. x) numbers (pos 0)))
     (sum_to-nonneg (length numbers) (λ k. number_at numbers k) (λ k l.
-    let one = built-known (value_count a) (λ v. amount_field (most_mass (count_of a rank v))) numbers k known (omega (arith, long, l)) in
-    amount-nonneg (most_mass (count_of a rank k)) (number_at numbers k) (number_field-is 126 (is_amount (most_mass (count_of a rank k))) one.text (number_at numbers k) (omega arith) one.holds).passes))
+    let one = built-known (value_count a) (λ v. amount_field (most_mass supply (weight_at a den rank) (count_of a rank v))) numbers k known (omega (arith, long, l)) in
+    amount-nonneg (most_mass supply (weight_at a den rank) (count_of a rank k)) (number_at numbers k) (number_field-is 126 (is_amount (most_mass supply (weight_at a den rank) (count_of a rank k))) one.text (number_at numbers k) (omega arith) one.holds).passes))
 
 -- the numbers of a record are its counts and then its masses
 pub masses-behind : (a : SymmetricAuction) (rank : ℕ) (numbers : List ℤ) → drop (value_count a) (count_numbers a rank ++ numbers) ≡ numbers
@@ -129,69 +126,69 @@ over-test z c most sum e s n l = rw (← e) (test (above s n l))
     test l = grind (arith, ints)
 
 -- a record that was read so far: its counts, and then amounts
-pub record IsRankRead (a : SymmetricAuction) (rank : ℕ) (rest after : Rest) (numbers : List ℤ) : Type 0 where
-  pub read : read_record (codes "mass") (count_fields a rank ++ mass_fields a rank) rest ≡ Ok (count_numbers a rank ++ numbers, after)
+pub record IsRankRead (supply : Supply) (a : SymmetricAuction) (den : ℤ) (rank : ℕ) (rest after : Rest) (numbers : List ℤ) : Type 0 where
+  pub read : read_record (codes "mass") (count_fields a rank ++ mass_fields supply a den rank) rest ≡ Ok (count_numbers a rank ++ numbers, after)
   pub nonneg : pos 0 ≤ℤ total numbers
 
-pub rank-read : (a : SymmetricAuction) (rank count : ℕ) (rest after : Rest) (left mid end : Left) (mosts : List ℕ) (numbers : List ℤ) → count ≡ 2 * value_count a → mosts ≡ most_masses a rank
-    → record_with (codes "mass") count rest ≡ Ok (left, after) → Reads (count_fields a rank) left mid (count_numbers a rank) → Reads (map amount_field mosts) mid end numbers → IsRankRead a rank rest after numbers
-rank-read a rank count rest after left mid end mosts numbers e same h first second =
-    let masses : Reads (mass_fields a rank) mid end numbers = subst (λ (fs : List Field). Reads fs mid end numbers) (ap (map amount_field) same ∙ mass-fields a rank) second in
+pub rank-read : (supply : Supply) (a : SymmetricAuction) (den : ℤ) (rank count : ℕ) (rest after : Rest) (left mid end : Left) (mosts : List ℕ) (numbers : List ℤ) → count ≡ 2 * value_count a → mosts ≡ most_masses supply a den rank
+    → record_with (codes "mass") count rest ≡ Ok (left, after) → Reads (count_fields a rank) left mid (count_numbers a rank) → Reads (map amount_field mosts) mid end numbers → IsRankRead supply a den rank rest after numbers
+rank-read supply a den rank count rest after left mid end mosts numbers e same h first second =
+    let masses : Reads (mass_fields supply a den rank) mid end numbers = subst (λ (fs : List Field). Reads fs mid end numbers) (ap (map amount_field) same ∙ mass-fields supply a den rank) second in
     record {
-      read = named-read (codes "mass") (count_fields a rank) (mass_fields a rank) count rest after left mid end (count_numbers a rank) numbers (fields-long a rank count e) h first masses;
-      nonneg = total-nonneg a rank mid end numbers masses;
+      read = named-read (codes "mass") (count_fields a rank) (mass_fields supply a den rank) count rest after left mid end (count_numbers a rank) numbers (fields-long supply a den rank count e) h first masses;
+      nonneg = total-nonneg supply a den rank mid end numbers masses;
     }
 
-pub rank-within : (a : SymmetricAuction) (den : ℤ) (rank whole sum : ℕ) (rest after : Rest) (numbers : List ℤ) → IsRankRead a rank rest after numbers → pos whole ≡ cap_at a den rank
-    → sum ≡ min (unsigned_abs (total numbers)) (whole + 1) → sum ≤ whole → masses_at a den rank rest ≡ Ok (numbers, after)
-rank-within a den rank whole sum rest after numbers h e s l =
-    let inside = within-test (total numbers) (cap_at a den rank) whole sum e s l in
+pub rank-within : (supply : Supply) (a : SymmetricAuction) (den : ℤ) (rank whole sum : ℕ) (rest after : Rest) (numbers : List ℤ) → IsRankRead supply a den rank rest after numbers → pos whole ≡ pos (units_in supply) *ℤ cap_at a den rank
+    → sum ≡ min (unsigned_abs (total numbers)) (whole + 1) → sum ≤ whole → masses_at supply a den rank rest ≡ Ok (numbers, after)
+rank-within supply a den rank whole sum rest after numbers h e s l =
+    let inside = within-test (total numbers) (pos (units_in supply) *ℤ cap_at a den rank) whole sum e s l in
     rw (h.read, masses-behind a rank numbers, inside) refl
 
-pub rank-over : (a : SymmetricAuction) (den : ℤ) (rank whole sum : ℕ) (rest after : Rest) (numbers : List ℤ) → IsRankRead a rank rest after numbers → pos whole ≡ cap_at a den rank
-    → sum ≡ min (unsigned_abs (total numbers)) (whole + 1) → whole < sum → masses_at a den rank rest ≡ Err (Sum after.read)
-rank-over a den rank whole sum rest after numbers h e s l =
-    let outside = over-test (total numbers) (cap_at a den rank) whole sum e s h.nonneg l in
+pub rank-over : (supply : Supply) (a : SymmetricAuction) (den : ℤ) (rank whole sum : ℕ) (rest after : Rest) (numbers : List ℤ) → IsRankRead supply a den rank rest after numbers → pos whole ≡ pos (units_in supply) *ℤ cap_at a den rank
+    → sum ≡ min (unsigned_abs (total numbers)) (whole + 1) → whole < sum → masses_at supply a den rank rest ≡ Err (Sum after.read)
+rank-over supply a den rank whole sum rest after numbers h e s l =
+    let outside = over-test (total numbers) (pos (units_in supply) *ℤ cap_at a den rank) whole sum e s h.nonneg l in
     rw (h.read, masses-behind a rank numbers, outside) refl
 
-rank-fails : (a : SymmetricAuction) (den : ℤ) (rank : ℕ) (rest : Rest) (refusal : AnswerRefusal) → read_record (codes "mass") (count_fields a rank ++ mass_fields a rank) rest ≡ Err refusal → masses_at a den rank rest ≡ Err refusal
-rank-fails a den rank rest refusal h = rw h refl
+rank-fails : (supply : Supply) (a : SymmetricAuction) (den : ℤ) (rank : ℕ) (rest : Rest) (refusal : AnswerRefusal) → read_record (codes "mass") (count_fields a rank ++ mass_fields supply a den rank) rest ≡ Err refusal → masses_at supply a den rank rest ≡ Err refusal
+rank-fails supply a den rank rest refusal h = rw h refl
 
-pub rank-missing : (a : SymmetricAuction) (den : ℤ) (rank count : ℕ) (rest : Rest) (refusal : AnswerRefusal) → count ≡ 2 * value_count a → record_with (codes "mass") count rest ≡ Err refusal → masses_at a den rank rest ≡ Err refusal
-rank-missing a den rank count rest refusal e h =
-    rank-fails a den rank rest refusal (named-missing (codes "mass") (count_fields a rank) (mass_fields a rank) count rest refusal (fields-long a rank count e) h)
+pub rank-missing : (supply : Supply) (a : SymmetricAuction) (den : ℤ) (rank count : ℕ) (rest : Rest) (refusal : AnswerRefusal) → count ≡ 2 * value_count a → record_with (codes "mass") count rest ≡ Err refusal → masses_at supply a den rank rest ≡ Err refusal
+rank-missing supply a den rank count rest refusal e h =
+    rank-fails supply a den rank rest refusal (named-missing (codes "mass") (count_fields a rank) (mass_fields supply a den rank) count rest refusal (fields-long supply a den rank count e) h)
 
-pub rank-counts-fail : (a : SymmetricAuction) (den : ℤ) (rank count : ℕ) (rest after : Rest) (left : Left) (refusal : AnswerRefusal) → count ≡ 2 * value_count a
-    → record_with (codes "mass") count rest ≡ Ok (left, after) → FailsIn (count_fields a rank) left refusal → masses_at a den rank rest ≡ Err refusal
-rank-counts-fail a den rank count rest after left refusal e h fails =
-    rank-fails a den rank rest refusal (names-fail (codes "mass") (count_fields a rank) (mass_fields a rank) count rest after left refusal (fields-long a rank count e) h fails)
+pub rank-counts-fail : (supply : Supply) (a : SymmetricAuction) (den : ℤ) (rank count : ℕ) (rest after : Rest) (left : Left) (refusal : AnswerRefusal) → count ≡ 2 * value_count a
+    → record_with (codes "mass") count rest ≡ Ok (left, after) → FailsIn (count_fields a rank) left refusal → masses_at supply a den rank rest ≡ Err refusal
+rank-counts-fail supply a den rank count rest after left refusal e h fails =
+    rank-fails supply a den rank rest refusal (names-fail (codes "mass") (count_fields a rank) (mass_fields supply a den rank) count rest after left refusal (fields-long supply a den rank count e) h fails)
 
-pub rank-masses-fail : (a : SymmetricAuction) (den : ℤ) (rank count : ℕ) (rest after : Rest) (left mid : Left) (mosts : List ℕ) (refusal : AnswerRefusal) → count ≡ 2 * value_count a → mosts ≡ most_masses a rank
-    → record_with (codes "mass") count rest ≡ Ok (left, after) → Reads (count_fields a rank) left mid (count_numbers a rank) → FailsIn (map amount_field mosts) mid refusal → masses_at a den rank rest ≡ Err refusal
-rank-masses-fail a den rank count rest after left mid mosts refusal e same h first fails =
-    let masses : FailsIn (mass_fields a rank) mid refusal = subst (λ (fs : List Field). FailsIn fs mid refusal) (ap (map amount_field) same ∙ mass-fields a rank) fails in
-    rank-fails a den rank rest refusal (numbers-fail (codes "mass") (count_fields a rank) (mass_fields a rank) count rest after left mid (count_numbers a rank) refusal (fields-long a rank count e) h first masses)
+pub rank-masses-fail : (supply : Supply) (a : SymmetricAuction) (den : ℤ) (rank count : ℕ) (rest after : Rest) (left mid : Left) (mosts : List ℕ) (refusal : AnswerRefusal) → count ≡ 2 * value_count a → mosts ≡ most_masses supply a den rank
+    → record_with (codes "mass") count rest ≡ Ok (left, after) → Reads (count_fields a rank) left mid (count_numbers a rank) → FailsIn (map amount_field mosts) mid refusal → masses_at supply a den rank rest ≡ Err refusal
+rank-masses-fail supply a den rank count rest after left mid mosts refusal e same h first fails =
+    let masses : FailsIn (mass_fields supply a den rank) mid refusal = subst (λ (fs : List Field). FailsIn fs mid refusal) (ap (map amount_field) same ∙ mass-fields supply a den rank) fails in
+    rank-fails supply a den rank rest refusal (numbers-fail (codes "mass") (count_fields a rank) (mass_fields supply a den rank) count rest after left mid (count_numbers a rank) refusal (fields-long supply a den rank count e) h first masses)
 
 -- ---- all ranks
 
-pub masses-more : (a : SymmetricAuction) (den : ℤ) (rank : ℕ) (start now next : Rest) (numbers more : List ℤ) → masses_to a den rank start ≡ Ok (numbers, now) → masses_at a den rank now ≡ Ok (more, next)
-    → masses_to a den (rank + 1) start ≡ Ok (numbers ++ more, next)
-masses-more a den rank start now next numbers more h one = ap (λ (n : ℕ). masses_to a den n start) (add-one rank) ∙ rw (h, one) refl
+pub masses-more : (supply : Supply) (a : SymmetricAuction) (den : ℤ) (rank : ℕ) (start now next : Rest) (numbers more : List ℤ) → masses_to supply a den rank start ≡ Ok (numbers, now) → masses_at supply a den rank now ≡ Ok (more, next)
+    → masses_to supply a den (rank + 1) start ≡ Ok (numbers ++ more, next)
+masses-more supply a den rank start now next numbers more h one = ap (λ (n : ℕ). masses_to supply a den n start) (add-one rank) ∙ rw (h, one) refl
 
-pub masses-fail : (a : SymmetricAuction) (den : ℤ) (n rank : ℕ) (start now : Rest) (numbers : List ℤ) (refusal : AnswerRefusal) → rank < n → masses_to a den rank start ≡ Ok (numbers, now) → masses_at a den rank now ≡ Err refusal
-    → masses_to a den n start ≡ Err refusal
-masses-fail a den zero rank start now numbers refusal l h one = absurd (omega arith)
-masses-fail a den (suc n) rank start now numbers refusal l h one = elim (cases_lt rank n) [
-  | inl below ↦ rw (masses-fail a den n rank start now numbers refusal below h one) refl
+pub masses-fail : (supply : Supply) (a : SymmetricAuction) (den : ℤ) (n rank : ℕ) (start now : Rest) (numbers : List ℤ) (refusal : AnswerRefusal) → rank < n → masses_to supply a den rank start ≡ Ok (numbers, now) → masses_at supply a den rank now ≡ Err refusal
+    → masses_to supply a den n start ≡ Err refusal
+masses-fail supply a den zero rank start now numbers refusal l h one = absurd (omega arith)
+masses-fail supply a den (suc n) rank start now numbers refusal l h one = elim (cases_lt rank n) [
+  | inl below ↦ rw (masses-fail supply a den n rank start now numbers refusal below h one) refl
   | inr past ↦ (let e : rank ≡ n = omega arith in let first = rw e at h in let second = rw e at one in rw (first, second) refl)
 ]
 
-plain-fails : (a : SymmetricAuction) (den : ℤ) (start : Rest) (refusal : AnswerRefusal) → masses_to a den (rank_count a) start ≡ Err refusal → masses_over a den start ≡ Err refusal
-plain-fails a den start refusal h = rw h refl
+plain-fails : (supply : Supply) (a : SymmetricAuction) (den : ℤ) (start : Rest) (refusal : AnswerRefusal) → masses_to supply a den (rank_count a) start ≡ Err refusal → masses_over supply a den start ≡ Err refusal
+plain-fails supply a den start refusal h = rw h refl
 
-pub over-fails : (a : SymmetricAuction) (den over : ℤ) (start : Rest) (refusal : AnswerRefusal) → den ≡ over → masses_to a den (rank_count a) start ≡ Err refusal → masses_over a over start ≡ Err refusal
-over-fails a den over start refusal e h = subst (λ (z : ℤ). masses_over a z start ≡ Err refusal) e (plain-fails a den start refusal h)
+pub over-fails : (supply : Supply) (a : SymmetricAuction) (den over : ℤ) (start : Rest) (refusal : AnswerRefusal) → den ≡ over → masses_to supply a den (rank_count a) start ≡ Err refusal → masses_over supply a over start ≡ Err refusal
+over-fails supply a den over start refusal e h = subst (λ (z : ℤ). masses_over supply a z start ≡ Err refusal) e (plain-fails supply a den start refusal h)
 
-pub over-read : (a : SymmetricAuction) (den : ℤ) (rank : ℕ) (start after : Rest) (rows : List ℤ) → rank ≡ rank_count a → masses_to a den rank start ≡ Ok (rows, after)
-    → masses_over a den start ≡ Ok (record { den = den; rows = rows }, after)
-over-read a den rank start after rows e h = let whole = rw e at h in rw whole refl
+pub over-read : (supply : Supply) (a : SymmetricAuction) (den : ℤ) (rank : ℕ) (start after : Rest) (rows : List ℤ) → rank ≡ rank_count a → masses_to supply a den rank start ≡ Ok (rows, after)
+    → masses_over supply a den start ≡ Ok (record { den = den; rows = rows }, after)
+over-read supply a den rank start after rows e h = let whole = rw e at h in rw whole refl

@@ -1,5 +1,5 @@
--- What is known of a mass table that was read.
-use Rattle.std.proofs.Common.{◌≡◌, ℕ, zero, suc, ◌+◌, ◌*◌, ◌<◌, ◌≤◌, ◌^◌, ℤ, pos, ◌≤ℤ◌, Bool, true, false, ◌&&◌, ◌==◌, int_le, nat_le, List, [], ◌∷◌, ◌++◌, drop, length, codes, Result, Ok, Err, if◌then◌else◌, refl, sym, ap, subst, ◌∙◌, arith, length-append, length-drop, eq-eqb, inl, inr}
+-- What is known of masses that were read.
+use Rattle.std.proofs.Common.{◌≡◌, ℕ, zero, suc, ◌+◌, ◌*◌, ◌<◌, ◌≤◌, ◌^◌, ℤ, pos, ◌*ℤ◌, ◌≤ℤ◌, Bool, true, false, ◌&&◌, ◌==◌, int_le, nat_le, List, [], ◌∷◌, ◌++◌, drop, length, codes, Result, Ok, Err, if◌then◌else◌, refl, sym, ap, subst, ◌∙◌, arith, length-append, length-drop, eq-eqb, inl, inr}
 use Rattle.std.specs.Prelude.{unsigned_abs, slice_index}
 use Rattle.std.proofs.lemmas.Bool.{cases_lt}
 use Rattle.std.proofs.lemmas.Int.{ints}
@@ -13,7 +13,7 @@ use Rattle.md_math.proofs.TotalLaws.{total_by-places}
 use Rattle.md_setting.specs.Auction.{SymmetricAuction, value_count}
 use Rattle.md_mech.specs.Accepted.{number_limit}
 use Rattle.md_expost.specs.declared.masses.Masses.{Masses}
-use Rattle.md_expost.specs.Masses.{AreMasses, rank_count, cap_at, mass_at}
+use Rattle.md_expost.specs.Masses.{rank_count, cap_at, mass_at}
 use Rattle.md_parts.specs.declared.refusal.AnswerRefusal.{AnswerRefusal}
 use Rattle.md_parts.specs.declared.refusal.AnswerRefusal.TheVariants.{Sum}
 use Rattle.md_parts.specs.Fields.{is_amount, amount_field}
@@ -21,18 +21,21 @@ use Rattle.md_parts.specs.Reading.{Rest, read_record}
 use Rattle.md_parts.proofs.NumbersRead.{number_field-is, record-was_read}
 use Rattle.md_parts.proofs.Repeats.{not_both}
 use Rattle.md_parts.proofs.Blocks.{IsBlockAt, in_two}
-use Rattle.md_answer.specs.MassReading.{count_field, count_fields, most_mass, mass_fields, adding_at_most, masses_at, masses_to, masses_over}
+use Rattle.md_answer.specs.MassReading.{count_field, count_fields, most_mass, weight_at, mass_fields, adding_at_most, masses_at, masses_to, masses_over}
+use Rattle.md_answer.specs.Supplies.{AreMassesOf, units_in}
+use Rattle.md_answer.specs.declared.supply.Supply.{Supply}
 use Rattle.md_answer.proofs.FieldsKnown.{fields-known, built-behind-known}
 use Rattle.md_answer.proofs.MassSteps.{count_of}
+use Rattle.md_answer.proofs.MassTables.{AreTold, table-of_told}
 
 -- ---- one rank
 
 -- the masses of a rank that was read
-record AreMassesAt (a : SymmetricAuction) (den : ℤ) (rank : ℕ) (numbers : List ℤ) : Type 0 where
+record AreMassesAt (supply : Supply) (a : SymmetricAuction) (den : ℤ) (rank : ℕ) (numbers : List ℤ) : Type 0 where
   pub long : length numbers ≡ value_count a
   pub nonneg : (v : ℕ) → v < value_count a → pos 0 ≤ℤ number_at numbers v
-  pub absent : (v : ℕ) → v < value_count a → count_of a rank v ≡ 0 → number_at numbers v ≡ pos 0
-  pub over : total numbers ≤ℤ cap_at a den rank
+  pub most : (v : ℕ) → v < value_count a → unsigned_abs (number_at numbers v) ≤ most_mass supply (weight_at a den rank) (count_of a rank v)
+  pub over : total numbers ≤ℤ (pos (units_in supply) *ℤ cap_at a den rank)
 
 int_le-true : (a z : ℤ) → int_le a z ≡ true → a ≤ℤ z
 int_le-true a z h = grind (arith, ints)
@@ -59,40 +62,34 @@ amount-known most z h =
     small : nat_le (unsigned_abs z) most ≡ true → unsigned_abs z ≤ most
     small e = grind (arith, ints)
 
-none-at : (count : ℕ) (z : ℤ) → count ≡ 0 → unsigned_abs z ≤ most_mass count → z ≡ pos 0
-none-at count z e l = let m : unsigned_abs z ≤ most_mass 0 = rw e at l in zero_of z m
-  where
-    zero_of : (z : ℤ) → unsigned_abs z ≤ 0 → z ≡ pos 0
-    zero_of z l = omega (arith, ints)
-
-rank-known : (a : SymmetricAuction) (den : ℤ) (rank : ℕ) (rest after : Rest) (numbers : List ℤ) → masses_at a den rank rest ≡ Ok (numbers, after) → AreMassesAt a den rank numbers
-rank-known a den rank rest after numbers h =
+rank-known : (supply : Supply) (a : SymmetricAuction) (den : ℤ) (rank : ℕ) (rest after : Rest) (numbers : List ℤ) → masses_at supply a den rank rest ≡ Ok (numbers, after) → AreMassesAt supply a den rank numbers
+rank-known supply a den rank rest after numbers h =
     let k = value_count a in
-    let fields = count_fields a rank ++ mass_fields a rank in
+    let fields = count_fields a rank ++ mass_fields supply a den rank in
     let two = in_two (read_record (codes "mass") fields rest) _ numbers after h in
     let r = record-was_read (codes "mass") fields rest two.one two.mid two.first_is in
     let known = fields-known 2 fields r.texts two.one (let l = r.long in omega (arith, l)) r.read in
-    let added = adding-known (cap_at a den rank) (drop k two.one) numbers two.mid after two.next_is in
+    let added = adding-known (pos (units_in supply) *ℤ cap_at a den rank) (drop k two.one) numbers two.mid after two.next_is in
     let counts : length (count_fields a rank) ≡ k = length-list_to k (λ v. count_field (count_of a rank v)) in
-    let masses : length (mass_fields a rank) ≡ k = length-list_to k (λ v. amount_field (most_mass (count_of a rank v))) in
-    let long : length (drop k two.one) ≡ k = let l = known.long in length-drop k two.one ∙ omega (arith, l, length-append (count_fields a rank) (mass_fields a rank), counts, masses) in
-    let each : (v : ℕ) → v < k → (pos 0 ≤ℤ number_at (drop k two.one) v) × (unsigned_abs (number_at (drop k two.one) v) ≤ most_mass (count_of a rank v)) = λ v l.
-    let one = built-behind-known k k (λ v. count_field (count_of a rank v)) (λ v. amount_field (most_mass (count_of a rank v))) two.one v known l in
-    let field = number_field-is 126 (is_amount (most_mass (count_of a rank v))) one.text (number_at two.one (k + v)) (omega arith) one.holds in
+    let masses : length (mass_fields supply a den rank) ≡ k = length-list_to k (λ v. amount_field (most_mass supply (weight_at a den rank) (count_of a rank v))) in
+    let long : length (drop k two.one) ≡ k = let l = known.long in length-drop k two.one ∙ omega (arith, l, length-append (count_fields a rank) (mass_fields supply a den rank), counts, masses) in
+    let each : (v : ℕ) → v < k → (pos 0 ≤ℤ number_at (drop k two.one) v) × (unsigned_abs (number_at (drop k two.one) v) ≤ most_mass supply (weight_at a den rank) (count_of a rank v)) = λ v l.
+    let one = built-behind-known k k (λ v. count_field (count_of a rank v)) (λ v. amount_field (most_mass supply (weight_at a den rank) (count_of a rank v))) two.one v known l in
+    let field = number_field-is 126 (is_amount (most_mass supply (weight_at a den rank) (count_of a rank v))) one.text (number_at two.one (k + v)) (omega arith) one.holds in
     let behind : number_at (drop k two.one) v ≡ number_at two.one (k + v) = get_or-drop k two.one v (pos 0) in
-    rw behind (amount-known (most_mass (count_of a rank v)) (number_at two.one (k + v)) field.passes) in
-    subst (AreMassesAt a den rank) added.1 (record {
+    rw behind (amount-known (most_mass supply (weight_at a den rank) (count_of a rank v)) (number_at two.one (k + v)) field.passes) in
+    subst (AreMassesAt supply a den rank) added.1 (record {
       long = long;
       nonneg = λ v l. (each v l).0;
-      absent = λ v l none. none-at (count_of a rank v) (number_at (drop k two.one) v) none (each v l).1;
+      most = λ v l. (each v l).1;
       over = added.0;
     })
 
 -- ---- all ranks
 
-record AreRanked (a : SymmetricAuction) (den : ℤ) (n : ℕ) (rows : List ℤ) : Type 0 where
+record AreRanked (supply : Supply) (a : SymmetricAuction) (den : ℤ) (n : ℕ) (rows : List ℤ) : Type 0 where
   pub long : length rows ≡ n * value_count a
-  pub at : (rank : ℕ) → rank < n → IsBlockAt rows (value_count a) rank (AreMassesAt a den rank)
+  pub at : (rank : ℕ) → rank < n → IsBlockAt rows (value_count a) rank (AreMassesAt supply a den rank)
 
 no-row : (w : ℕ) → 0 ≡ 0 * w
 no-row w = grind arith
@@ -100,16 +97,16 @@ no-row w = grind arith
 next-row : (n w : ℕ) → n * w + w ≡ suc n * w
 next-row n w = grind arith
 
-last-block : (a : SymmetricAuction) (den : ℤ) (n : ℕ) (before last : List ℤ) → length before ≡ n * value_count a → AreMassesAt a den n last → IsBlockAt (before ++ last) (value_count a) n (AreMassesAt a den n)
-last-block a den n before last long h = record { block = last; long = h.long; has = h; at = λ o l. number_at-behind before last (n * value_count a) o long }
+last-block : (supply : Supply) (a : SymmetricAuction) (den : ℤ) (n : ℕ) (before last : List ℤ) → length before ≡ n * value_count a → AreMassesAt supply a den n last → IsBlockAt (before ++ last) (value_count a) n (AreMassesAt supply a den n)
+last-block supply a den n before last long h = record { block = last; long = h.long; has = h; at = λ o l. number_at-behind before last (n * value_count a) o long }
 
-ranked-push : (a : SymmetricAuction) (den : ℤ) (n : ℕ) (before last : List ℤ) → AreRanked a den n before → AreMassesAt a den n last → AreRanked a den (suc n) (before ++ last)
-ranked-push a den n before last h one = record {
+ranked-push : (supply : Supply) (a : SymmetricAuction) (den : ℤ) (n : ℕ) (before last : List ℤ) → AreRanked supply a den n before → AreMassesAt supply a den n last → AreRanked supply a den (suc n) (before ++ last)
+ranked-push supply a den n before last h one = record {
   long = let l = h.long in let m = one.long in let e = next-row n (value_count a) in omega (arith, l, m, e, length-append before last);
   at = λ rank l. block_at rank l;
 }
   where
-    block_at : (rank : ℕ) → rank < suc n → IsBlockAt (before ++ last) (value_count a) rank (AreMassesAt a den rank)
+    block_at : (rank : ℕ) → rank < suc n → IsBlockAt (before ++ last) (value_count a) rank (AreMassesAt supply a den rank)
     block_at rank l = elim (cases_lt rank n) [
       | inl below ↦ (
           let b = h.at rank below in
@@ -123,42 +120,44 @@ ranked-push a den n before last h one = record {
           )
       | inr past ↦ (
           let e : n ≡ rank = omega arith in
-          subst (λ (r : ℕ). IsBlockAt (before ++ last) (value_count a) r (AreMassesAt a den r)) e (last-block a den n before last h.long one)
+          subst (λ (r : ℕ). IsBlockAt (before ++ last) (value_count a) r (AreMassesAt supply a den r)) e (last-block supply a den n before last h.long one)
           )
     ]
 
-ranked-known : (a : SymmetricAuction) (den : ℤ) (n : ℕ) (rest after : Rest) (rows : List ℤ) → masses_to a den n rest ≡ Ok (rows, after) → AreRanked a den n rows
-ranked-known a den zero rest after rows h =
+ranked-known : (supply : Supply) (a : SymmetricAuction) (den : ℤ) (n : ℕ) (rest after : Rest) (rows : List ℤ) → masses_to supply a den n rest ≡ Ok (rows, after) → AreRanked supply a den n rows
+ranked-known supply a den zero rest after rows h =
     let same : ([], rest) ≡ (rows, after) = cc in
-    subst (AreRanked a den zero) (ap (λ (p : List ℤ × Rest). p.0) same) (record { long = no-row (value_count a); at = λ rank l. absurd (omega arith) })
-ranked-known a den (suc n) rest after rows h =
-    let before = in_two (masses_to a den n rest) _ rows after h in
-    let last = in_two (masses_at a den n before.mid) _ rows after before.next_is in
+    subst (AreRanked supply a den zero) (ap (λ (p : List ℤ × Rest). p.0) same) (record { long = no-row (value_count a); at = λ rank l. absurd (omega arith) })
+ranked-known supply a den (suc n) rest after rows h =
+    let before = in_two (masses_to supply a den n rest) _ rows after h in
+    let last = in_two (masses_at supply a den n before.mid) _ rows after before.next_is in
     let same : (before.one ++ last.one, last.mid) ≡ (rows, after) = cc in
-    subst (AreRanked a den (suc n)) (ap (λ (p : List ℤ × Rest). p.0) same)
-    (ranked-push a den n before.one last.one (ranked-known a den n rest before.mid before.one before.first_is) (rank-known a den n before.mid last.mid last.one last.first_is))
+    subst (AreRanked supply a den (suc n)) (ap (λ (p : List ℤ × Rest). p.0) same)
+    (ranked-push supply a den n before.one last.one (ranked-known supply a den n rest before.mid before.one before.first_is) (rank-known supply a den n before.mid last.mid last.one last.first_is))
 
-ranked-masses : (a : SymmetricAuction) (y : Masses) → pos 1 ≤ℤ y.den → y.den ≤ℤ pos number_limit → AreRanked a y.den (rank_count a) y.rows → AreMasses a y
-ranked-masses a y positive small h = record {
+ranked-masses : (supply : Supply) (a : SymmetricAuction) (y : Masses) → pos 1 ≤ℤ y.den → y.den ≤ℤ pos number_limit → AreRanked supply a y.den (rank_count a) y.rows → AreTold supply a y
+ranked-masses supply a y positive small h = record {
   den_positive = positive;
   den_size = small;
   whole = h.long;
   nonneg = λ rank v b l. let block = h.at rank b in rw (block.at v l) (block.has.nonneg v l);
-  absent = λ rank v b l none. let block = h.at rank b in block.at v l ∙ block.has.absent v l none;
-  over = λ rank b. let block = h.at rank b in whole_at rank block.block block.long block.at block.has.over;
+  most = λ rank v b l. let block = h.at rank b in rw (block.at v l) (block.has.most v l);
+  over = λ rank b. let block = h.at rank b in whole_at rank (pos (units_in supply) *ℤ cap_at a y.den rank) block.block block.long block.at block.has.over;
 }
   where
-    whole_at : (rank : ℕ) (block : List ℤ) → length block ≡ value_count a → ((v : ℕ) → v < value_count a → mass_at a y rank v ≡ number_at block v) → total block ≤ℤ cap_at a y.den rank
-        → sum_to (value_count a) (mass_at a y rank) ≤ℤ cap_at a y.den rank
-    whole_at rank block long at over =
+    whole_at : (rank : ℕ) (given : ℤ) (block : List ℤ) → length block ≡ value_count a → ((v : ℕ) → v < value_count a → mass_at a y rank v ≡ number_at block v) → total block ≤ℤ given
+        → sum_to (value_count a) (mass_at a y rank) ≤ℤ given
+    whole_at rank given block long at over =
         let same : sum_to (value_count a) (mass_at a y rank) ≡ total block =
         sum_to-same (value_count a) (mass_at a y rank) (λ v. number_at block v) at ∙ ap (λ (n : ℕ). sum_to n (λ v. number_at block v)) (sym long) ∙ sym (total_by-places (λ x. x) block (pos 0)) in
         rw same over
 
--- a mass table that was read over a denominator in its range
-pub masses-known : (a : SymmetricAuction) (den : ℤ) (rest after : Rest) (y : Masses) → pos 1 ≤ℤ den → den ≤ℤ pos number_limit → masses_over a den rest ≡ Ok (y, after) → AreMasses a y × (y.den ≡ den)
-masses-known a den rest after y positive small h =
-    let rows = in_two (masses_to a den (rank_count a) rest) _ y after h in
+-- masses that were read over a denominator in its range
+pub masses-known : (supply : Supply) (a : SymmetricAuction) (den : ℤ) (rest after : Rest) (y : Masses) → pos 1 ≤ℤ den → den ≤ℤ pos number_limit → masses_over supply a den rest ≡ Ok (y, after)
+    → AreMassesOf supply a y × (y.den ≡ den)
+masses-known supply a den rest after y positive small h =
+    let rows = in_two (masses_to supply a den (rank_count a) rest) _ y after h in
     let made : Masses = record { den = den; rows = rows.one } in
     let pair : (made, rows.mid) ≡ (y, after) = cc in
-    subst (λ (m : Masses). AreMasses a m × (m.den ≡ den)) (ap (λ (p : Masses × Rest). p.0) pair) (ranked-masses a made positive small (ranked-known a den (rank_count a) rest rows.mid rows.one rows.first_is), refl)
+    subst (λ (m : Masses). AreMassesOf supply a m × (m.den ≡ den)) (ap (λ (p : Masses × Rest). p.0) pair)
+    (table-of_told supply a made (ranked-masses supply a made positive small (ranked-known supply a den (rank_count a) rest rows.mid rows.one rows.first_is)), refl)

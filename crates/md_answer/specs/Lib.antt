@@ -3,6 +3,7 @@ pub mod Answers
 pub mod AnswerTo
 pub mod Pivots
 pub mod Rows
+pub mod Supplies
 pub mod Odds
 pub mod InterimRecords
 pub mod MassRecords

@@ -8,8 +8,9 @@ ghost use Rattle.md_answer.specs.AuctionAnswerTo.{IsAuctionAnswer};
 ghost use Rattle.md_answer.specs.AuctionAnswers.{auction_answer_of};
 ghost use Rattle.md_answer.specs.Answers.{table_answer, optimal_answer, infeasible_answer, unbounded_answer, too_wide_answer, answer_by, answer_of};
 
+use crate::auction_reading::read_auction_answer;
 use crate::kind::{Kind, answer_words};
-use crate::{Answer, AnswerRefusal, auction_reading};
+use crate::{Answer, AnswerRefusal, Supply};
 use md_lp::Sets;
 use md_parts::{
     Head, Reader, Version, read_bound, read_face, read_first, read_last, read_mechanism, read_pays,
@@ -161,6 +162,8 @@ pub fn read_answer(alloc: Global, bytes: &[u8], file: &SettingFile) -> Result<An
 {
     match file {
         SettingFile::General(setting) => read_about(alloc, bytes, setting),
-        SettingFile::Auction(auction) => auction_reading::read_about(alloc, bytes, auction),
+        SettingFile::Auction(auction) => {
+            read_auction_answer(alloc, bytes, auction, &Supply::Item)
+        },
     }
 }

@@ -9,8 +9,9 @@ ghost use Rattle.md_answer.specs.AuctionAnswers.{auction_answer_of};
 ghost use Rattle.md_answer.specs.AuctionRows.{text_of_auction_answer};
 ghost use Rattle.md_answer.specs.Rows.{inner_rows, version_in, kind_in, answer_rows, text_of_answer};
 
+use crate::auction_writing::write_auction_answer;
 use crate::kind::Kind;
-use crate::{Answer, auction_writing};
+use crate::{Answer, Supply};
 use md_num::NoMemory;
 use md_parts::{
     Version, push_bound, push_end, push_face, push_first, push_mechanism, push_pays, push_second,
@@ -129,6 +130,8 @@ pub fn write_answer(alloc: Global, file: &SettingFile, answer: &Answer) -> Resul
 {
     match file {
         SettingFile::General(setting) => text_about(alloc, setting, answer),
-        SettingFile::Auction(auction) => auction_writing::text_about(alloc, auction, answer),
+        SettingFile::Auction(auction) => {
+            write_auction_answer(alloc, auction, &Supply::Item, answer)
+        },
     }
 }

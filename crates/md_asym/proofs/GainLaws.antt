@@ -1,5 +1,5 @@
 -- What odds and payments of a sale are worth, by their lists and by a point, and how large the parts of it can become.
-use Rattle.std.proofs.Common.{◌≡◌, ℕ, ◌+◌, ◌*◌, ◌^◌, ◌<◌, ◌≤◌, ℤ, pos, ◌+ℤ◌, ◌*ℤ◌, ◌≤ℤ◌, to_z, of_z, List, ap, ap₂, ◌∙◌, sym, subst, arith, lit<, mul-le-mul, le_refl}
+use Rattle.std.proofs.Common.{◌≡◌, ℕ, ◌+◌, ◌*◌, ◌^◌, ◌<◌, ◌≤◌, ℤ, pos, ◌+ℤ◌, ◌*ℤ◌, ◌≤ℤ◌, to_z, of_z, List, ap, ap₂, arith, lit<, mul-le-mul, le_refl}
 use mir.Syntax.{w128}
 use Rattle.std.proofs.lemmas.Int.{ints}
 use Rattle.md_math.specs.Lists.{number_at}
@@ -10,7 +10,7 @@ use Rattle.md_math.proofs.Readings.{read, read_small}
 use Rattle.md_math.proofs.SizeLaws.{AllWithin-number_at, IsWithin-wider, IsWithin-+ℤ, IsWithin-*ℤ, sum_to-within}
 use Rattle.md_math.proofs.SumLaws.{sum_to-same}
 use Rattle.md_setting.specs.Setting.{GeneralSetting}
-use Rattle.md_setting.specs.Meaning.{agent_count, sizes_of, total_of}
+use Rattle.md_setting.specs.Meaning.{sizes_of, total_of}
 use Rattle.md_setting.specs.Shaped.{IsShaped}
 use Rattle.md_setting.proofs.MarginalLaws.{marginal-small}
 use Rattle.md_mech.specs.Accepted.{number_limit}
@@ -21,8 +21,7 @@ use Rattle.md_asym_sale.specs.Values.{pairs_of, marginal_at, surplus_at}
 use Rattle.md_asym_sale.proofs.SaleLaws.{surplus-within}
 use Rattle.md_asym_laws.specs.Worth.{base_of, worth_in}
 use Rattle.md_asym_laws.proofs.PairFacts.{pair-of}
-use Rattle.md_asym.specs.Gains.{AreSaleOdds, gain_of, gains_of, worth_by}
-use Rattle.md_asym.specs.SaleCuts.{odds_in, pays_in}
+use Rattle.md_asym.specs.Gains.{AreSaleOdds, gain_of, odds_in, pays_in, worth_by}
 
 -- ---- by a point
 

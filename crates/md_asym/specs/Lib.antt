@@ -1,3 +1,6 @@
-pub mod SaleCuts
 pub mod Gains
-pub mod Solved
+pub mod AnswerTo
+pub mod SaleRows
+pub mod SaleReading
+pub mod SaleText
+pub mod SaleVerdicts

@@ -1,13 +1,19 @@
-//! Sales of one item to bidders who differ, solved: the cut run over the programs of a sale, whose cuts are Border's
-//! conditions for sets of pairs of a bidder and one of its types. Its end is an optimal mechanism of the setting.
+//! Answers about the best mechanism of a sale of one item to bidders who differ: what its odds and payments are worth, their texts,
+//! and whether what they claim is so.
 #![tactic(auto)]
 
 mod asym_answer;
-mod payments;
-mod sale;
-mod solving;
+mod checking;
+mod mass_records;
+mod pair_numbers;
+mod reading;
+mod sale_answer;
 mod worth;
+mod writing;
 
 pub use asym_answer::AsymAnswer;
-pub use md_cut_runs::CutsError as AsymError;
-pub use solving::solve_asym;
+pub use checking::check_asym;
+pub use reading::read_asym;
+pub use sale_answer::SaleAnswer;
+pub use worth::sale_worth;
+pub use writing::write_asym;

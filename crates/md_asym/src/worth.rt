@@ -4,6 +4,7 @@ ghost use Rattle.md_math.specs.Divisors.{IsLeastTerms};
 ghost use Rattle.md_math.specs.Sizes.{IsWithin};
 ghost use Rattle.md_setting.specs.Meaning.{total_of};
 ghost use Rattle.md_setting.specs.Shaped.{IsShaped};
+ghost use Rattle.md_parts.specs.Fitting.{IsFraction};
 ghost use Rattle.md_asym_sale.specs.Sale.{IsSale};
 ghost use Rattle.md_asym_sale.specs.Values.{pairs_of};
 ghost use Rattle.md_asym_laws.specs.Worth.{base_of};
@@ -15,11 +16,12 @@ use md_setting::Setting;
 
 /// The designer's expected objective, in least terms: what the item is worth where it is kept, and for each pair what it
 /// gains and pays, by its weight.
-pub(crate) fn sale_worth(setting: &Setting, den: i128, odds: &Nums, pays: &Nums) -> Frac
+pub fn sale_worth(setting: &Setting, den: i128, odds: &Nums, pays: &Nums) -> Frac
     requires sale { IsSale setting.now }
     requires fits { AreSaleOdds setting.now den odds.now pays.now }
     ensures value { result.num *ℤ (den *ℤ total_of setting.now) ≡ worth_by setting.now den odds.now pays.now *ℤ result.den }
     ensures least { IsLeastTerms result.num result.den }
+    ensures fraction { IsFraction result.num result.den }
 {
     Frac::reduced(
         worth_over_whole(setting, den, odds, pays),

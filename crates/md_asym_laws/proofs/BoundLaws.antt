@@ -50,7 +50,7 @@ pub zero-meets : (s : GeneralSetting) (cuts : List ℕ) (p : Program) → IsShap
 zero-meets s cuts p shaped is =
     rows-meet s cuts p (pos 1) (λ _. pos 0) is (record { positive = omega (arith, ints); nonneg = λ j b. omega (arith, ints) })
     (record { truth = λ i a b h l k. same (own_value s i a *ℤ pos 0); rational = λ i a h l. none (own_value s i a *ℤ pos 0) (*ℤ-zero (own_value s i a)) })
-    (λ set. cut (demands_in s (λ _. pos 0) set) (right_of s set) (demands-zero s set) (right-nonneg s set shaped))
+    (λ k d b. let set = get_or cuts k d in cut (demands_in s (λ _. pos 0) set) (right_of s set) (demands-zero s set) (right-nonneg s set shaped))
   where
     same : (z : ℤ) → (z -ℤ (pos 0 -ℤ pos 0)) ≤ℤ (z -ℤ (pos 0 -ℤ pos 0))
     same z = omega (arith, linear)

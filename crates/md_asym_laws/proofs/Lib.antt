@@ -13,3 +13,4 @@ pub mod PointLaws
 pub mod BoundLaws
 pub mod OddsLaws
 pub mod CutRunLaws
+pub mod SamePoints

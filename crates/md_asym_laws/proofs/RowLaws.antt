@@ -1,5 +1,5 @@
 -- The rows of the program of a sale, one by one: what a point that meets them keeps, and what has to be shown of each.
-use Rattle.std.proofs.Common.{◌≡◌, ◌≢◌, ℕ, ◌<◌, ℤ, pos, ◌-ℤ◌, ◌*ℤ◌, ◌≤ℤ◌, neg_ℤ, List, [], ◌∷◌, ◌++◌, map, get_or, All, ap, inl, inr, ne_eqb, arith}
+use Rattle.std.proofs.Common.{◌≡◌, ◌≢◌, ℕ, ◌<◌, ℤ, pos, ◌-ℤ◌, ◌*ℤ◌, ◌≤ℤ◌, neg_ℤ, List, [], ◌∷◌, ◌++◌, map, All, ap, inl, inr, ne_eqb, arith}
 use Rattle.std.specs.Prelude.{slice_index}
 use Rattle.std.proofs.lemmas.Bool.{cases_eq}
 use Rattle.std.proofs.lemmas.List.Elements.{All-append, All-map}
@@ -28,7 +28,7 @@ rationals_by s rational = by_agent s (λ i. by_type s i (λ a. rational i a ∷ 
 -- what holds of each condition holds of all
 all-listed : {X : Type 0} (P : X → Type 0) (s : GeneralSetting) (truth : ℕ → ℕ → ℕ → X) (rational : ℕ → ℕ → X) (cut : ℕ → X) (cuts : List ℕ)
     → ((i a b : ℕ) → i < agent_count s → a < slice_index (sizes_of s) i → b < slice_index (sizes_of s) i → P (truth i a b))
-    → ((i a : ℕ) → i < agent_count s → a < slice_index (sizes_of s) i → P (rational i a)) → ((set : ℕ) → P (cut set))
+    → ((i a : ℕ) → i < agent_count s → a < slice_index (sizes_of s) i → P (rational i a)) → All (λ set. P (cut set)) cuts
     → All P ((truths_by s truth ++ rationals_by s rational) ++ map cut cuts)
 all-listed P s truth rational cut cuts truths rationals each =
     All-append P (truths_by s truth ++ rationals_by s rational) (map cut cuts)
@@ -38,7 +38,7 @@ all-listed P s truth rational cut cuts truths rationals each =
     (λ a l. all-by_report P (slice_index (sizes_of s) i) a (truth i a) (λ b k. truths i a b h l k))))
     (All-up_to P (agent_count s) (λ i. by_type s i (λ a. rational i a ∷ []))
     (λ i h. All-up_to P (slice_index (sizes_of s) i) (λ a. rational i a ∷ []) (λ a l. all-one P (rational i a) (rationals i a h l)))))
-    (All-map P cut cuts (λ k d b. each (get_or cuts k d)))
+    (All-map P cut cuts each)
 
 -- what holds of all holds of each
 record EachHolds {X : Type 0} (P : X → Type 0) (s : GeneralSetting) (truth : ℕ → ℕ → ℕ → X) (rational : ℕ → ℕ → X) (cut : ℕ → X) (cuts : List ℕ) : Type 0 where
@@ -100,8 +100,8 @@ to-less y z o e l = omega (arith, linear)
 to-nonneg : (y o : ℤ) → o ≡ pos 0 → pos 0 ≤ℤ y → neg_ℤ y ≤ℤ o
 to-nonneg y o e l = omega (arith, linear)
 
--- a point that keeps each condition meets the program
-pub rows-meet : (s : GeneralSetting) (cuts : List ℕ) (p : Program) (den : ℤ) (x : ℕ → ℤ) → IsSaleProgram s cuts p → IsPoint p den x → KeepsRows s x → ((set : ℕ) → demands_in s x set ≤ℤ (den *ℤ right_of s set)) → Meets p den x
+-- a point that keeps each condition and each cut meets the program
+pub rows-meet : (s : GeneralSetting) (cuts : List ℕ) (p : Program) (den : ℤ) (x : ℕ → ℤ) → IsSaleProgram s cuts p → IsPoint p den x → KeepsRows s x → All (λ set. demands_in s x set ≤ℤ (den *ℤ right_of s set)) cuts → Meets p den x
 rows-meet s cuts p den x is point rows cut =
     (meets-conditions s cuts p is den x point).1
     (all-listed (λ c. Holds den x (form_of s c)) s _ _ _ cuts

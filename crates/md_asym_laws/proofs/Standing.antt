@@ -1,5 +1,5 @@
 -- Each admissible mechanism of a sale stands at a point of its program, that of its averages.
-use Rattle.std.proofs.Common.{◌≡◌, ℕ, ◌+◌, ◌<◌, ℤ, pos, ◌+ℤ◌, ◌*ℤ◌, ◌≤ℤ◌, ◌<ℤ◌, List, sym, ap, ◌∙◌, arith}
+use Rattle.std.proofs.Common.{◌≡◌, ℕ, ◌+◌, ◌<◌, ℤ, pos, ◌+ℤ◌, ◌*ℤ◌, ◌≤ℤ◌, ◌<ℤ◌, List, get_or, sym, ap, ◌∙◌, arith}
 use Rattle.std.proofs.lemmas.Int.{ints}
 use Rattle.md_math.proofs.Order.{positive-*ℤ}
 use Rattle.md_math.proofs.Ring.{ring}
@@ -45,7 +45,7 @@ averages-meet s cuts p m sale shaped is admissible =
       truth = λ i a b h l k. averaged-truth s (win_in s m) (paid_in s m) i a b sale shaped h l k (truthful-given s m i a b sale shaped admissible h l k);
       rational = λ i a h l. averaged-rational s (win_in s m) (paid_in s m) i a shaped h l (rational-given s m i a sale shaped admissible h l);
     })
-    (λ set. averaged-cut s m (paid_in s m) set sale shaped admissible.mechanism)
+    (λ k d b. averaged-cut s m (paid_in s m) (get_or cuts k d) sale shaped admissible.mechanism)
 
 pub stands-in : (s : GeneralSetting) (cuts : List ℕ) (p : Program) → IsSale s → IsShaped s → IsSaleProgram s cuts p → HoldsAdmissible s p
 stands-in s cuts p sale shaped is m admissible =

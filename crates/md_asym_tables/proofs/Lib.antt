@@ -3,3 +3,4 @@ pub mod FlowLaws
 pub mod WeightLaws
 pub mod MechanismLaws
 pub mod Necessity
+pub mod MassSums

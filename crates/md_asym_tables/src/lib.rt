@@ -5,12 +5,15 @@
 //! flow from the profiles to the pairs.
 #![tactic(auto)]
 
+mod mass_sums;
 mod odds;
 mod pair_end;
 mod pair_net;
 mod pair_table;
 mod realising;
 
+pub use mass_sums::mass_sum;
 pub use odds::are_odds;
 pub use pair_end::PairEnd;
+pub use pair_net::demand;
 pub use realising::realise_pairs;

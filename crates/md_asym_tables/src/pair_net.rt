@@ -70,7 +70,8 @@ fn demands(alloc: Global, setting: &Setting, odds: &Nums) -> Result<Nums, NoMemo
     Ok(demands)
 }
 
-fn demand(setting: &Setting, odds: &Nums, pair: u32) -> i128
+/// How often a pair asks for the item by its odds, by weight.
+pub fn demand(setting: &Setting, odds: &Nums, pair: u32) -> i128
     requires one_each { length odds.now ≡ pairs_of setting.now }
     requires small { (p : ℕ) → p < pairs_of setting.now → (pos 0 ≤ℤ number_at odds.now p) × (number_at odds.now p ≤ℤ pos 4611686018427387903) }
     requires pair_in { pair < pairs_of setting.now }
@@ -105,8 +106,8 @@ fn pairs_at(setting: &Setting, rank: u32) -> u32
     set
 }
 
-// Whether the agent of a pair has its type at the profile of a rank.
-fn has_at(setting: &Setting, rank: u32, number: u32) -> bool
+/// Whether the agent of a pair has its type at the profile of a rank.
+pub(crate) fn has_at(setting: &Setting, rank: u32, number: u32) -> bool
     requires rank_in { rank < profile_count (sizes_of setting.now) }
     requires number_in { number < pairs_of setting.now }
     ensures { result ≡ has_at setting.now rank number }

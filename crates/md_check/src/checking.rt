@@ -11,7 +11,7 @@ ghost use Rattle.md_check.specs.AuctionVerdicts.{IsAuctionVerdict, IsSoundAuctio
 ghost use Rattle.md_check.specs.Verdicts.{IsVerdict, IsSound, ClaimsNothing, ClaimHolds};
 
 use crate::auction::check_auction;
-use md_answer::Answer;
+use md_answer::{Answer, Supply};
 use md_num::NoMemory;
 use md_question_check::{Verdict, check_infeasible, check_optimal, check_unbounded};
 use md_setting::{Setting, SettingFile};
@@ -38,7 +38,7 @@ pub fn check(alloc: Global, file: &SettingFile, answer: &Answer) -> Result<Verdi
 {
     match file {
         SettingFile::General(setting) => check_general(alloc, setting, answer),
-        SettingFile::Auction(auction) => check_auction(alloc, auction, answer),
+        SettingFile::Auction(auction) => check_auction(alloc, auction, &Supply::Item, answer),
     }
 }
 

@@ -54,20 +54,20 @@ module _ (a : SymmetricAuction) (x y : ℕ → ℤ) (same : IsSameInterim a x y)
       (λ v. pos (slice_index a.weights v) *ℤ (surplus_of a v *ℤ y v +ℤ a.revenue *ℤ pay_in a y v))
       (λ v b. ap₂ (λ q p. pos (slice_index a.weights v) *ℤ (surplus_of a v *ℤ q +ℤ a.revenue *ℤ p)) (same.odds v b) (same.pay v b))
 
-  module _ (cuts : List ℕ) (p : Program) (is : IsReducedProgram a 1 cuts p) where
+  module _ (units : ℕ) (cuts : List ℕ) (p : Program) (is : IsReducedProgram a units cuts p) where
     -- a point with the odds and payments of one that meets the program meets it
     meets-same : (den : ℤ) → Meets p den x → IsPoint p den y → Meets p den y
     meets-same den meets point =
-        (meets-conditions a 1 cuts p is den y point).1
+        (meets-conditions a units cuts p is den y point).1
         (λ k c b.
         let condition = get_or (conditions_of (value_count a) cuts) k c in
-        subst (λ z. z ≤ℤ (den *ℤ right_side a 1 condition)) (sides-same cuts k c b) ((meets-conditions a 1 cuts p is den x meets.point).0 meets k c b))
+        subst (λ z. z ≤ℤ (den *ℤ right_side a units condition)) (sides-same cuts k c b) ((meets-conditions a units cuts p is den x meets.point).0 meets k c b))
 
     -- and costs the same
     cost_sum-same : cost_sum p x ≡ cost_sum p y
     cost_sum-same =
         *ℤ_cancel p.factor (cost_sum p x) (cost_sum p y) (IsDivisorFor-positive _ _ p.factor is.has_cost.factor)
-        (sym (costs-points a 1 cuts p is x) ∙ cost-same ∙ costs-points a 1 cuts p is y)
+        (sym (costs-points a units cuts p is x) ∙ cost-same ∙ costs-points a units cuts p is y)
 
     -- so that what is certified of the one point is certified of the other
     certified-same : (den over : ℤ) (main face : ℕ → ℤ) → IsPoint p den y → IsOptimalCertified p den x over main face → IsOptimalCertified p den y over main face
@@ -92,9 +92,9 @@ module _ (a : SymmetricAuction) (den : ℤ) (xs : List ℤ) (fits : IsInterim a 
       }
 
   -- it is certified by the same bound
-  pub certified-at_interim : (cuts : List ℕ) (p : Program) (bound : Bound) → IsReducedProgram a 1 cuts p → Certified p (Optimal den xs bound) → Certified p (auction_certificate (interim_in a den (number_at xs)) bound)
-  certified-at_interim cuts p bound is c =
+  pub certified-at_interim : (units : ℕ) (cuts : List ℕ) (p : Program) (bound : Bound) → IsReducedProgram a units cuts p → Certified p (Optimal den xs bound) → Certified p (auction_certificate (interim_in a den (number_at xs)) bound)
+  certified-at_interim units cuts p bound is c =
       let interim = interim_in a den (number_at xs) in
-      certified-same a (number_at xs) (number_at (point_of interim)) same-there cuts p is den bound.den (number_at bound.main) (number_at bound.face)
+      certified-same a (number_at xs) (number_at (point_of interim)) same-there units cuts p is den bound.den (number_at bound.main) (number_at bound.face)
       (record { positive = c.meets.point.positive; nonneg = λ j b. All-get_or (λ z. pos 0 ≤ℤ z) (point_of interim) j (pos 0) (omega (arith, b, is.columns, point-length a interim fits)) (point-nonneg a interim fits) })
       c

@@ -15,6 +15,7 @@ use Rattle.md_answer.specs.AuctionAnswers.{auction_answer_of}
 use Rattle.md_answer.specs.AuctionAnswerTo.{IsAuctionAnswer}
 use Rattle.md_answer.specs.declared.answer.Answer.{Answer}
 use Rattle.md_answer.specs.declared.answer.Answer.TheVariants.{Table, Optimal, Infeasible, Unbounded, AuctionOptimal, TooWide}
+use Rattle.md_unit_tables.proofs.FurtherUnits.{one-of_worth}
 use Rattle.md_check.specs.AuctionVerdicts.{IsAuctionVerdict}
 use Rattle.md_question_check.specs.declared.verdict.Verdict.TheVariants.{Valid}
 use Rattle.md_solve.specs.AuctionSolved.{ClaimsAuctionOptimal, IsAuctionSo, IsAuctionSolved, IsCertifiedAuction, WhereAuctionOptimal}
@@ -39,7 +40,7 @@ module _ (a : SymmetricAuction) (width : ℕ) where
         record {
           add_up = record { holds = λ v b. h.solved.implements.exact v b };
           meets = record { program = own.program; is_program = own.is_program; holds = λ p is. (h.certified p is).meets };
-          worth = h.solved.value_is.has_worth;
+          worth = one-of_worth a interim value h.solved.value_is.has_worth;
         },
         record { program = own.program; is_program = own.is_program; holds = λ p is. h.certified p is },
       )

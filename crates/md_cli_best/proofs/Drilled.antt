@@ -9,12 +9,13 @@ use Rattle.md_answer.specs.Answers.{answer_of}
 use Rattle.md_answer.specs.AuctionAnswers.{auction_answer_of}
 use Rattle.md_answer.specs.declared.answer.Answer.{Answer}
 use Rattle.md_answer.specs.declared.answer.Answer.TheVariants.{Table, Optimal, Infeasible, Unbounded, AuctionOptimal, TooWide}
+use Rattle.md_answer.specs.declared.supply.Supply.TheVariants.{Item}
 use Rattle.md_parts.specs.declared.refusal.AnswerRefusal.{AnswerRefusal}
 use Rattle.md_check.specs.AuctionVerdicts.{IsAuctionVerdict}
 use Rattle.md_check.specs.Verdicts.{IsVerdict}
 use Rattle.md_question_check.specs.declared.verdict.Verdict.{Verdict}
 use Rattle.md_question_check.specs.declared.verdict.Verdict.TheVariants.{Valid}
-use Rattle.md_check.proofs.AuctionLaws.{if_sound_auction}
+use Rattle.md_check.proofs.AuctionLaws.{if_sound}
 use Rattle.md_check.proofs.VerdictLaws.{sound-valid}
 use Rattle.md_cli_best.specs.AuctionHeadline.{IsAuctionHeadline}
 use Rattle.md_cli_judge.specs.Checking.{IsVerdictOn}
@@ -84,7 +85,7 @@ module _ (a : SymmetricAuction) where
   only-valid_auction (Infeasible face) v valid judged = absurd valid
   only-valid_auction (Unbounded m ray) v valid judged = absurd valid
   only-valid_auction (AuctionOptimal value interim masses cuts bound) v valid judged =
-      if_sound_auction a (AuctionOptimal value interim masses cuts bound) (Ok v) judged valid.1.program
+      if_sound Item a (AuctionOptimal value interim masses cuts bound) (Ok v) judged valid.1.program
       (record {
         add_up = valid.0.add_up;
         is_program = valid.1.is_program;

@@ -3,12 +3,3 @@ pub mod AuctionHeadlines
 pub mod Fairest
 pub mod Found
 pub mod Drilled
-pub mod Closed
-pub mod Writable
-pub mod OptimalValues
-pub mod Sold
-pub mod Joined
-pub mod UnitsWritable
-pub mod OneUnit
-pub mod UnitsSold
-pub mod WinnersPay

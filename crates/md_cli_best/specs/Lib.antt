@@ -3,15 +3,7 @@ pub mod AuctionHeadline
 pub mod Solving
 pub mod Fair
 pub mod Finding
-pub mod Ironing
 pub mod Numbers
 pub mod Making
 pub mod Drilling
-pub mod WideTexts
-pub mod SaleTexts
-pub mod Selling
-pub mod UnitTexts
-pub mod SellingUnits
-pub mod ThresholdTexts
-pub mod Thresholding
 pub mod Determining

@@ -1,3 +1,4 @@
 pub mod Files
 pub mod Limits
 pub mod Works
+pub mod SaleWorks

@@ -17,7 +17,7 @@ use md_setting::SettingFile;
 use std::alloc::Global;
 
 /// The greatest length of a second file, in bytes.
-const ANSWER_LIMIT: usize = 67_108_864;
+pub(crate) const ANSWER_LIMIT: usize = 67_108_864;
 
 /// A command of two files.
 pub trait TwoFiles {
@@ -27,11 +27,11 @@ pub trait TwoFiles {
     /// The settings that it serves.
     ghost is_served: { SettingFile → Bool };
 
-    /// What the bytes of a second file say, by the setting.
-    ghost reading: { SettingFile → List ℕ → Result Self.Second Refusal };
+    /// What the bytes of a second file say to it, by the setting.
+    ghost reading: { Self → SettingFile → List ℕ → Result Self.Second Refusal };
 
     /// What is known of a second file that was read.
-    ghost fits: { SettingFile → Self.Second → Type 0 };
+    ghost fits: { Self → SettingFile → Self.Second → Type 0 };
 
     /// What it says of both.
     ghost says: { Self → SettingFile → Self.Second → Saying → Type 0 };
@@ -51,8 +51,8 @@ pub trait TwoFiles {
         bytes: &[u8],
     ) -> Result<Self::Second, Refusal>
         requires { is_served file.now ≡ true }
-        ensures follows { Follows (λ second. second) result (reading file.now bytes.now) }
-        ensures fits { IfOk result (fits file.now) }
+        ensures follows { Follows (λ second. second) result (reading self.now file.now bytes.now) }
+        ensures fits { IfOk result (fits self.now file.now) }
         ensures errors { IfErr result (λ e. (e ≡ refusal.Memory) ⊎ (status_of e ≡ 66)) };
 
     /// What it says of a setting that it serves and of what a second file says.
@@ -63,7 +63,7 @@ pub trait TwoFiles {
         second: &Self::Second,
     ) -> Result<Answered, Refusal>
         requires served { is_served file.now ≡ true }
-        requires fits { fits file.now second.now }
+        requires fits { fits self.now file.now second.now }
         ensures { IsWorked (says self.now file.now second.now) own result };
 }
 
@@ -75,7 +75,7 @@ pub fn of_two<F: Shelf, C: TwoFiles>(
     second: &str,
     shelf: &mut F,
 ) -> Result<Answered, Refusal>
-    ensures { IsCarriedOut (two_files C.Second C.is_served C.reading (C.says command.now) C.own) setting.now second.now (F.content shelf.old) (F.faults shelf.old) (F.faults shelf.new) result }
+    ensures { IsCarriedOut (two_files C.Second C.is_served (C.reading command.now) (C.says command.now) C.own) setting.now second.now (F.content shelf.old) (F.faults shelf.old) (F.faults shelf.new) result }
 {
     let file = read_setting_file(alloc, setting, shelf)?;
     if !command.serves(&file) {

@@ -18,11 +18,16 @@ use Rattle.md_question.specs.Question.{Question}
 use Rattle.md_question.specs.declared.finding.Finding.{Finding}
 use Rattle.md_question.specs.declared.finding.Finding.TheVariants as findings
 use Rattle.md_question_check.specs.Verdicts.{IsVerdictOn as IsVerdictOnFinding}
+use Rattle.md_asym.specs.SaleVerdicts.{IsSaleVerdict}
+use Rattle.md_asym.specs.declared.sale_answer.SaleAnswer.{SaleAnswer}
+use Rattle.md_asym.specs.declared.sale_answer.SaleAnswer.TheVariants as sale
 use Rattle.md_fair.specs.FairQuestion.{fair_question}
 use Rattle.md_fair.specs.FairVerdicts.{IsFairVerdict}
 use Rattle.md_fair.specs.declared.answer.FairAnswer.{FairAnswer}
 use Rattle.md_fair.specs.declared.answer.FairAnswer.TheVariants as fair
-use Rattle.md_check.specs.AuctionVerdicts.{IsAuctionVerdict}
+use Rattle.md_answer.specs.declared.supply.Supply.{Supply}
+use Rattle.md_answer.specs.declared.supply.Supply.TheVariants.{Item}
+use Rattle.md_check.specs.AuctionVerdicts.{IsVerdictFor}
 use Rattle.md_check.specs.Verdicts.{IsVerdict}
 use Rattle.md_cli_judge.specs.Checking.{IsVerdictOn}
 
@@ -40,18 +45,18 @@ told-in_general s (Unbounded m ray) broken h = first-in s m broken h
 told-in_general s (AuctionOptimal value interim masses cuts bound) broken h = absurd h
 told-in_general s (TooWide cuts first second) broken h = absurd (let e = h in cc)
 
--- no condition on the mechanism's rows is told of an answer about an auction
-told-in_auction : (a : SymmetricAuction) (answer : Answer) (broken : Broken) → IsAuctionVerdict a answer (Rejected (Audit broken)) → ⊥
-told-in_auction a (Table m) broken h = h
-told-in_auction a (Optimal value m bound) broken h = h
-told-in_auction a (Infeasible face) broken h = h
-told-in_auction a (Unbounded m ray) broken h = h
-told-in_auction a (AuctionOptimal value interim masses cuts bound) broken h = h.1.holds h.1.program h.1.is_program
-told-in_auction a (TooWide cuts first second) broken h = let e = h in cc
+-- no condition on the mechanism's rows is told of an answer about an auction or several units
+pub told-in_auction : (supply : Supply) (a : SymmetricAuction) (answer : Answer) (broken : Broken) → IsVerdictFor supply a answer (Rejected (Audit broken)) → ⊥
+told-in_auction supply a (Table m) broken h = h
+told-in_auction supply a (Optimal value m bound) broken h = h
+told-in_auction supply a (Infeasible face) broken h = h
+told-in_auction supply a (Unbounded m ray) broken h = h
+told-in_auction supply a (AuctionOptimal value interim masses cuts bound) broken h = h.1.holds h.1.program h.1.is_program
+told-in_auction supply a (TooWide cuts first second) broken h = let e = h in cc
 
 pub told-in : (file : SettingFile) (answer : Answer) (broken : Broken) → IsVerdictOn file answer (Rejected (Audit broken)) → IsBrokenRow file broken
 told-in (General s) answer broken h = told-in_general s answer broken h
-told-in (Auction a) answer broken h = told-in_auction a answer broken h
+told-in (Auction a) answer broken h = told-in_auction Item a answer broken h
 
 told-in_question : (q : Question) (finding : Finding) (broken : Broken) → IsVerdictOnFinding q finding (Rejected (Audit broken)) → broken.row < length (conditions_of q.setting)
 told-in_question q (findings.Optimal value m bound) broken h = first-in q.setting m broken h
@@ -61,6 +66,11 @@ told-in_question q (findings.Unbounded m ray) broken h = first-in q.setting m br
 pub told-in_fair : (s : GeneralSetting) (answer : FairAnswer) (broken : Broken) → IsFairVerdict s answer (Rejected (Audit broken)) → broken.row < length (conditions_of s)
 told-in_fair s (fair.Found finding) broken h = told-in_question (fair_question s) finding broken h
 told-in_fair s (fair.TooWide first second) broken h = absurd (let e = h in cc)
+
+-- no answer about a sale breaks a row of the setting
+pub untold-in_sale : (s : GeneralSetting) (answer : SaleAnswer) (broken : Broken) → IsSaleVerdict s answer (Rejected (Audit broken)) → ⊥
+untold-in_sale s (sale.Optimal answer) broken h = h.1.holds h.1.program h.1.is_program
+untold-in_sale s (sale.TooWide cuts first second) broken h = absurd (let e = h in cc)
 
 -- only a general setting has rows that a mechanism breaks
 pub broken-general : (file : SettingFile) (broken : Broken) → IsBrokenRow file broken → IsGeneral file

@@ -3,4 +3,7 @@ pub mod Checking
 pub mod DetermVerdicts
 pub mod DetermChecking
 pub mod FairChecking
+pub mod AsymChecking
+pub mod UnitChecking
 pub mod Auditing
+pub mod AuctionOptima

@@ -25,9 +25,9 @@ impl TwoFiles for Audit {
 
     ghost is_served = { is_general };
 
-    ghost reading = { mechanism_in };
+    ghost reading = { λ _. mechanism_in };
 
-    ghost fits = { λ file m. WhereGeneral (λ s. IsAccepted s m) file };
+    ghost fits = { λ _ file m. WhereGeneral (λ s. IsAccepted s m) file };
 
     ghost says = { λ _. IsAudit };
 

@@ -25,9 +25,9 @@ impl TwoFiles for Check {
 
     ghost is_served = { is_any };
 
-    ghost reading = { answer_in };
+    ghost reading = { λ _. answer_in };
 
-    ghost fits = { λ file answer. WhereGeneral (λ s. IsAnswerTo s answer) file × WhereAuction (λ a. IsAuctionAnswer a answer) file };
+    ghost fits = { λ _ file answer. WhereGeneral (λ s. IsAnswerTo s answer) file × WhereAuction (λ a. IsAuctionAnswer a answer) file };
 
     ghost says = { λ _. IsCheck };
 

@@ -31,9 +31,9 @@ impl TwoFiles for DetermCheck {
 
     ghost is_served = { is_general };
 
-    ghost reading = { determ_text_in };
+    ghost reading = { λ _. determ_text_in };
 
-    ghost fits = { λ file bytes. WhereGeneral (λ s. IsReadText s bytes) file };
+    ghost fits = { λ _ file bytes. WhereGeneral (λ s. IsReadText s bytes) file };
 
     ghost says = { λ _. IsDetermCheck };
 

@@ -23,9 +23,9 @@ impl TwoFiles for FairCheck {
 
     ghost is_served = { is_general };
 
-    ghost reading = { fair_answer_in };
+    ghost reading = { λ _. fair_answer_in };
 
-    ghost fits = { λ file answer. WhereGeneral (λ s. IsFairAnswer s answer) file };
+    ghost fits = { λ _ file answer. WhereGeneral (λ s. IsFairAnswer s answer) file };
 
     ghost says = { λ _. IsFairCheck };
 

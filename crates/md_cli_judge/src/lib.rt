@@ -2,15 +2,19 @@
 #![tactic(auto)]
 
 mod answer_text;
+mod asym_check;
 mod audit;
 mod check;
 mod determ_check;
 mod fair_check;
 mod records;
+mod unit_check;
 mod verdict_text;
 
 pub use answer_text::AnswerText;
+pub use asym_check::AsymCheck;
 pub use audit::Audit;
 pub use check::Check;
 pub use determ_check::DetermCheck;
 pub use fair_check::FairCheck;
+pub use unit_check::UnitCheck;

@@ -1,6 +1,6 @@
 //! The command `award`: what each bidder has of some units at a profile of reports, and who wins at a draw.
 ghost use Rattle.std.specs.Prelude.{◌≡◌, ◌⊎◌, true, length, IfOk, IfErr};
-ghost use Rattle.md_units.specs.Numbers.{IsUnitNumber};
+ghost use Rattle.md_unit_tables.specs.Numbers.{IsUnitNumber};
 ghost use Rattle.md_cli_driver.specs.declared.refusal.Refusal.TheVariants as refusal;
 ghost use Rattle.md_cli_driver.specs.Reading.{is_auction};
 ghost use Rattle.md_cli_driver.specs.Refused.{refused, status_of};
@@ -14,7 +14,7 @@ use md_cli_driver::{Answered, DONE, OneFile, Refusal, auction, is_auction};
 use md_num::NoMemory;
 use md_setting::{Auction, SettingFile};
 use md_threshold::{Award, AwardRefusal, award_units};
-use md_units::UnitNumber;
+use md_unit_tables::UnitNumber;
 use std::alloc::Global;
 
 /// `award SETTING NUMBER PROFILE DRAW`

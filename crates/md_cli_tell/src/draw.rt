@@ -36,9 +36,9 @@ impl TwoFiles for Draw<'_> {
 
     ghost is_served = { is_any };
 
-    ghost reading = { drawable_in };
+    ghost reading = { λ _. drawable_in };
 
-    ghost fits = { λ file answer. (WhereGeneral (λ s. IsAnswerTo s answer) file × WhereAuction (λ a. IsAuctionAnswer a answer) file) × (has_table answer ≡ true) };
+    ghost fits = { λ _ file answer. (WhereGeneral (λ s. IsAnswerTo s answer) file × WhereAuction (λ a. IsAuctionAnswer a answer) file) × (has_table answer ≡ true) };
 
     ghost says = { λ command. IsRun command.profile.now command.first command.second };
 

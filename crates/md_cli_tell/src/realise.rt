@@ -30,9 +30,9 @@ impl TwoFiles for Realise {
 
     ghost is_served = { is_auction };
 
-    ghost reading = { odds_in };
+    ghost reading = { λ _. odds_in };
 
-    ghost fits = { λ file interim. WhereAuction (λ a. IsInterim a interim) file };
+    ghost fits = { λ _ file interim. WhereAuction (λ a. IsInterim a interim) file };
 
     ghost says = { λ _. IsRealise };
 

@@ -33,9 +33,9 @@ impl TwoFiles for Replay {
 
     ghost is_served = { is_any };
 
-    ghost reading = { pivots_in };
+    ghost reading = { λ _. pivots_in };
 
-    ghost fits = { λ file pivots. WhereAuction (λ a. HasCutsOf a pivots) file };
+    ghost fits = { λ _ file pivots. WhereAuction (λ a. HasCutsOf a pivots) file };
 
     ghost says = { λ command. IsReplay command.width };
 

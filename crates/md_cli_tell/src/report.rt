@@ -33,9 +33,9 @@ impl TwoFiles for Tell {
 
     ghost is_served = { is_any };
 
-    ghost reading = { drawable_in };
+    ghost reading = { λ _. drawable_in };
 
-    ghost fits = { λ file answer. (WhereGeneral (λ s. IsAnswerTo s answer) file × WhereAuction (λ a. IsAuctionAnswer a answer) file) × (has_table answer ≡ true) };
+    ghost fits = { λ _ file answer. (WhereGeneral (λ s. IsAnswerTo s answer) file × WhereAuction (λ a. IsAuctionAnswer a answer) file) × (has_table answer ≡ true) };
 
     ghost says = { λ _. IsReporting };
 

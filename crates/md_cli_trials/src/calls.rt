@@ -41,9 +41,17 @@ const PIVOTS: &str = "pivot,4,0\npivot,1,1\nend\n";
 
 const HIGHER_VALUE: &str = "interim,4\nodds,0,3\nend\n";
 
+/// A bidder with the value 2 has one of two units for 2.
+const TWO_UNITS: &str =
+    "answer,1,units,optimal\nvalue,2,1\ninterim,1\nodds,0,1\npays,0,2\nmass,0,2,0,2\nmass,1,1,0,2\nmass,2,0,0,0\ncut,2\nbound,1\nrow,1,0,1\nrow,2,0,2\nrow,4,0,2\nend\n";
+
 const ALWAYS: &str = "interim,1\nodds,1,1\nend\n";
 
-static FILES: [(&str, &str); 17] = [
+/// The same as a sale.
+const ONE_BUYER_SALE_ANSWER: &str =
+    "answer,1,asym,optimal\nvalue,5,2\ninterim,1\nodds,buyer,0,1\npays,buyer,0,3\nmass,low,0\nmass,high,1\ncut,1\ncut,2\nbound,1\nrow,2,0,1\nrow,3,0,1\nrow,5,0,1\nend\n";
+
+static FILES: [(&str, &str); 19] = [
     ("one", ONE_TYPE),
     ("one-table", ONE_TYPE_TABLE),
     ("price", POSTED_PRICE),
@@ -58,13 +66,15 @@ static FILES: [(&str, &str); 17] = [
     ("buyer", ONE_BUYER),
     ("buyer-answer", ONE_BUYER_ANSWER),
     ("bidders", TWO_BIDDERS),
+    ("bidders-units", TWO_UNITS),
     ("sale", ONE_BUYER_SALE),
+    ("sale-answer", ONE_BUYER_SALE_ANSWER),
     ("higher", HIGHER_VALUE),
     ("always", ALWAYS),
 ];
 
 /// The calls. The last ones are refused.
-pub(crate) static CALLS: [Call; 40] = [
+pub(crate) static CALLS: [Call; 43] = [
     (&["audit", "one", "one-table"], 2, 0, "admissible\n"),
     (
         &["audit", "price", "above"],
@@ -141,17 +151,18 @@ pub(crate) static CALLS: [Call; 40] = [
         0,
         "answer,1,auction,optimal\nvalue,5,2\n",
     ),
-    (
-        &["asym", "sale"],
-        1,
-        0,
-        "answer,1,asym,optimal\nvalue,5,2\ninterim,1\nodds,buyer,0,1\npays,buyer,0,3\nmass,low,0\nmass,high,1\ncut,1\ncut,2\nbound,1\nrow,2,0,1\nrow,3,0,1\nrow,5,0,1\nend\n",
-    ),
+    (&["asym", "sale"], 1, 0, ONE_BUYER_SALE_ANSWER),
     (
         &["units", "bidders", "2"],
         1,
         0,
         "answer,1,units,optimal\nvalue,2,1\ninterim,",
+    ),
+    (
+        &["unitcheck", "bidders", "2", "bidders-units"],
+        2,
+        0,
+        "valid\n",
     ),
     (
         &["threshold", "bidders", "2"],
@@ -173,10 +184,17 @@ pub(crate) static CALLS: [Call; 40] = [
     ),
     (&["determcheck", "reach", "reach-tree"], 2, 0, "valid\n"),
     (&["faircheck", "reach", "reach-fair"], 2, 0, "valid\n"),
+    (&["asymcheck", "sale", "sale-answer"], 2, 0, "valid\n"),
     (&["make", "2"], 0, 0, "format = \"mechanism-setting\"\n"),
     (&["drill", "2"], 0, 0, "drill,2,general,optimal,"),
     (
         &["asym", "price"],
+        1,
+        65,
+        "mechdes: setting refused: not a sale\n",
+    ),
+    (
+        &["asymcheck", "price", "sale-answer"],
         1,
         65,
         "mechdes: setting refused: not a sale\n",

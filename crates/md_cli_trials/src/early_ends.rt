@@ -1,6 +1,8 @@
 //! Files that end early: each front of an answer of each kind, of an odds file and of a pivots file.
 use crate::calls::{ONE_BUYER, ONE_BUYER_ANSWER, POSTED_PRICE_ANSWER};
-use crate::test_settings::{OUT_OF_REACH, POSTED_PRICE, TAKING, THREE_BIDDERS, TWO_BIDDERS};
+use crate::test_settings::{
+    OUT_OF_REACH, POSTED_PRICE, STRONG_AND_WEAK, TAKING, THREE_BIDDERS, TWO_BIDDERS,
+};
 use crate::tests::words;
 use md_ports::{MemShelf, MemSink};
 use md_top::mechdes;
@@ -8,7 +10,7 @@ use std::alloc::{AllocError, Global};
 use std::test::Fail;
 
 // A command, a setting, its second file, and the status of the whole file.
-static FILES: [(&str, &str, &str, u8); 14] = [
+static FILES: [(&str, &str, &str, u8); 16] = [
     ("check", POSTED_PRICE, POSTED_PRICE_ANSWER, 0),
     (
         "check",
@@ -57,6 +59,18 @@ static FILES: [(&str, &str, &str, u8); 14] = [
         "faircheck",
         POSTED_PRICE,
         "answer,1,fair,toowide\npivot,4,0\nwide,1,1,20,1\nagain\nwide,1,1,20,1\nend\n",
+        22,
+    ),
+    (
+        "asymcheck",
+        STRONG_AND_WEAK,
+        "answer,1,asym,optimal\nvalue,17,4\ninterim,2\nodds,weak,0,1\nodds,strong,1,2\npays,weak,0,3\npays,strong,4,10\nmass,v2,v4,0,2\nmass,v2,v6,0,2\nmass,v3,v4,2,0\nmass,v3,v6,0,2\ncut,8\ncut,10\ncut,15\nbound,2\nrow,1,0,2\nrow,3,0,2\nrow,4,0,4\nrow,6,0,4\nrow,8,0,6\nrow,9,0,1\nrow,10,0,4\nend\n",
+        0,
+    ),
+    (
+        "asymcheck",
+        STRONG_AND_WEAK,
+        "answer,1,asym,toowide\ncut,1\npivot,0,1\nwide,0,0,9,1\nagain\nwide,0,0,9,1\nend\n",
         22,
     ),
     (

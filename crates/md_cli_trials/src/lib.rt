@@ -4,6 +4,8 @@
 #![tactic(auto)]
 
 #[cfg(test)]
+mod asymcheck_tests;
+#[cfg(test)]
 mod auction_tests;
 #[cfg(test)]
 mod calls;
@@ -49,6 +51,8 @@ mod test_settings;
 mod tests;
 #[cfg(test)]
 mod threshold_tests;
+#[cfg(test)]
+mod unitcheck_tests;
 #[cfg(test)]
 mod units_tests;
 #[cfg(test)]

@@ -14,7 +14,7 @@ const SECOND: &str = "\n[[agent]]\nname = \"two\"\ntypes = [\"low\", \"high\"]\n
 const OBJECTIVE: &str = "\n[objective]\nrevenue = 1\n";
 
 // A sale to two bidders for the payments, and what the best mechanism brings.
-struct Sale {
+pub(crate) struct Sale {
     one: &'static str,
     two: &'static str,
     // what the designer has of the outcomes, where that is something
@@ -22,14 +22,14 @@ struct Sale {
     value: &'static str,
 }
 
-fn text_of(alloc: Global, sale: &Sale) -> Result<String, AllocError> {
+pub(crate) fn text_of(alloc: Global, sale: &Sale) -> Result<String, AllocError> {
     let (one, two, values) = (sale.one, sale.two, sale.values);
     format!(in alloc; "{OPENING}{one}{SECOND}{two}{OBJECTIVE}{values}")
 }
 
 // Behind each the virtual values of both bidders: a low value less what the high one is more, by the weights, and the high
 // value. At each profile the greatest one above what the item is worth where it is kept counts.
-static SALES: [Sale; 9] = [
+pub(crate) static SALES: [Sale; 9] = [
     // 0 and 2, 0 and 4: (0 + 4 + 2 + 4) / 4
     Sale {
         one: "weights = [1, 1]\nutility = [[0, 1, 0], [0, 2, 0]]",

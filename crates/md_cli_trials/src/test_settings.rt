@@ -87,3 +87,7 @@ pub(crate) const TWO_BIDDERS: &str =
 // Three bidders with the values 1, 2 and 3.
 pub(crate) const THREE_BIDDERS: &str =
     "format = \"mechanism-setting\"\nversion = 1\nkind = \"auction\"\nbidders = 3\nvalues = [1, 2, 3]\nweights = [1, 1, 1]\nrevenue = 1\nwelfare = 0\nkeep = 0\n";
+
+// The item is worth 2 or 3 to the weak bidder, and 4 or 6 to the strong one.
+pub(crate) const STRONG_AND_WEAK: &str =
+    "format = \"mechanism-setting\"\nversion = 1\nkind = \"general\"\ntruth = \"bayes\"\nrational = \"interim\"\npayments = true\noutcomes = [\"keep\", \"weak\", \"strong\"]\n[objective]\nrevenue = 1\n[[agent]]\nname = \"weak\"\ntypes = [\"v2\", \"v3\"]\nweights = [1, 1]\nutility = [[0, 2, 0], [0, 3, 0]]\n[[agent]]\nname = \"strong\"\ntypes = [\"v4\", \"v6\"]\nweights = [1, 1]\nutility = [[0, 0, 4], [0, 0, 6]]\n";

@@ -8,9 +8,9 @@ const NUMBER: &str = "mechdes: number refused\n";
 
 const READ: &str = "mechdes: read fault\n";
 
-// Words, the status, and what is said. Words that are a command over files say that these could not be read, since no file has
-// their names.
-static WORDS: [(&[&str], u8, &str); 70] = [
+// Words of a command with a number, the status, and what is said. Words that are a command over files say that these could not be
+// read, since no file has their names.
+static NUMBERS: [(&[&str], u8, &str); 41] = [
     (&["make", "1000000"], 67, NUMBER),
     (&["drill", "1000000"], 67, NUMBER),
     (&["make", "--", "-1"], 67, NUMBER),
@@ -43,16 +43,28 @@ static WORDS: [(&[&str], u8, &str); 70] = [
     (&["units", "a", "02"], 64, USAGE),
     (&["units", "a", "2", "3"], 64, USAGE),
     (&["units", "a", "2", "--width", "3"], 64, USAGE),
+    (&["unitcheck", "a", "0", "b"], 67, NUMBER),
+    (&["unitcheck", "a", "2"], 64, USAGE),
+    (&["unitcheck", "a", "02", "b"], 64, USAGE),
+    (&["unitcheck", "a", "2", "b", "--width", "4"], 64, USAGE),
+    (&["unitcheck", "a", "2", "b"], 70, READ),
     (&["threshold", "a", "0"], 67, NUMBER),
     (&["threshold", "a", "13"], 67, NUMBER),
     (&["threshold", "a"], 64, USAGE),
     (&["threshold", "a", "2", "--width", "4"], 64, USAGE),
     (&["threshold", "a", "2"], 70, READ),
+    (&["ironunits", "a", "13"], 67, NUMBER),
+    (&["ironunits", "a"], 64, USAGE),
+    (&["ironunits", "a", "2"], 70, READ),
     (&["award", "a", "13", "3,5", "0"], 67, NUMBER),
     (&["award", "a", "2", "3,5"], 64, USAGE),
     (&["award", "a", "2", "3,5", "00"], 64, USAGE),
     (&["award", "a", "2", "3,5", "0", "0"], 64, USAGE),
     (&["award", "--", "a", "2", "", "-1"], 70, READ),
+];
+
+// The same of other commands, and words that begin with none.
+static WORDS: [(&[&str], u8, &str); 38] = [
     (&["run", "--", "a", "b", "-l", "-3", "-1"], 70, READ),
     (&["run", "a", "b", "", "0", "7"], 70, READ),
     (&["run", "a", "b", "l", "-3", "0"], 64, USAGE),
@@ -89,13 +101,14 @@ static WORDS: [(&[&str], u8, &str); 70] = [
     (&["determ", "a", "b"], 64, USAGE),
     (&["determcheck", "a"], 64, USAGE),
     (&["faircheck", "a"], 64, USAGE),
+    (&["asymcheck", "a"], 64, USAGE),
     (&["solve"], 64, USAGE),
     (&["find"], 64, USAGE),
     (&["findfair"], 64, USAGE),
 ];
 
 // Widths of 4 to 62 bits, once, where a path is taken.
-static WIDTHS: [(&[&str], u8, &str); 16] = [
+static WIDTHS: [(&[&str], u8, &str); 17] = [
     (&["solve", "--width=61", "a"], 70, READ),
     (&["replay", "a", "--width", "62", "b"], 70, READ),
     (&["fair", "a", "--width", "63"], 64, USAGE),
@@ -112,7 +125,20 @@ static WIDTHS: [(&[&str], u8, &str); 16] = [
     (&["report", "a", "b", "--width", "4"], 64, USAGE),
     (&["determcheck", "a", "b", "--width", "4"], 64, USAGE),
     (&["faircheck", "a", "b", "--width", "4"], 64, USAGE),
+    (&["asymcheck", "a", "b", "--width", "4"], 64, USAGE),
 ];
+
+#[test]
+fn other_numbers_are_refused(rt: HostRuntime) -> Result<(), Fail> {
+    let alloc = rt.alloc();
+    for (texts, status, said) in &NUMBERS {
+        let reply = carried_out(alloc, texts, "", b"")?;
+        assert_eq!(rt; reply.status, *status, "at {texts:?}");
+        assert!(rt; reply.out.bytes().is_empty(), "at {texts:?}");
+        assert!(rt; reply.err.bytes() == said.as_bytes(), "at {texts:?}");
+    }
+    Ok(())
+}
 
 #[test]
 fn other_words_are_refused(rt: HostRuntime) -> Result<(), Fail> {

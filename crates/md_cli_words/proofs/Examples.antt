@@ -5,7 +5,7 @@ use Rattle.clap.specs.Words.{Text}
 use Rattle.clap.proofs.OnLiterals.{clap_on_literals}
 use Rattle.md_cli_words.specs.Words.{Order, command_of}
 use Rattle.md_cli_words.specs.declared.command.Command.{Command}
-use Rattle.md_cli_words.specs.declared.command.Command.TheVariants.{Audit, Rows, Solve, Replay, Units, Threshold, Award, Run, Make}
+use Rattle.md_cli_words.specs.declared.command.Command.TheVariants.{Audit, Rows, Solve, Replay, Units, UnitCheck, Threshold, Award, Run, Make}
 
 -- a command of files, within a width
 abbrev of_files : Command → Text → Text → ℕ → Order
@@ -93,6 +93,14 @@ units_of_no_number = refl
 drill_of_zeros : command_of (codes "drill" ∷ codes "01" ∷ []) ≡ None
 unfolding clap_on_literals
 drill_of_zeros = refl
+
+unitcheck_of_two : command_of (codes "unitcheck" ∷ codes "x" ∷ codes "2" ∷ codes "y" ∷ []) ≡ Some (record { command = UnitCheck; setting = codes "x"; second = codes "y"; width = 62; profile = []; first_draw = pos 0; second_draw = pos 0; number = pos 2 })
+unfolding clap_on_literals
+unitcheck_of_two = refl
+
+unitcheck_without_an_answer : command_of (codes "unitcheck" ∷ codes "x" ∷ codes "2" ∷ []) ≡ None
+unfolding clap_on_literals
+unitcheck_without_an_answer = refl
 
 threshold_of_two : command_of (codes "threshold" ∷ codes "x" ∷ codes "2" ∷ []) ≡ Some (record { command = Threshold; setting = codes "x"; second = []; width = 62; profile = []; first_draw = pos 0; second_draw = pos 0; number = pos 2 })
 unfolding clap_on_literals

@@ -11,7 +11,9 @@
 --   findfair SETTING
 --   faircheck SETTING ANSWER
 --   asym SETTING [--width W]
+--   asymcheck SETTING ANSWER
 --   units SETTING NUMBER [--width W]
+--   unitcheck SETTING NUMBER ANSWER
 --   threshold SETTING NUMBER
 --   award SETTING NUMBER PROFILE DRAW
 --   determ SETTING [--width W]
@@ -19,15 +21,16 @@
 --   run SETTING ANSWER PROFILE DRAW1 DRAW2
 --   report SETTING ANSWER
 --   iron SETTING
+--   ironunits SETTING NUMBER
 --   make NUMBER
 --   drill NUMBER
 use Rattle.std.specs.Prelude.{List, [], ◌∷◌, Option, Some, None, codes, if◌then◌else◌}
 use Rattle.std.specs.Str.{bytes_eq}
 use Rattle.clap.specs.Words.{Text}
 use Rattle.md_cli_words.specs.declared.command.Command.{Command}
-use Rattle.md_cli_words.specs.declared.command.Command.TheVariants.{Audit, Rows, Check, Solve, Replay, Realise, Fair, Find, FindFair, FairCheck, Asym, Units, Threshold, Award, Determ, DetermCheck, Run, Report, Iron, Make, Drill}
+use Rattle.md_cli_words.specs.declared.command.Command.TheVariants.{Audit, Rows, Check, Solve, Replay, Realise, Fair, Find, FindFair, FairCheck, Asym, AsymCheck, Units, UnitCheck, Threshold, Award, Determ, DetermCheck, Run, Report, Iron, IronUnits, Make, Drill}
 use Rattle.md_cli_words.specs.declared.form.Form.{Form}
-use Rattle.md_cli_words.specs.declared.form.Form.TheVariants.{One, OneWidth, Two, TwoWidth, NumberWidth, OneNumber, NumberDraw, Draws, Number}
+use Rattle.md_cli_words.specs.declared.form.Form.TheVariants.{One, OneWidth, Two, TwoWidth, NumberWidth, OneNumber, TwoNumber, NumberDraw, Draws, Number}
 
 -- The command of a name. A text is a list of bytes, and the name is compared byte by byte: a part of a name, or one in
 -- other letters, is none.
@@ -44,7 +47,9 @@ command_named word =
     else (if bytes_eq word (codes "findfair") then Some FindFair
     else (if bytes_eq word (codes "faircheck") then Some FairCheck
     else (if bytes_eq word (codes "asym") then Some Asym
+    else (if bytes_eq word (codes "asymcheck") then Some AsymCheck
     else (if bytes_eq word (codes "units") then Some Units
+    else (if bytes_eq word (codes "unitcheck") then Some UnitCheck
     else (if bytes_eq word (codes "threshold") then Some Threshold
     else (if bytes_eq word (codes "award") then Some Award
     else (if bytes_eq word (codes "determ") then Some Determ
@@ -52,9 +57,10 @@ command_named word =
     else (if bytes_eq word (codes "run") then Some Run
     else (if bytes_eq word (codes "report") then Some Report
     else (if bytes_eq word (codes "iron") then Some Iron
+    else (if bytes_eq word (codes "ironunits") then Some IronUnits
     else (if bytes_eq word (codes "make") then Some Make
     else (if bytes_eq word (codes "drill") then Some Drill
-    else None))))))))))))))))))))
+    else None)))))))))))))))))))))))
 
 -- the command that the first word names; none where there is no word, or it is no name
 abbrev pub command_in : List Text → Option Command
@@ -74,7 +80,9 @@ form_of Find = One
 form_of FindFair = One
 form_of FairCheck = Two
 form_of Asym = OneWidth
+form_of AsymCheck = Two
 form_of Units = NumberWidth
+form_of UnitCheck = TwoNumber
 form_of Threshold = OneNumber
 form_of Award = NumberDraw
 form_of Determ = OneWidth
@@ -82,5 +90,6 @@ form_of DetermCheck = Two
 form_of Run = Draws
 form_of Report = Two
 form_of Iron = One
+form_of IronUnits = OneNumber
 form_of Make = Number
 form_of Drill = Number

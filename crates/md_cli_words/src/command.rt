@@ -29,8 +29,12 @@ pub enum Command {
     FairCheck,
     /// `asym SETTING [--width W]` solves the sale of one item to bidders who differ within a width.
     Asym,
+    /// `asymcheck SETTING ANSWER` checks an answer about the best mechanism of such a sale.
+    AsymCheck,
     /// `units SETTING NUMBER [--width W]` sells so many units to the bidders of an auction within a width.
     Units,
+    /// `unitcheck SETTING NUMBER ANSWER` checks an answer about a sale of so many units.
+    UnitCheck,
     /// `threshold SETTING NUMBER` tells the best auction of so many units in which only winners pay.
     Threshold,
     /// `award SETTING NUMBER PROFILE DRAW` tells what each bidder has in it at a profile of reports and a draw.
@@ -45,6 +49,8 @@ pub enum Command {
     Report,
     /// `iron SETTING` gives an optimal mechanism of an auction in closed form.
     Iron,
+    /// `ironunits SETTING NUMBER` sells so many units to the bidders of an auction in closed form.
+    IronUnits,
     /// `make NUMBER` prints the setting that a number stands for.
     Make,
     /// `drill NUMBER` solves the setting that a number stands for, and checks the answer.
@@ -74,7 +80,9 @@ fn named(word: &str) -> Option<Command>
         "findfair" => Some(Command::FindFair),
         "faircheck" => Some(Command::FairCheck),
         "asym" => Some(Command::Asym),
+        "asymcheck" => Some(Command::AsymCheck),
         "units" => Some(Command::Units),
+        "unitcheck" => Some(Command::UnitCheck),
         "threshold" => Some(Command::Threshold),
         "award" => Some(Command::Award),
         "determ" => Some(Command::Determ),
@@ -82,6 +90,7 @@ fn named(word: &str) -> Option<Command>
         "run" => Some(Command::Run),
         "report" => Some(Command::Report),
         "iron" => Some(Command::Iron),
+        "ironunits" => Some(Command::IronUnits),
         "make" => Some(Command::Make),
         "drill" => Some(Command::Drill),
         _ => None,
@@ -99,11 +108,13 @@ pub(crate) fn form(command: Command) -> Form
         | Command::Check
         | Command::Realise
         | Command::FairCheck
+        | Command::AsymCheck
         | Command::DetermCheck
         | Command::Report => Form::Two,
         Command::Replay => Form::TwoWidth,
         Command::Units => Form::NumberWidth,
-        Command::Threshold => Form::OneNumber,
+        Command::UnitCheck => Form::TwoNumber,
+        Command::Threshold | Command::IronUnits => Form::OneNumber,
         Command::Award => Form::NumberDraw,
         Command::Run => Form::Draws,
         Command::Make | Command::Drill => Form::Number,

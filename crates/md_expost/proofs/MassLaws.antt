@@ -1,5 +1,5 @@
 -- Numbers that pass the tests make a mass table, and how large masses are.
-use Rattle.std.proofs.Common.{◌≡◌, ℕ, ◌+◌, ◌*◌, ◌/◌, ◌^◌, ◌<◌, ◌≤◌, ℤ, pos, ◌≤ℤ◌, List, length, sym, ap₂, ◌∙◌, arith, mul-le-mul, le_refl}
+use Rattle.std.proofs.Common.{◌≡◌, ℕ, ◌+◌, ◌*◌, ◌^◌, ◌<◌, ◌≤◌, ℤ, pos, ◌≤ℤ◌, List, length, sym, ap₂, ◌∙◌, arith, mul-le-mul, le_refl}
 use Rattle.std.specs.Prelude.{slice_index}
 use Rattle.std.proofs.lemmas.Int.{ints}
 use Rattle.std.proofs.lemmas.Nat.{mul-add-lt, div-mul-add, mod-mul-add}
@@ -8,8 +8,6 @@ use Rattle.md_math.specs.Sizes.{IsWithin}
 use Rattle.md_math.specs.Sums.{sum_to}
 use Rattle.md_math.proofs.Order.{nonneg-*ℤ}
 use Rattle.md_math.proofs.SizeLaws.{IsWithin-wider, IsWithin-*ℤ, sum_to-within}
-use Rattle.md_math.proofs.SumLaws.{sum_to-at_least}
-use Rattle.md_space.proofs.Walks.{divided}
 use Rattle.md_setting.specs.Auction.{SymmetricAuction, value_count, total_weight}
 use Rattle.md_setting.specs.AuctionShaped.{IsAuction}
 use Rattle.md_mech.specs.Accepted.{number_limit}
@@ -71,41 +69,14 @@ cap-within a den rank h l m b =
     within : (z : ℤ) → pos 1 ≤ℤ z → z ≤ℤ pos number_limit → IsWithin number_limit z
     within z l m = record { within = omega (arith, ints) }
 
--- a sum over the first lists of counts
-few-within : (a : SymmetricAuction) (k : ℕ) (f : ℕ → ℤ) → IsAuction a → k ≤ rank_count a → ((r : ℕ) → r < k → IsWithin (number_limit * 10 ^ 12) (f r)) → IsWithin (2 ^ 117) (sum_to k f)
-few-within a k f h l each =
-    IsWithin-wider (k * (number_limit * 10 ^ 12)) (2 ^ 117) _ (of_few (few h.few_counts)) (sum_to-within k (number_limit * 10 ^ 12) f each)
+-- and the sum of those at the first lists of counts
+pub caps-within : (a : SymmetricAuction) (den : ℤ) (k : ℕ) → IsAuction a → pos 1 ≤ℤ den → den ≤ℤ pos number_limit → k ≤ rank_count a → IsWithin (2 ^ 117) (sum_to k (cap_at a den))
+caps-within a den k h p m l =
+    IsWithin-wider (k * (number_limit * 10 ^ 12)) (2 ^ 117) _ (of_few (few h.few_counts))
+    (sum_to-within k (number_limit * 10 ^ 12) (cap_at a den) (λ r b. cap-within a den r h p m (omega (arith, b, l))))
   where
     few : rank_count a ≤ 20000 → k ≤ 20000
-    few m = omega (arith, l)
+    few c = omega (arith, l, c)
 
     of_few : k ≤ 20000 → k * (number_limit * 10 ^ 12) ≤ 2 ^ 117
     of_few m = (let most : k * (number_limit * 10 ^ 12) ≤ 20000 * (number_limit * 10 ^ 12) = mul-le-mul m (le_refl (number_limit * 10 ^ 12)) in omega (arith, most))
-
-pub caps-within : (a : SymmetricAuction) (den : ℤ) (k : ℕ) → IsAuction a → pos 1 ≤ℤ den → den ≤ℤ pos number_limit → k ≤ rank_count a → IsWithin (2 ^ 117) (sum_to k (cap_at a den))
-caps-within a den k h p m l = few-within a k (cap_at a den) h l (λ r b. cap-within a den r h p m (omega (arith, b, l)))
-
--- a mass is no more than what there is to give
-pub mass-within : (a : SymmetricAuction) (y : Masses) (rank v : ℕ) → IsAuction a → AreMasses a y → rank < rank_count a → v < value_count a → IsWithin (number_limit * 10 ^ 12) (mass_at a y rank v)
-mass-within a y rank v h masses b l =
-    smaller (number_limit * 10 ^ 12) (mass_at a y rank v) (sum_to (value_count a) (mass_at a y rank)) (cap_at a y.den rank)
-    (masses.nonneg rank v b l) (sum_to-at_least (value_count a) v (mass_at a y rank) l (λ u m. masses.nonneg rank u b m)) (masses.over rank b)
-    (cap-within a y.den rank h masses.den_positive masses.den_size b)
-  where
-    smaller : (limit : ℕ) (x s c : ℤ) → pos 0 ≤ℤ x → x ≤ℤ s → s ≤ℤ c → IsWithin limit c → IsWithin limit x
-    smaller limit x s c n p q w = record { within = omega (arith, ints, n, p, q, w.within) }
-
-pub masses-within : (a : SymmetricAuction) (y : Masses) (v k : ℕ) → IsAuction a → AreMasses a y → v < value_count a → k ≤ rank_count a → IsWithin (2 ^ 117) (sum_to k (λ rank. mass_at a y rank v))
-masses-within a y v k h masses l m = few-within a k (λ rank. mass_at a y rank v) h m (λ r b. mass-within a y r v h masses (omega (arith, b, m)) l)
-
--- ---- how many lists of counts a table has
-
-pub ranks-counted : (a : SymmetricAuction) (y : Masses) (long kinds : ℕ) → IsAuction a → AreMasses a y → long ≡ length y.rows → kinds ≡ value_count a → long / kinds ≡ rank_count a
-ranks-counted a y long kinds h masses e f =
-    ap₂ (λ m k. m / k) (e ∙ masses.whole) f ∙ divided (value_count a) (rank_count a) (rank_count a * value_count a) (turned (rank_count a) (value_count a)) (some h.some_value)
-  where
-    turned : (m k : ℕ) → m * k ≡ k * m
-    turned m k = omega arith
-
-    some : 1 ≤ value_count a → 0 < value_count a
-    some l = omega arith

@@ -12,11 +12,9 @@ mod net;
 mod realise_end;
 mod realising;
 mod refusal;
-mod sums;
 
 pub use masses::Masses;
 pub use net::{cap, demands};
 pub use realise_end::RealiseEnd;
 pub use realising::realise;
 pub use refusal::MassRefusal;
-pub use sums::mass_sum;

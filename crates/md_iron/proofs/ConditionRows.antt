@@ -27,7 +27,6 @@ use Rattle.md_reduced.specs.ProgramOf.{IsReducedProgram}
 use Rattle.md_iron_values.specs.Pools.{Pools}
 use Rattle.md_iron_values.specs.Cuts.{begins, set_from, cuts_of}
 use Rattle.md_iron_laws.specs.Rows.{ProgramRow, truth_row, rational_row, cut_row, cut_rows, rows_of, row_right}
-use Rattle.md_iron_laws.proofs.OneItem.{one_unit}
 use Rattle.md_iron_laws.proofs.Divisors.{row-in, line-of, cut-right-positive}
 use Rattle.md_iron_laws.proofs.Lists.{map-cut_rows}
 use Rattle.md_iron_laws.proofs.ProgramForms.{map-parts}
@@ -95,17 +94,17 @@ cut-only kinds set (cut_row s) e = (s, refl, cc)
 
 -- ---- what it is multiplied by
 
-pub at-truth : (a : SymmetricAuction) (pools : Pools) (p : Program) (cuts : List ℕ) (number v w : ℕ) (f : Frac) → cuts ≡ cuts_of (value_count a) pools → slice_get (conditions_of (value_count a) cuts) number ≡ Some (Truth v w)
-    → ((divisor : ℕ → ℤ) → IsMultiplierOf a pools p.factor divisor (truth_row v w) f) → IsMultiplierAt a pools p number f
-at-truth a pools p cuts number v w f same is h = record {
+pub at-truth : (a : SymmetricAuction) (units : ℕ) (pools : Pools) (p : Program) (cuts : List ℕ) (number v w : ℕ) (f : Frac) → cuts ≡ cuts_of (value_count a) pools → slice_get (conditions_of (value_count a) cuts) number ≡ Some (Truth v w)
+    → ((divisor : ℕ → ℤ) → IsMultiplierOf a pools p.factor divisor (truth_row v w) f) → IsMultiplierAt a units pools p number f
+at-truth a units pools p cuts number v w f same is h = record {
   is = λ divisor row divided stands.
       let e : row ≡ truth_row v w = truth-only (value_count a) v w row (condition-at (value_count a) pools cuts number (Truth v w) row same is stands) in
       subst (λ r. IsMultiplierOf a pools p.factor divisor r f) (sym e) (h divisor);
 }
 
-pub at-rational : (a : SymmetricAuction) (pools : Pools) (p : Program) (cuts : List ℕ) (number v : ℕ) (f : Frac) → cuts ≡ cuts_of (value_count a) pools → slice_get (conditions_of (value_count a) cuts) number ≡ Some (Rational v)
-    → ((divisor : ℕ → ℤ) → IsMultiplierOf a pools p.factor divisor (rational_row v) f) → IsMultiplierAt a pools p number f
-at-rational a pools p cuts number v f same is h = record {
+pub at-rational : (a : SymmetricAuction) (units : ℕ) (pools : Pools) (p : Program) (cuts : List ℕ) (number v : ℕ) (f : Frac) → cuts ≡ cuts_of (value_count a) pools → slice_get (conditions_of (value_count a) cuts) number ≡ Some (Rational v)
+    → ((divisor : ℕ → ℤ) → IsMultiplierOf a pools p.factor divisor (rational_row v) f) → IsMultiplierAt a units pools p number f
+at-rational a units pools p cuts number v f same is h = record {
   is = λ divisor row divided stands.
       let e : row ≡ rational_row v = rational-only (value_count a) v row (condition-at (value_count a) pools cuts number (Rational v) row same is stands) in
       subst (λ r. IsMultiplierOf a pools p.factor divisor r f) (sym e) (h divisor);
@@ -132,43 +131,43 @@ lowest-from kinds s b few =
     differ n e f = omega (arith, e, f)
 
 -- the row of a number is the cut of this set
-pub record IsCutAt (a : SymmetricAuction) (pools : Pools) (p : Program) (number set s : ℕ) : Type 0 where
+pub record IsCutAt (a : SymmetricAuction) (units : ℕ) (pools : Pools) (p : Program) (number set s : ℕ) : Type 0 where
   pub stands : slice_get (rows_of (value_count a) pools) number ≡ Some (cut_row s)
   pub inside : s < value_count a
   pub set_is : set ≡ set_from (value_count a) s
   pub lowest : trailing_zeros w32 set ≡ s
   pub positive : pos 0 <ℤ right_at p number
-  pub divides : Divides (right_at p number) (right_by_counts a 1 set)
+  pub divides : Divides (right_at p number) (right_by_counts a units set)
 
-pub cut-at : (a : SymmetricAuction) (pools : Pools) (p : Program) (cuts : List ℕ) (number set : ℕ) → IsAuction a → IsReducedProgram a 1 cuts p → cuts ≡ cuts_of (value_count a) pools
-    → slice_get (conditions_of (value_count a) cuts) number ≡ Some (Cut set) → (s : ℕ) × IsCutAt a pools p number set s
-cut-at a pools p cuts number set shaped program same is =
+pub cut-at : (a : SymmetricAuction) (units : ℕ) (pools : Pools) (p : Program) (cuts : List ℕ) (number set : ℕ) → IsAuction a → 0 < units → IsReducedProgram a units cuts p → cuts ≡ cuts_of (value_count a) pools
+    → slice_get (conditions_of (value_count a) cuts) number ≡ Some (Cut set) → (s : ℕ) × IsCutAt a units pools p number set s
+cut-at a units pools p cuts number set shaped some program same is =
     let k = value_count a in
     let (row, its, e) = row-of k pools cuts number (Cut set) same is in
     let (s, row_is, set_is) = cut-only k set row e in
     let stands : slice_get (rows_of (value_count a) pools) number ≡ Some (cut_row s) = its ∙ ap Some row_is in
     let inside : s < value_count a = (row-in k pools number (cut_row s) stands).0 in
-    let line = line-of a 1 pools p (subst (λ xs. IsReducedProgram a 1 xs p) same program) number (cut_row s) stands in
+    let line = line-of a units pools p (subst (λ xs. IsReducedProgram a units xs p) same program) number (cut_row s) stands in
     let by : pos 0 <ℤ line.by = IsDivisorFor-positive _ _ line.by line.divisor in
-    let right : right_by_counts a 1 set ≡ row_right a 1 (cut_row s) = ap (right_by_counts a 1) set_is in (
+    let right : right_by_counts a units set ≡ row_right a units (cut_row s) = ap (right_by_counts a units) set_is in (
       s,
       record {
         stands = stands;
         inside = inside;
         set_is = set_is;
         lowest = ap (trailing_zeros w32) set_is ∙ lowest-from k s inside shaped.few_values;
-        positive = positive_from_*ℤ line.by (right_at p number) by (subst (λ z. pos 0 <ℤ z) line.right (cut-right-positive a 1 s shaped one_unit inside));
-        divides = Divides-from_product (right_at p number) line.by (right_by_counts a 1 set) (right ∙ line.right ∙ *ℤ_comm line.by (right_at p number));
+        positive = positive_from_*ℤ line.by (right_at p number) by (subst (λ z. pos 0 <ℤ z) line.right (cut-right-positive a units s shaped some inside));
+        divides = Divides-from_product (right_at p number) line.by (right_by_counts a units set) (right ∙ line.right ∙ *ℤ_comm line.by (right_at p number));
       },
     )
 
-pub at-cut : (a : SymmetricAuction) (pools : Pools) (p : Program) (cuts : List ℕ) (number set s : ℕ) (quotient : ℤ) (f : Frac) → cuts ≡ cuts_of (value_count a) pools → slice_get (conditions_of (value_count a) cuts) number ≡ Some (Cut set)
-    → IsCutAt a pools p number set s → right_at p number *ℤ quotient ≡ right_by_counts a 1 set
-    → ((divisors : ℕ → ℤ) → divisors s ≡ quotient → IsMultiplierOf a pools p.factor divisors (cut_row s) f) → IsMultiplierAt a pools p number f
-at-cut a pools p cuts number set s quotient f same is cut whole h = record {
+pub at-cut : (a : SymmetricAuction) (units : ℕ) (pools : Pools) (p : Program) (cuts : List ℕ) (number set s : ℕ) (quotient : ℤ) (f : Frac) → cuts ≡ cuts_of (value_count a) pools → slice_get (conditions_of (value_count a) cuts) number ≡ Some (Cut set)
+    → IsCutAt a units pools p number set s → right_at p number *ℤ quotient ≡ right_by_counts a units set
+    → ((divisors : ℕ → ℤ) → divisors s ≡ quotient → IsMultiplierOf a pools p.factor divisors (cut_row s) f) → IsMultiplierAt a units pools p number f
+at-cut a units pools p cuts number set s quotient f same is cut whole h = record {
   is = λ divisor row divided stands.
       let e : row ≡ cut_row s = only (slice_get (rows_of (value_count a) pools) number) row (cut_row s) stands cut.stands in
-      let right : divisor s *ℤ right_at p number ≡ right_at p number *ℤ quotient = sym (divided.at number s cut.stands) ∙ sym (ap (right_by_counts a 1) cut.set_is) ∙ sym whole in
+      let right : divisor s *ℤ right_at p number ≡ right_at p number *ℤ quotient = sym (divided.at number s cut.stands) ∙ sym (ap (right_by_counts a units) cut.set_is) ∙ sym whole in
       let its : divisor s ≡ quotient = *ℤ_cancel (right_at p number) (divisor s) quotient cut.positive (*ℤ_comm (right_at p number) (divisor s) ∙ right) in
       subst (λ r. IsMultiplierOf a pools p.factor divisor r f) (sym e) (h divisor its);
 }

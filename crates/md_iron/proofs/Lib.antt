@@ -3,8 +3,12 @@ pub mod ShareLaws
 pub mod Reading
 pub mod MultiplierLaws
 pub mod ConditionRows
+pub mod RevenueLaws
 pub mod BoundLaws
+pub mod FormLaws
 pub mod AnswerLaws
 pub mod SoundLaws
 pub mod SamePools
+pub mod OneBound
 pub mod OneForm
+pub mod UnitForms

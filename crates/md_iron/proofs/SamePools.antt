@@ -1,45 +1,39 @@
 -- Pools that are the same have the same odds, payments, cuts and multipliers.
-use Rattle.std.proofs.Common.{◌≡◌, ℕ, zero, suc, ◌+◌, ◌-◌, ◌<◌, ◌==◌, ℤ, pos, ◌+ℤ◌, ◌-ℤ◌, ◌*ℤ◌, [], ◌∷◌, ◌++◌, Some, refl, sym, ap, ap₂, subst, ◌∙◌, arith}
+use Rattle.std.proofs.Common.{◌≡◌, ℕ, ◌+◌, ◌-◌, ◌<◌, ◌≤◌, ◌==◌, ℤ, pos, ◌+ℤ◌, ◌-ℤ◌, ◌*ℤ◌, [], ◌∷◌, ◌++◌, Some, refl, sym, ap, ap₂, subst, ◌∙◌, arith}
 use Rattle.std.specs.Prelude.{slice_get, nat_lt, if◌then◌else◌}
 use Rattle.std.proofs.lemmas.Option.{get_or_from_slice_get}
-use Rattle.md_math.specs.Lists.{number_at, list_to, up_to}
-use Rattle.md_math.proofs.Builders.{list_to-same, up_to-same}
-use Rattle.md_math.proofs.SumLaws.{sum_to-same}
+use Rattle.md_math.specs.Lists.{list_to, up_to}
+use Rattle.md_math.proofs.Builders.{up_to-same}
 use Rattle.md_setting.specs.Auction.{SymmetricAuction, value_count}
+use Rattle.md_border.specs.declared.interim.Interim.{Interim}
 use Rattle.md_lp.specs.Program.{Program}
 use Rattle.md_mech.specs.Rows.{by_report}
 use Rattle.md_iron_values.specs.Pools.{Pools, over_pool}
-use Rattle.md_iron_values.specs.Odds.{step_of, share_den, odds_in, pay_in_pools, interim_of}
+use Rattle.md_iron_values.specs.Odds.{share_den}
 use Rattle.md_iron_values.specs.Cuts.{begins, set_from, cuts_of}
 use Rattle.md_iron_values.specs.Gaps.{scale_in, gap_in}
 use Rattle.md_iron_values.specs.VirtualValues.{weight_to, weight_from, virtual_to}
-use Rattle.md_iron_laws.specs.Multipliers.{apart_by, sum_before, weight_of_before, multiplier_num, multiplier_den}
+use Rattle.md_iron_laws.specs.Multipliers.{AreMultipliers, apart_by, sum_before, weight_of_before, multiplier_num, multiplier_den}
 use Rattle.md_iron_laws.specs.Rows.{ProgramRow, truth_row, rational_row, cut_row, rows_of}
 use Rattle.md_iron_laws.specs.RowsIn.{IsRowIn}
 use Rattle.md_iron_laws.proofs.Divisors.{row-below}
 use Rattle.md_iron_laws.proofs.ProgramForms.{rows-in}
 use Rattle.md_iron_pools.specs.ByRule.{AreSamePools}
-use Rattle.md_iron.specs.ShortBounds.{AreShortMultipliers}
+use Rattle.md_threshold_laws.specs.ClosedOdds.{IsClosedInterim}
 
 -- ---- odds and payments
 
-same-odds : (a : SymmetricAuction) (one other : Pools) → AreSamePools (value_count a) one other → (j : ℕ) → j < value_count a → odds_in a one j ≡ odds_in a other j
-same-odds a one other same j b = rw (same.same_reserve, (same.same_pool j b).0, (same.same_pool j b).1) refl
-
-same-step : (n : ℕ) (q r : ℕ → ℤ) → ((j : ℕ) → j < n → q j ≡ r j) → (j : ℕ) → j < n → step_of q j ≡ step_of r j
-same-step n q r h zero b = h 0 b
-same-step n q r h (suc j) b = ap₂ (λ x y. x -ℤ y) (h (suc j) b) (h j (omega (arith, b)))
-
-same-pay : (a : SymmetricAuction) (one other : Pools) → AreSamePools (value_count a) one other → (j : ℕ) → j < value_count a → pay_in_pools a one j ≡ pay_in_pools a other j
-same-pay a one other same j b =
-    sum_to-same (suc j) (λ i. number_at a.values i *ℤ step_of (odds_in a one) i) (λ i. number_at a.values i *ℤ step_of (odds_in a other) i)
-    (λ i l. ap (λ z. number_at a.values i *ℤ z) (same-step (value_count a) (odds_in a one) (odds_in a other) (same-odds a one other same) i (omega (arith, l, b))))
-
-pub same-interim : (a : SymmetricAuction) (one other : Pools) → AreSamePools (value_count a) one other → interim_of a one ≡ interim_of a other
-same-interim a one other same =
-    ap₂ (λ odds pays. record { den = share_den a; odds = odds; pays = pays })
-    (list_to-same (value_count a) (odds_in a one) (odds_in a other) (same-odds a one other same))
-    (list_to-same (value_count a) (pay_in_pools a one) (pay_in_pools a other) (same-pay a one other same))
+pub same-closed : (a : SymmetricAuction) (units : ℕ) (one other : Pools) (interim : Interim) → AreSamePools (value_count a) one other → IsClosedInterim a units one interim → IsClosedInterim a units other interim
+same-closed a units one other interim same h = record {
+  den_is = h.den_is;
+  one_odds = h.one_odds;
+  odds = record {
+    positive = h.odds.positive;
+    none = λ v b l. h.odds.none v b (subst (λ r. v < r) (sym same.same_reserve) l);
+    some = λ v b g. rw ((same.same_pool v b).0, (same.same_pool v b).1) at (h.odds.some v b (subst (λ r. r ≤ v) (sym same.same_reserve) g));
+  };
+  pays_are = h.pays_are;
+}
 
 -- ---- cuts
 
@@ -102,18 +96,14 @@ row-in : (kinds : ℕ) (pools : Pools) (number : ℕ) (row : ProgramRow) → sli
 row-in kinds pools number row stands =
     subst (IsRowIn kinds pools) (get_or_from_slice_get (rows_of kinds pools) number row row stands) (rows-in kinds pools number row (row-below (rows_of kinds pools) number row stands))
 
-pub same-short : (a : SymmetricAuction) (one other : Pools) (p : Program) (divisor : ℕ → ℤ) (over : ℤ) (main : ℕ → ℤ) → AreSamePools (value_count a) one other
-    → AreShortMultipliers a one p divisor over main → AreShortMultipliers a other p divisor over main
-same-short a one other p divisor over main same h = record {
-  multipliers = record {
-    positive = h.multipliers.positive;
-    divided = λ number s stands. h.multipliers.divided number s (in_one number (cut_row s) stands);
-    at = λ number row stands.
-        let inside = row-in (value_count a) one number row (in_one number row stands) in
-        ap (λ z. main number *ℤ z) (sym (same-den a one other p.factor same row inside)) ∙ h.multipliers.at number row (in_one number row stands) ∙ ap (λ z. over *ℤ z) (same-num a one other divisor same row inside);
-  };
-  over_short = h.over_short;
-  short = h.short;
+pub same-multipliers : (a : SymmetricAuction) (units : ℕ) (one other : Pools) (p : Program) (divisor : ℕ → ℤ) (over : ℤ) (main : ℕ → ℤ) → AreSamePools (value_count a) one other
+    → AreMultipliers a units one p divisor over main → AreMultipliers a units other p divisor over main
+same-multipliers a units one other p divisor over main same h = record {
+  positive = h.positive;
+  divided = λ number s stands. h.divided number s (in_one number (cut_row s) stands);
+  at = λ number row stands.
+      let inside = row-in (value_count a) one number row (in_one number row stands) in
+      ap (λ z. main number *ℤ z) (sym (same-den a one other p.factor same row inside)) ∙ h.at number row (in_one number row stands) ∙ ap (λ z. over *ℤ z) (same-num a one other divisor same row inside);
 }
   where
     in_one : (number : ℕ) (row : ProgramRow) → slice_get (rows_of (value_count a) other) number ≡ Some row → slice_get (rows_of (value_count a) one) number ≡ Some row

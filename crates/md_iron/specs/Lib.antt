@@ -3,4 +3,5 @@ pub mod Shares
 pub mod RowMultipliers
 pub mod ShortBounds
 pub mod ClosedForms
+pub mod UnitForms
 pub mod Ironings

@@ -13,7 +13,7 @@ ghost use Rattle.md_iron.specs.RowMultipliers.{IsMultiplierOf};
 ghost use Rattle.md_iron.specs.Shares.{IsLeastFraction};
 
 use crate::truth_rows::least_terms;
-use md_border::right_side;
+use md_border::right_side_for;
 use md_iron_pools::{AuctionPools, Chord, chord_of, share_of_all};
 use md_lp::Lp;
 use md_num::{Frac, cross_difference, exact_quotient, product};
@@ -31,7 +31,7 @@ pub(crate) fn cut_multiplier(
     requires start_in { start < value_count auction.now }
     requires positive { pos 0 <ℤ factor }
     requires factor_size { IsWithin (2 ^ 44) factor }
-    requires divisor_size { IsWithin (10 ^ 12) divisor }
+    requires divisor_size { IsWithin (12 * 10 ^ 12) divisor }
     ensures least { IsLeastFraction result }
     ensures multiplier { (divisors : ℕ → ℤ) → divisors start ≡ divisor → IsMultiplierOf auction.now (pools_of pools.now) factor divisors (cut_row start) result }
 {
@@ -49,7 +49,7 @@ fn cut_num(chord: &Chord, before: &Chord, divisor: i128) -> i128
     requires weight { IsWithin 1000000 chord.now.weight }
     requires rise_before { IsWithin (2 ^ 55) before.now.rise }
     requires weight_before { IsWithin 1000000 before.now.weight }
-    requires divisor { IsWithin (10 ^ 12) divisor }
+    requires divisor { IsWithin (12 * 10 ^ 12) divisor }
     ensures value { result ≡ (chord.now.rise *ℤ before.now.weight -ℤ before.now.rise *ℤ chord.now.weight) *ℤ divisor }
     ensures size { unsigned_abs result < 2 ^ 126 }
 {
@@ -100,14 +100,15 @@ fn chord_before(auction: &Auction, pools: &AuctionPools, start: u32) -> Chord
     chord_of(auction, pools, start - 1)
 }
 
-/// By what the row of a cut was divided.
-pub(crate) fn cut_divisor(auction: &Auction, lp: &Lp, row: u32, set: u32) -> i128
+/// By what the row of a cut was divided in the program of so many units.
+pub(crate) fn cut_divisor(auction: &Auction, units: u32, lp: &Lp, row: u32, set: u32) -> i128
+    requires units { units ≤ 12 }
     requires row { row < row_count lp.now }
     requires set { set < 2 ^ value_count auction.now }
     requires positive { pos 0 <ℤ right_at lp.now row }
-    requires divides { Divides (right_at lp.now row) (right_by_counts auction.now 1 set) }
-    ensures value { right_at lp.now row *ℤ result ≡ right_by_counts auction.now 1 set }
-    ensures size { IsWithin (10 ^ 12) result }
+    requires divides { Divides (right_at lp.now row) (right_by_counts auction.now units set) }
+    ensures value { right_at lp.now row *ℤ result ≡ right_by_counts auction.now units set }
+    ensures size { IsWithin (12 * 10 ^ 12) result }
 {
-    exact_quotient(right_side(auction, set), lp.right(row))
+    exact_quotient(right_side_for(auction, units, set), lp.right(row))
 }

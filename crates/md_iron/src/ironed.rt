@@ -6,6 +6,6 @@ use md_answer::Answer;
 pub enum Ironed {
     /// An optimal mechanism with its value, and the multipliers that certify it.
     Optimal(Answer),
-    /// The multipliers that certify it have more than 62 bits over each denominator.
+    /// The multipliers that certify it are too long.
     Undecided,
 }

@@ -17,14 +17,14 @@ use std::alloc::Global;
 
 /// The best that an auction can be, in closed form: neighbouring values are pooled by their ironed virtual values (Myerson
 /// 1981), the item goes to a bidder whose pool is highest, and the multipliers that certify it are told with it. The checker
-/// has found the answer valid. The auction is undecided where the multipliers have more than 62 bits over each denominator.
+/// has found the answer valid. The auction is undecided where the multipliers are too long.
 /// Nothing but want of memory is an error.
 pub fn iron(alloc: Global, file: &SettingFile) -> Result<Ironed, NoMemory>
     requires { ¬ IsGeneral file.now }
 
-    // The odds, payments and cuts are those of the pools that the rule names, the masses have the odds, and the multipliers are
-    // those of the pools. There are no others: each such answer has this value and these odds, payments and cuts, and the
-    // multipliers are not too long.
+    // The odds, payments, cuts and multipliers are those of the pools that the rule names, over the least denominator, and the
+    // masses have the odds. There are no others: each such answer differs from it in nothing but its masses, and the multipliers
+    // are not too long.
     ensures closed { WhereAuction (λ a. IfOk result (WhereOptimal (IsClosedAnswer a))) file.now }
     ensures one { WhereAuction (λ a. IfOk result (WhereOptimal (IsOneAnswer a))) file.now }
 
@@ -39,9 +39,9 @@ pub fn iron(alloc: Global, file: &SettingFile) -> Result<Ironed, NoMemory>
     // The answer can be written, and what is written is read as the same answer.
     ensures writable { WhereAuction (λ a. IfOk result (WhereOptimal (IsAuctionAnswer a))) file.now }
 
-    // There is no answer only where no multipliers of 62 bits, over whatever denominator, are those of the pools that the rule
-    // names.
-    ensures undecided { WhereAuction (λ a. IfOk result (λ ironed. ironed ≡ Undecided → HasLongMultipliers a)) file.now }
+    // There is no answer only where no multipliers of 62 bits, over a denominator of 62 bits, are those of the pools that the
+    // rule names; and where revenue counts none are, over whatever denominator.
+    ensures undecided { WhereAuction (λ a. IfOk result (λ ironed. ironed ≡ Undecided → HasLongMultipliers a 1)) file.now }
 {
     let SettingFile::Auction(auction) = file else {
         unreachable!()

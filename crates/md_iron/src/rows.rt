@@ -7,6 +7,7 @@ ghost use Rattle.md_reduced.specs.Conditions.{conditions_of};
 ghost use Rattle.md_reduced.specs.ProgramOf.{IsReducedProgram};
 ghost use Rattle.md_iron_values.specs.Cuts.{cuts_of};
 ghost use Rattle.md_iron_pools.specs.Pooling.{IsPooling, pools_of};
+ghost use Rattle.md_unit_tables.specs.Numbers.{IsUnitNumber};
 ghost use Rattle.md_iron.specs.RowMultipliers.{AreRowMultipliers, IsMultiplierAt};
 ghost use Rattle.md_iron.specs.Shares.{AreLeastFractions, IsLeastFraction};
 
@@ -19,40 +20,50 @@ use md_reduced::{ReducedCondition, condition_at};
 use md_setting::Auction;
 use std::alloc::Global;
 
-/// What each row of the reduced program with the cuts of pools is multiplied by, as a fraction in least terms.
+/// What each row of the reduced program of so many units with the cuts of pools is multiplied by, as a fraction in least terms.
 pub(crate) fn multipliers(
     alloc: Global,
     auction: &Auction,
+    units: u32,
     pools: &AuctionPools,
     cuts: &Sets,
     lp: &Lp,
 ) -> Result<Vec<Frac>, NoMemory>
+    requires units { IsUnitNumber units }
     requires pooling { IsPooling auction.now pools.now }
     requires cuts { cuts.now ≡ cuts_of (value_count auction.now) (pools_of pools.now) }
     requires are_cuts { AreCuts (value_count auction.now) cuts.now }
-    requires program { IsReducedProgram auction.now 1 cuts.now lp.now }
+    requires program { IsReducedProgram auction.now units cuts.now lp.now }
     requires count { row_count lp.now ≡ length (conditions_of (value_count auction.now) cuts.now) }
     ensures count { IfOk result (λ fractions. length fractions.items ≡ row_count lp.now) }
     ensures least { IfOk result (λ fractions. AreLeastFractions fractions.items) }
-    ensures multipliers { IfOk result (λ fractions. AreRowMultipliers auction.now (pools_of pools.now) lp.now (row_count lp.now) fractions.items) }
+    ensures multipliers { IfOk result (λ fractions. AreRowMultipliers auction.now units (pools_of pools.now) lp.now (row_count lp.now) fractions.items) }
 {
     let mut fractions = Vec::new(alloc);
     for row in 0..lp.rows() {
-        fractions.push(multiplier(auction, pools, cuts, lp, row))?;
+        fractions.push(multiplier(auction, units, pools, cuts, lp, row))?;
     }
     Ok(fractions)
 }
 
 // What a row is multiplied by.
-fn multiplier(auction: &Auction, pools: &AuctionPools, cuts: &Sets, lp: &Lp, row: u32) -> Frac
+fn multiplier(
+    auction: &Auction,
+    units: u32,
+    pools: &AuctionPools,
+    cuts: &Sets,
+    lp: &Lp,
+    row: u32,
+) -> Frac
+    requires units { IsUnitNumber units }
     requires pooling { IsPooling auction.now pools.now }
     requires cuts { cuts.now ≡ cuts_of (value_count auction.now) (pools_of pools.now) }
     requires are_cuts { AreCuts (value_count auction.now) cuts.now }
-    requires program { IsReducedProgram auction.now 1 cuts.now lp.now }
+    requires program { IsReducedProgram auction.now units cuts.now lp.now }
     requires row { row < row_count lp.now }
     requires condition { row < length (conditions_of (value_count auction.now) cuts.now) }
     ensures least { IsLeastFraction result }
-    ensures multiplier { IsMultiplierAt auction.now (pools_of pools.now) lp.now row result }
+    ensures multiplier { IsMultiplierAt auction.now units (pools_of pools.now) lp.now row result }
 {
     let _shaped = auction.kinds();
     let factor = lp.cost_factor();
@@ -63,7 +74,7 @@ fn multiplier(auction: &Auction, pools: &AuctionPools, cuts: &Sets, lp: &Lp, row
         ReducedCondition::Rational { kind } => rational_multiplier(auction, factor, kind),
         ReducedCondition::Cut { set } => {
             let start = set.trailing_zeros();
-            let divisor = cut_divisor(auction, lp, row, set);
+            let divisor = cut_divisor(auction, units, lp, row, set);
             cut_multiplier(auction, pools, factor, start, divisor)
         }
     }

@@ -15,6 +15,7 @@ use std::alloc::Global;
 pub(crate) fn over_one(alloc: Global, fractions: &[Frac]) -> Result<Option<Bound>, NoMemory>
     requires { AreLeastFractions fractions.now }
     ensures none { IfOk result (λ bound. MatchOption bound ((over : ℤ) (numbers : ℕ → ℤ) → ¬ AreOver fractions.now over numbers) (λ b. AreOver fractions.now b.den (number_at b.main))) }
+    ensures least { IfOk result (λ bound. MatchOption bound (Unit {0}) (λ b. IsLeastDenominatorOf (length fractions.now) fractions.now b.den)) }
     ensures main { IfOk result (λ bound. MatchOption bound (Unit {0}) (λ b. length b.main ≡ length fractions.now)) }
     ensures face { IfOk result (λ bound. MatchOption bound (Unit {0}) (λ b. b.face ≡ list_to (length fractions.now) (λ _. pos 0))) }
 {

@@ -33,7 +33,7 @@ use Rattle.md_iron_values.specs.VirtualValues.{weight_to, virtual_to, IsPooledAu
 use Rattle.md_iron_values.specs.Odds.{share_den}
 use Rattle.md_iron_values.specs.Cuts.{cuts_of}
 use Rattle.md_iron_values.proofs.AuctionLaws.{weight-ascends, values-rise, share_den-positive}
-use Rattle.md_iron_values.proofs.DemandLaws.{units-positive}
+use Rattle.md_iron_values.proofs.SideLaws.{units-positive}
 use Rattle.md_iron_values.proofs.GapLaws.{pool-weight}
 use Rattle.md_iron_laws.specs.Rows.{ProgramRow, truth_row, rational_row, cut_row, rows_of, row_left, row_right, row_form}
 use Rattle.md_iron_laws.specs.RowsIn.{IsRowIn}

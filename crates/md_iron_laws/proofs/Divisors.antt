@@ -17,7 +17,7 @@ use Rattle.md_reduced.specs.ProgramOf.{column_count, IsReducedProgram}
 use Rattle.md_reduced.specs.Sides.{cost_of}
 use Rattle.md_iron_values.specs.Pools.{Pools}
 use Rattle.md_iron_values.specs.Cuts.{cuts_of}
-use Rattle.md_iron_values.proofs.DemandLaws.{units-positive}
+use Rattle.md_iron_values.proofs.SideLaws.{units-positive}
 use Rattle.md_iron_laws.specs.Rows.{ProgramRow, cut_row, rows_of, row_right, row_form}
 use Rattle.md_iron_laws.specs.RowsIn.{IsRowIn}
 use Rattle.md_iron_laws.proofs.Certificates.{row-by}

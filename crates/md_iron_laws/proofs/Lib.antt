@@ -6,7 +6,6 @@ pub mod Balance
 pub mod ProgramForms
 pub mod Programs
 pub mod PointRows
-pub mod OneItem
 pub mod Fractions
 pub mod Certificates
 pub mod Optimal

@@ -1,37 +1,27 @@
 -- An auction that sells to the highest pools first is optimal (Myerson 1981): no point of its program costs more, and no mechanism of
 -- one item, of any denominator, is worth more.
-use Rattle.std.proofs.Common.{◌≡◌, ◌⊎◌, ℕ, ◌+◌, ◌*◌, ◌<◌, ◌≤◌, ℤ, pos, ◌*ℤ◌, ◌++◌, length, inl, inr, refl, sym, ap, subst, ◌∙◌, arith}
+use Rattle.std.proofs.Common.{◌≡◌, ◌⊎◌, ℕ, ◌+◌, ◌*◌, ◌<◌, ◌≤◌, ℤ, pos, ◌*ℤ◌, ◌++◌, length, inl, inr, refl, ap, ◌∙◌, arith}
 use lib.IntN.{*ℤ_comm}
 use Rattle.std.proofs.lemmas.Bool.{cases_lt}
 use Rattle.std.proofs.lemmas.List.{get_or_append_left}
 use Rattle.md_math.specs.Lists.{number_at, list_to}
-use Rattle.md_math.proofs.Builders.{length-list_to, get_or-list_to, list_to-same, number_at-behind}
+use Rattle.md_math.proofs.Builders.{length-list_to, get_or-list_to, number_at-behind}
 use Rattle.md_math.proofs.Order.{positive-*ℤ}
 use Rattle.md_setting.specs.Auction.{SymmetricAuction, value_count}
 use Rattle.md_setting.specs.AuctionShaped.{IsAuction}
-use Rattle.md_setting.specs.General.{general_of}
-use Rattle.md_mech.specs.declared.mechanism.Mechanism.{Mechanism}
-use Rattle.md_mech.specs.Mechanism.{IsMechanism}
-use Rattle.md_mech.specs.Optimal.{IsOptimal}
 use Rattle.md_lp.specs.Program.{Program, row_count}
 use Rattle.md_cert.specs.Claims.{IsOptimalPoint}
 use Rattle.md_cert.proofs.Duality.{optimal-claim}
-use Rattle.md_border.specs.Odds.{HasOdds, HasPays}
-use Rattle.md_reduced.specs.Points.{interim_in}
 use Rattle.md_reduced.specs.ProgramOf.{IsReducedProgram}
-use Rattle.md_reduced.specs.Sides.{pay_in}
-use Rattle.md_reduced.proofs.OptimalLaws.{makes-optimal}
 use Rattle.md_iron_values.specs.Pools.{Pools}
 use Rattle.md_iron_values.specs.VirtualValues.{IsPooledAuction}
-use Rattle.md_iron_values.specs.Odds.{pay_by, share_den, odds_in, pay_in_pools, interim_of}
+use Rattle.md_iron_values.specs.Odds.{pay_by}
 use Rattle.md_iron_values.specs.Cuts.{cuts_of}
 use Rattle.md_iron_laws.specs.PoolOdds.{ArePoolOdds}
 use Rattle.md_iron_laws.specs.Closed.{IsPointOf, closed_point}
 use Rattle.md_iron_laws.specs.Undivided.{times_of}
 use Rattle.md_iron_laws.proofs.Balance.{Multiples, cost_factor, undivided_of}
 use Rattle.md_iron_laws.proofs.Fractions.{cost_factor-positive}
-use Rattle.md_iron_laws.proofs.PointRows.{pay-is}
-use Rattle.md_iron_laws.proofs.OneItem.{one-item}
 use Rattle.md_iron_laws.proofs.Certificates.{IsLine, row_in, row-line, row-inside, line-from, factor-positive, multiples, certified-by}
 
 -- ---- some multipliers certify the point, of whatever size
@@ -81,22 +71,3 @@ closed-point a q =
           ∙ number_at-behind pays zeros k v two
           ∙ get_or-list_to k (λ _. pos 0) v (pos 0) b;
     }
-
--- its odds and payments, of one item
-pub closed-odds : (a : SymmetricAuction) (pools : Pools) (x : ℕ → ℤ) → IsPointOf a (odds_in a pools) x → (interim_in a (share_den a) x).odds ≡ (interim_of a pools).odds
-closed-odds a pools x at = list_to-same (value_count a) x (odds_in a pools) at.odds
-
-pub closed-pays : (a : SymmetricAuction) (pools : Pools) (x : ℕ → ℤ) → IsPointOf a (odds_in a pools) x → (interim_in a (share_den a) x).pays ≡ (interim_of a pools).pays
-closed-pays a pools x at = list_to-same (value_count a) (pay_in a x) (pay_in_pools a pools) (pay-is a (odds_in a pools) x at)
-
--- ---- the mechanism
-
--- whatever mechanism of the auction has the odds and the payments of the pools
-pub mechanism-optimal : (a : SymmetricAuction) (pools : Pools) (p : Program) (m : Mechanism) → IsAuction a → IsPooledAuction a pools → IsReducedProgram a 1 (cuts_of (value_count a) pools) p → IsMechanism (general_of a) m
-    → HasOdds a m (share_den a) (interim_of a pools).odds → HasPays a m (share_den a) (interim_of a pools).pays → IsOptimal (general_of a) m
-mechanism-optimal a pools p m shaped pooled is mechanism odds pays =
-    let x = number_at (closed_point a (odds_in a pools)) in
-    let at = closed-point a (odds_in a pools) in
-    makes-optimal a (cuts_of (value_count a) pools) p shaped is m (share_den a) x (pools-optimal a 1 pools p (share_den a) (odds_in a pools) x shaped pooled is (one-item a pools shaped pooled) at) mechanism
-    (subst (λ l. HasOdds a m (share_den a) l) (sym (closed-odds a pools x at)) odds)
-    (subst (λ l. HasPays a m (share_den a) l) (sym (closed-pays a pools x at)) pays)

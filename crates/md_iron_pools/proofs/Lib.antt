@@ -4,6 +4,5 @@ pub mod RuleLaws
 pub mod Searches
 pub mod Lists
 pub mod Bounds
-pub mod ShareBounds
 pub mod CutLists
 pub mod InterimLaws

@@ -1,11 +1,11 @@
 -- There is one choice of pools that the rule of ironing names.
-use Rattle.std.proofs.Common.{◌≡◌, ◌⊎◌, inl, inr, ℕ, zero, suc, ◌+◌, ◌<◌, ◌≤◌, ℤ, pos, ◌-ℤ◌, ◌*ℤ◌, ◌≤ℤ◌, ◌<ℤ◌, arith, refl, sym, subst, ◌∙◌}
+use Rattle.std.proofs.Common.{◌≡◌, ◌⊎◌, inl, inr, ℕ, zero, suc, ◌+◌, ◌<◌, ◌≤◌, ℤ, ◌≤ℤ◌, ◌<ℤ◌, arith, sym, subst, ◌∙◌}
 use Rattle.std.proofs.lemmas.Bool.{cases_lt}
 use Rattle.md_math.proofs.Ring.{linear}
 use Rattle.md_iron_values.specs.Pools.{Pools, IsLow, IsPooled}
 use Rattle.md_iron_values.proofs.PoolLaws.{next-pool, reserve-begins}
 use Rattle.md_iron_pools.specs.ByRule.{IsHigher, IsPooledByRule, AreSamePools}
-use Rattle.md_iron_pools.proofs.PooledTo.{IsReserve, IsLowest, IsExtended, IsPooledTo, IsPooled-end}
+use Rattle.md_iron_pools.proofs.PooledTo.{IsReserve, IsExtended, IsPooledTo, IsPooled-end}
 
 -- ---- one choice
 

@@ -1,2 +1,3 @@
 pub mod Pooling
+pub mod Odds
 pub mod ByRule

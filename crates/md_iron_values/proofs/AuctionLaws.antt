@@ -1,5 +1,5 @@
--- The pools of an auction: its weights, odds and payments.
-use Rattle.std.proofs.Common.{◌≡◌, ℕ, suc, ◌+◌, ◌-◌, ◌*◌, ◌^◌, ◌<◌, ◌≤◌, pos, ◌*ℤ◌, ◌≤ℤ◌, ◌<ℤ◌, sym, ap, subst, ◌∙◌, arith, mul-pos}
+-- The weights and values of an auction, and the denominator of its odds.
+use Rattle.std.proofs.Common.{◌≡◌, ℕ, suc, ◌+◌, ◌-◌, ◌*◌, ◌^◌, ◌<◌, ◌≤◌, pos, ◌≤ℤ◌, ◌<ℤ◌, sym, ap, subst, ◌∙◌, arith, mul-pos}
 use Rattle.std.specs.Prelude.{slice_index}
 use Rattle.std.proofs.Math.Nat.{one-le-pow}
 use Rattle.std.proofs.lemmas.Int.{ints}
@@ -11,12 +11,9 @@ use Rattle.md_setting.specs.Auction.{SymmetricAuction, value_count, total_weight
 use Rattle.md_setting.specs.AuctionShaped.{IsAuction}
 use Rattle.md_border.proofs.DemandLaws.{total-positive}
 use Rattle.md_iron_values.specs.Weights.{weight_before}
-use Rattle.md_iron_values.specs.Pools.{Pools}
-use Rattle.md_iron_values.specs.VirtualValues.{weight_to, weight_from, virtual_to, IsPooledAuction}
-use Rattle.md_iron_values.specs.Odds.{odds_by, share_den, odds_in, pay_in_pools}
+use Rattle.md_iron_values.specs.VirtualValues.{weight_to, weight_from}
+use Rattle.md_iron_values.specs.Odds.{share_den}
 use Rattle.md_iron_values.proofs.WeightLaws.{weight_before-up, weight_before-less, pos-weight_before}
-use Rattle.md_iron_values.proofs.OddsLaws.{odds-step, odds-at_most}
-use Rattle.md_iron_values.proofs.PayLaws.{IsPayBetween, pay-between, pay-bounds}
 
 -- ---- weights
 
@@ -50,37 +47,10 @@ values-rise a shaped j b =
 pub values-ascend : (a : SymmetricAuction) → IsAuction a → (j : ℕ) → suc j < value_count a → number_at a.values j ≤ℤ number_at a.values (suc j)
 values-ascend a shaped j b = le_from_lt (number_at a.values j) (number_at a.values (suc j)) (values-rise a shaped j b)
 
--- ---- odds
+-- ---- the denominator
 
 pub share_den-positive : (a : SymmetricAuction) → IsAuction a → pos 0 <ℤ share_den a
 share_den-positive a shaped =
     let power : 1 ≤ total_weight a.weights ^ (a.bidders - 1) = one-le-pow (a.bidders - 1) (total_weight a.weights) (total-positive a shaped) in
     let some : 0 < a.bidders * total_weight a.weights ^ (a.bidders - 1) = mul-pos (let e : 0 < a.bidders = omega (arith, shaped.some_bidder) in e) (let e : 0 < total_weight a.weights ^ (a.bidders - 1) = omega (arith, power) in e) in
     omega (arith, ints, some)
-
-pub odds-ascend : (a : SymmetricAuction) (pools : Pools) → IsPooledAuction a pools → (j : ℕ) → suc j < value_count a → odds_in a pools j ≤ℤ odds_in a pools (suc j)
-odds-ascend a pools p j b =
-    let step = odds-step (value_count a) a.bidders (weight_to a) (virtual_to a) (weight_before (slice_index a.weights)) pools p (weight_before-up (slice_index a.weights)) j b in
-    omega (arith, ints, step)
-
-pub odds-nonneg : (a : SymmetricAuction) (pools : Pools) (j : ℕ) → pos 0 ≤ℤ odds_in a pools j
-odds-nonneg a pools j = above (odds_by a.bidders (weight_before (slice_index a.weights)) pools j)
-  where
-    above : (n : ℕ) → pos 0 ≤ℤ pos n
-    above n = omega (arith, ints)
-
-pub odds-whole : (a : SymmetricAuction) (pools : Pools) → IsAuction a → IsPooledAuction a pools → (j : ℕ) → j < value_count a → odds_in a pools j ≤ℤ share_den a
-odds-whole a pools shaped p j b =
-    let most = odds-at_most (value_count a) a.bidders (total_weight a.weights) (weight_to a) (virtual_to a) (weight_before (slice_index a.weights)) pools p (before-at_most a shaped) j b in
-    omega (arith, ints, most)
-
--- ---- payments
-
-pub pays-between : (a : SymmetricAuction) (pools : Pools) → IsAuction a → IsPooledAuction a pools → (i j : ℕ) → i ≤ j → j < value_count a
-    → IsPayBetween (number_at a.values) (odds_in a pools) (pay_in_pools a pools) i j
-pays-between a pools shaped p i j l b = pay-between (value_count a) (number_at a.values) (odds_in a pools) (values-ascend a shaped) (odds-ascend a pools p) i j l b
-
-pub pays-bounds : (a : SymmetricAuction) (pools : Pools) → IsAuction a → IsPooledAuction a pools → (j : ℕ) → j < value_count a
-    → (pos 0 ≤ℤ pay_in_pools a pools j) × (pay_in_pools a pools j ≤ℤ (number_at a.values j *ℤ odds_in a pools j))
-pays-bounds a pools shaped p j b =
-    pay-bounds (value_count a) (number_at a.values) (odds_in a pools) (values-ascend a shaped) (odds-ascend a pools p) (shaped.value 0 shaped.some_value).0 (odds-nonneg a pools 0) j b

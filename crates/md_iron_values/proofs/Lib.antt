@@ -1,10 +1,8 @@
-pub mod ShareLaws
 pub mod WeightLaws
 pub mod PoolLaws
-pub mod OddsLaws
 pub mod PayLaws
-pub mod BorderLaws
 pub mod GapLaws
 pub mod AuctionLaws
 pub mod CutLaws
-pub mod DemandLaws
+pub mod SideLaws
+pub mod WholeOdds

@@ -1,5 +1,4 @@
 pub mod Weights
-pub mod Shares
 pub mod Pools
 pub mod VirtualValues
 pub mod Odds

@@ -87,7 +87,7 @@ module _ (a : SymmetricAuction) (width : ℕ) (end : AuctionEnd) (value : Frac) 
   certified-with p is =
       let o = solved.optimum in
       let there : IsInterim a (interim_in a o.den (number_at o.point)) = subst (IsInterim a) solved.tells.interim fits in
-      let certified : Certified p (auction_certificate (interim_in a o.den (number_at o.point)) o.bound) = certified-at_interim a o.den o.point there end.cuts p o.bound is (solved.shown.certified p is) in
+      let certified : Certified p (auction_certificate (interim_in a o.den (number_at o.point)) o.bound) = certified-at_interim a o.den o.point there 1 end.cuts p o.bound is (solved.shown.certified p is) in
       subst (λ i. Certified p (auction_certificate i end.bound)) (sym solved.tells.interim)
       (subst (λ b. Certified p (auction_certificate (interim_in a o.den (number_at o.point)) b)) (sym solved.tells.bound) certified)
 

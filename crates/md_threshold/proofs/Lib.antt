@@ -1,6 +1,5 @@
 pub mod CountLaws
 pub mod ChanceSizes
-pub mod InterimSizes
 pub mod ExpectedSizes
 pub mod ShareLaws
 pub mod PriceLaws

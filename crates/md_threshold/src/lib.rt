@@ -9,7 +9,6 @@ mod counts;
 mod draws;
 mod expected;
 mod finding;
-mod interim;
 mod price;
 mod price_list;
 mod prices;

@@ -29,11 +29,10 @@ use Rattle.md_reduced.specs.Averages.{other_weights}
 use Rattle.md_reduced.proofs.MeanLaws.{others-all, times-parts}
 use Rattle.md_reduced.proofs.PointLaws.{others-positive}
 use Rattle.md_winners.specs.Odds.{HasUnitOdds, HasUnitPays}
-use Rattle.md_iron_values.specs.Odds.{pay_by, share_den, odds_in}
+use Rattle.md_iron_values.specs.Odds.{pay_by}
 use Rattle.md_iron_values.specs.Pools.{Pools, over_pool}
 use Rattle.md_iron_values.specs.VirtualValues.{weight_to, IsPooledAuction}
 use Rattle.md_iron_laws.specs.PoolOdds.{ArePoolOdds}
-use Rattle.md_iron_laws.proofs.OneItem.{one-item}
 use Rattle.md_threshold_laws.specs.Rule.{draw_count, chance}
 use Rattle.md_threshold_laws.specs.Mechanisms.{threshold_mechanism}
 use Rattle.md_threshold_laws.specs.Interim.{interim_odds, interim_den}
@@ -185,7 +184,3 @@ module _ (a : SymmetricAuction) (units : ℕ) (pools : Pools) (shaped : IsAuctio
         where
           few : (m : ℕ) → m < 12 → suc m ≤ 12
           few m l = omega (arith, l)
-
--- for one item they are those of the highest pool
-pub one-item-odds : (a : SymmetricAuction) (pools : Pools) → IsAuction a → IsPooledAuction a pools → AreClosedOdds a 1 pools (share_den a) (odds_in a pools)
-one-item-odds a pools shaped p = are-closed a pools shaped p 1 (share_den a) (odds_in a pools) (one-item a pools shaped p)

@@ -15,3 +15,4 @@ pub mod BidderOdds
 pub mod ClosedOdds
 pub mod InterimLaws
 pub mod Optimal
+pub mod ClosedInterims

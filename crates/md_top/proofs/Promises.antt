@@ -8,7 +8,7 @@ use Rattle.md_ports.specs.Faults.{Rose}
 use Rattle.md_cli_words.specs.Commands.{command_in}
 use Rattle.md_cli_words.specs.Words.{Order, command_of}
 use Rattle.md_cli_words.specs.declared.command.Command.{Command}
-use Rattle.md_cli_words.specs.declared.command.Command.TheVariants.{Audit, Rows, Check, Solve, Replay, Realise, Fair, Find, FindFair, FairCheck, Asym, Units, Threshold, Award, Determ, DetermCheck, Run, Report, Iron, Make, Drill}
+use Rattle.md_cli_words.specs.declared.command.Command.TheVariants.{Audit, Rows, Check, Solve, Replay, Realise, Fair, Find, FindFair, FairCheck, Asym, AsymCheck, Units, UnitCheck, Threshold, Award, Determ, DetermCheck, Run, Report, Iron, IronUnits, Make, Drill}
 use Rattle.md_setting.specs.declared.file.SettingFile.{SettingFile}
 use Rattle.md_setting.specs.declared.file.SettingFile.TheVariants.{General, Auction}
 use Rattle.md_cli_driver.specs.declared.refusal.Refusal.{Refusal}
@@ -127,11 +127,13 @@ headline-of_command Find order content before after saying status out err said d
     printed-of IsFindShownBy saying status out err delivered is_general IsFind IsFindStatus (find-shows saying) order.setting order.second content before after said
 headline-of_command FindFair order content before after saying status out err said delivered = tt
 headline-of_command FairCheck order content before after saying status out err said delivered = tt
+headline-of_command AsymCheck order content before after saying status out err said delivered = tt
 headline-of_command Replay order content before after saying status out err said delivered = tt
 headline-of_command Realise order content before after saying status out err said delivered = tt
 headline-of_command Fair order content before after saying status out err said delivered = tt
 headline-of_command Asym order content before after saying status out err said delivered = tt
 headline-of_command Units order content before after saying status out err said delivered = tt
+headline-of_command UnitCheck order content before after saying status out err said delivered = tt
 headline-of_command Threshold order content before after saying status out err said delivered = tt
 headline-of_command Award order content before after saying status out err said delivered = tt
 headline-of_command Determ order content before after saying status out err said delivered = tt
@@ -139,6 +141,7 @@ headline-of_command DetermCheck order content before after saying status out err
 headline-of_command Run order content before after saying status out err said delivered = tt
 headline-of_command Report order content before after saying status out err said delivered = tt
 headline-of_command Iron order content before after saying status out err said delivered = tt
+headline-of_command IronUnits order content before after saying status out err said delivered = tt
 headline-of_command Make order content before after saying status out err said delivered = tt
 headline-of_command Drill order content before after saying status out err said delivered = tt
 

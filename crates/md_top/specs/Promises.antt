@@ -3,7 +3,7 @@ use Rattle.std.specs.Prelude.{◌≡◌, ◌≢◌, ◌++◌, ◌<◌, ◌≤◌
 use Rattle.std.specs.Option.{ForSome}
 use Rattle.md_ports.specs.Faults.{Rose}
 use Rattle.md_cli_words.specs.declared.command.Command.{Command}
-use Rattle.md_cli_words.specs.declared.command.Command.TheVariants.{Audit, Rows, Check, Solve, Replay, Realise, Fair, Find, FindFair, FairCheck, Asym, Units, Threshold, Award, Determ, DetermCheck, Run, Report, Iron, Make, Drill}
+use Rattle.md_cli_words.specs.declared.command.Command.TheVariants.{Audit, Rows, Check, Solve, Replay, Realise, Fair, Find, FindFair, FairCheck, Asym, AsymCheck, Units, UnitCheck, Threshold, Award, Determ, DetermCheck, Run, Report, Iron, IronUnits, Make, Drill}
 use Rattle.md_cli_words.specs.Words.{Order}
 use Rattle.md_setting.specs.declared.file.SettingFile.{SettingFile}
 use Rattle.md_cli_driver.specs.Reading.{is_any, is_general, setting_in}
@@ -39,8 +39,10 @@ IsHeadlineBy Realise setting width content status out = Unit {0}
 IsHeadlineBy Fair setting width content status out = Unit {0}
 IsHeadlineBy FindFair setting width content status out = Unit {0}
 IsHeadlineBy FairCheck setting width content status out = Unit {0}
+IsHeadlineBy AsymCheck setting width content status out = Unit {0}
 IsHeadlineBy Asym setting width content status out = Unit {0}
 IsHeadlineBy Units setting width content status out = Unit {0}
+IsHeadlineBy UnitCheck setting width content status out = Unit {0}
 IsHeadlineBy Threshold setting width content status out = Unit {0}
 IsHeadlineBy Award setting width content status out = Unit {0}
 IsHeadlineBy Determ setting width content status out = Unit {0}
@@ -48,6 +50,7 @@ IsHeadlineBy DetermCheck setting width content status out = Unit {0}
 IsHeadlineBy Run setting width content status out = Unit {0}
 IsHeadlineBy Report setting width content status out = Unit {0}
 IsHeadlineBy Iron setting width content status out = Unit {0}
+IsHeadlineBy IronUnits setting width content status out = Unit {0}
 IsHeadlineBy Make setting width content status out = Unit {0}
 IsHeadlineBy Drill setting width content status out = Unit {0}
 

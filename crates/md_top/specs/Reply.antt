@@ -2,23 +2,26 @@
 use Rattle.std.specs.Prelude.{◌≡◌, ◌⊎◌, ℕ, ℤ, unsigned_abs, Bool, true, false, List, Option, None, Some, IsSome}
 use Rattle.md_cli_words.specs.Commands.{command_in}
 use Rattle.md_cli_words.specs.declared.command.Command.{Command}
-use Rattle.md_cli_words.specs.declared.command.Command.TheVariants.{Audit, Rows, Check, Solve, Replay, Realise, Fair, Find, FindFair, FairCheck, Asym, Units, Threshold, Award, Determ, DetermCheck, Run, Report, Iron, Make, Drill}
+use Rattle.md_cli_words.specs.declared.command.Command.TheVariants.{Audit, Rows, Check, Solve, Replay, Realise, Fair, Find, FindFair, FairCheck, Asym, AsymCheck, Units, UnitCheck, Threshold, Award, Determ, DetermCheck, Run, Report, Iron, IronUnits, Make, Drill}
 use Rattle.md_cli_words.specs.Words.{Order, command_of}
 use Rattle.md_mech.specs.declared.mechanism.Mechanism.{Mechanism}
 use Rattle.md_border.specs.declared.interim.Interim.{Interim}
 use Rattle.md_answer.specs.declared.answer.Answer.{Answer}
 use Rattle.md_answer.specs.declared.pivots_file.Pivots.{Pivots}
+use Rattle.md_asym.specs.declared.sale_answer.SaleAnswer.{SaleAnswer}
 use Rattle.md_fair.specs.declared.answer.FairAnswer.{FairAnswer}
 use Rattle.md_cli_driver.specs.declared.refusal.Refusal.TheVariants as refusal
 use Rattle.md_cli_driver.specs.Saying.{Saying}
 use Rattle.md_cli_driver.specs.Reading.{answer_in, is_any, is_auction, is_general}
 use Rattle.md_cli_driver.specs.Refused.{refused}
-use Rattle.md_cli_driver.specs.Works.{Work, no_file, one_file, two_files, number_refused, IsReplyTo, HasFaultedIn}
+use Rattle.md_cli_driver.specs.Works.{Work, no_file, one_file, two_files, sale_files, number_refused, IsReplyTo, HasFaultedIn}
 use Rattle.md_cli_best.specs.Headline.{IsSolveStatus}
 use Rattle.md_cli_judge.specs.Auditing.{mechanism_in, IsAudit, IsAuditStatus}
 use Rattle.md_cli_tell.specs.Listing.{IsRows, IsRowsStatus}
 use Rattle.md_cli_judge.specs.Checking.{IsCheck}
+use Rattle.md_cli_judge.specs.AsymChecking.{IsAsymCheck, IsSaleFile, sale_answer_in}
 use Rattle.md_cli_judge.specs.FairChecking.{fair_answer_in, IsFairCheck}
+use Rattle.md_cli_judge.specs.UnitChecking.{unit_answer_in, IsUnitCheck}
 use Rattle.md_cli_judge.specs.Verdicts.{IsCheckStatus}
 use Rattle.md_cli_best.specs.Solving.{IsSolve}
 use Rattle.md_cli_tell.specs.Replaying.{pivots_in, IsReplay, IsReplayStatus}
@@ -27,13 +30,14 @@ use Rattle.md_cli_best.specs.Fair.{IsFair}
 use Rattle.md_cli_best.specs.Finding.{IsFind, IsFindFair, IsFindStatus}
 use Rattle.md_cli_tell.specs.Drawing.{drawable_in, IsRun, IsRunStatus}
 use Rattle.md_cli_tell.specs.Reporting.{IsReporting, IsReportStatus}
-use Rattle.md_cli_best.specs.Ironing.{IsIron, IsIronStatus}
+use Rattle.md_cli_sell.specs.Ironing.{IsIron, IsIronStatus}
+use Rattle.md_cli_sell.specs.IroningUnits.{IsIronUnits}
 use Rattle.md_cli_best.specs.Making.{IsMake, IsMakeStatus}
 use Rattle.md_cli_best.specs.Drilling.{IsDrill, IsDrillStatus}
-use Rattle.md_cli_best.specs.Selling.{IsAsym, IsAsymStatus}
-use Rattle.md_cli_best.specs.SellingUnits.{IsUnits, IsUnitsStatus}
-use Rattle.md_units.specs.Numbers.{is_unit_number}
-use Rattle.md_cli_best.specs.Thresholding.{IsThresholding, IsThresholdStatus}
+use Rattle.md_cli_sell.specs.Selling.{IsAsym, IsAsymStatus}
+use Rattle.md_cli_sell.specs.SellingUnits.{IsUnits, IsUnitsStatus}
+use Rattle.md_unit_tables.specs.Numbers.{is_unit_number}
+use Rattle.md_cli_sell.specs.Thresholding.{IsThresholding, IsThresholdStatus}
 use Rattle.md_cli_tell.specs.Awarding.{IsAwardOf, IsAwardStatus}
 use Rattle.md_cli_best.specs.Determining.{IsDeterm, IsDetermStatus}
 use Rattle.md_cli_judge.specs.DetermChecking.{determ_text_in, IsDetermCheck, IsDetermCheckStatus}
@@ -46,15 +50,26 @@ sale_by false work = number_refused
 abbrev pub sale_of : ℤ → (ℕ → Work) → Work
 sale_of number work = sale_by (is_unit_number number) (work (unsigned_abs number))
 
--- They are sold to the bidders of an auction; they are sold so that only winners pay; and who has what of that at a profile and a draw.
+-- They are sold to the bidders of an auction, by the cut run or in closed form; they are sold so that only winners pay; and who has
+-- what of that at a profile and a draw.
 abbrev pub units_work : ℤ → ℕ → Work
 units_work number width = sale_of number (λ units. one_file is_auction (IsUnits units width) IsUnitsStatus)
+
+abbrev pub unit_check_work : ℤ → Work
+unit_check_work number = sale_of number (λ units. two_files Answer is_auction (unit_answer_in units) (IsUnitCheck units) IsCheckStatus)
+
+abbrev pub iron_units_work : ℤ → Work
+iron_units_work number = sale_of number (λ units. one_file is_auction (IsIronUnits units) IsIronStatus)
 
 abbrev pub threshold_work : ℤ → Work
 threshold_work number = sale_of number (λ units. one_file is_auction (IsThresholding units) IsThresholdStatus)
 
 abbrev pub award_work : ℤ → List ℕ → ℤ → Work
 award_work number profile draw = sale_of number (λ units. one_file is_auction (IsAwardOf units profile draw) IsAwardStatus)
+
+-- an outcome is drawn from an answer at a profile
+abbrev pub draw_work : List ℕ → ℤ → ℤ → Work
+draw_work profile first second = two_files Answer is_any drawable_in (IsRun profile first second) IsRunStatus
 
 -- the commands: the files of each, what it says of them, and its statuses
 abbrev pub work_by : Command → Order → Work
@@ -69,14 +84,17 @@ work_by Find order = one_file is_general IsFind IsFindStatus
 work_by FindFair order = one_file is_general IsFindFair IsFindStatus
 work_by FairCheck order = two_files FairAnswer is_general fair_answer_in IsFairCheck IsCheckStatus
 work_by Asym order = one_file is_general (IsAsym order.width) IsAsymStatus
+work_by AsymCheck order = sale_files SaleAnswer IsSaleFile sale_answer_in IsAsymCheck IsCheckStatus
 work_by Units order = units_work order.number order.width
+work_by UnitCheck order = unit_check_work order.number
 work_by Threshold order = threshold_work order.number
 work_by Award order = award_work order.number order.profile order.first_draw
 work_by Determ order = one_file is_general (IsDeterm order.width) IsDetermStatus
 work_by DetermCheck order = two_files (List ℕ) is_general determ_text_in IsDetermCheck IsDetermCheckStatus
-work_by Run order = two_files Answer is_any drawable_in (IsRun order.profile order.first_draw order.second_draw) IsRunStatus
+work_by Run order = draw_work order.profile order.first_draw order.second_draw
 work_by Report order = two_files Answer is_any drawable_in IsReporting IsReportStatus
 work_by Iron order = one_file is_auction IsIron IsIronStatus
+work_by IronUnits order = iron_units_work order.number
 work_by Make order = no_file (IsMake order.number) IsMakeStatus
 work_by Drill order = no_file (IsDrill order.number) IsDrillStatus
 

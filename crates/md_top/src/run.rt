@@ -1,19 +1,18 @@
 //! The commands, each carried out over its files.
 ghost use Rattle.std.specs.Prelude.{ℕ, List};
 ghost use Rattle.md_cli_words.specs.Orders.{asked};
-ghost use Rattle.md_top.specs.Reply.{award_work, threshold_work, units_work, work_of};
+ghost use Rattle.md_top.specs.Reply.{award_work, draw_work, iron_units_work, threshold_work, unit_check_work, units_work, work_of};
 ghost use Rattle.md_cli_driver.specs.Works.{IsCarriedOut};
 
-use md_cli_best::{
-    Asym, Determ, Drill, Fair, Find, FindFair, Iron, Make, Solve, ThresholdSale, Units,
-};
-use md_cli_driver::{Answered, NumberRefused, Refusal, of_none, of_one, of_two};
-use md_cli_judge::{Audit, Check, DetermCheck, FairCheck};
+use md_cli_best::{Determ, Drill, Fair, Find, FindFair, Make, Solve};
+use md_cli_driver::{Answered, NumberRefused, Refusal, of_none, of_one, of_sale, of_two};
+use md_cli_judge::{AsymCheck, Audit, Check, DetermCheck, FairCheck, UnitCheck};
+use md_cli_sell::{Asym, Iron, IronUnits, ThresholdSale, Units};
 use md_cli_tell::{Awarding, Draw, Realise, Replay, Rows, Tell};
 use md_cli_words::{Command, Order};
 use md_num::Width;
 use md_ports::Shelf;
-use md_units::UnitNumber;
+use md_unit_tables::UnitNumber;
 use std::alloc::Global;
 
 /// Carries a command out.
@@ -31,8 +30,8 @@ pub(crate) fn run<F: Shelf>(
         width,
         profile,
         first_draw,
-        second_draw,
         number,
+        ..
     } = *order;
     match command {
         Command::Audit => of_two(alloc, &Audit, setting, second, shelf),
@@ -46,24 +45,32 @@ pub(crate) fn run<F: Shelf>(
         Command::FindFair => of_one(alloc, &FindFair, setting, shelf),
         Command::FairCheck => of_two(alloc, &FairCheck, setting, second, shelf),
         Command::Asym => of_one(alloc, &Asym { width }, setting, shelf),
+        Command::AsymCheck => of_sale(alloc, &AsymCheck, setting, second, shelf),
         Command::Units => sell_units(alloc, number, width, setting, shelf),
+        Command::UnitCheck => check_units(alloc, number, setting, second, shelf),
         Command::Threshold => sell_to_winners(alloc, number, setting, shelf),
         Command::Award => award(alloc, number, profile, first_draw, setting, shelf),
         Command::Determ => of_one(alloc, &Determ { width }, setting, shelf),
         Command::DetermCheck => of_two(alloc, &DetermCheck, setting, second, shelf),
-        Command::Run => {
-            let draw = Draw {
-                profile,
-                first: first_draw,
-                second: second_draw,
-            };
-            of_two(alloc, &draw, setting, second, shelf)
-        }
+        Command::Run => draw(alloc, order, shelf),
         Command::Report => of_two(alloc, &Tell, setting, second, shelf),
         Command::Iron => of_one(alloc, &Iron, setting, shelf),
+        Command::IronUnits => iron_units(alloc, number, setting, shelf),
         Command::Make => of_none(alloc, &Make { number }),
         Command::Drill => of_none(alloc, &Drill { number }),
     }
+}
+
+// Draws an outcome from an answer at a profile.
+fn draw<F: Shelf>(alloc: Global, order: &Order<'_>, shelf: &mut F) -> Result<Answered, Refusal>
+    ensures { IsCarriedOut (draw_work order.now.profile.now order.now.first_draw order.now.second_draw) order.now.setting.now order.now.second.now (F.content shelf.old) (F.faults shelf.old) (F.faults shelf.new) result }
+{
+    let command = Draw {
+        profile: order.profile,
+        first: order.first_draw,
+        second: order.second_draw,
+    };
+    of_two(alloc, &command, order.setting, order.second, shelf)
 }
 
 // Sells so many units. A number of them that may not be sold is refused before the setting is read.
@@ -78,6 +85,37 @@ fn sell_units<F: Shelf>(
 {
     match UnitNumber::new(number) {
         Some(units) => of_one(alloc, &Units { units, width }, setting, shelf),
+        None => of_none(alloc, &NumberRefused),
+    }
+}
+
+// Checks an answer about so many units. A number of them that may not be sold is refused before the setting is read.
+fn check_units<F: Shelf>(
+    alloc: Global,
+    number: i128,
+    setting: &str,
+    second: &str,
+    shelf: &mut F,
+) -> Result<Answered, Refusal>
+    ensures { IsCarriedOut (unit_check_work number) setting.now second.now (F.content shelf.old) (F.faults shelf.old) (F.faults shelf.new) result }
+{
+    match UnitNumber::new(number) {
+        Some(units) => of_two(alloc, &UnitCheck { units }, setting, second, shelf),
+        None => of_none(alloc, &NumberRefused),
+    }
+}
+
+// Sells so many units in closed form. A number of them that may not be sold is refused before the setting is read.
+fn iron_units<F: Shelf>(
+    alloc: Global,
+    number: i128,
+    setting: &str,
+    shelf: &mut F,
+) -> Result<Answered, Refusal>
+    ensures { (second : List ℕ) → IsCarriedOut (iron_units_work number) setting.now second (F.content shelf.old) (F.faults shelf.old) (F.faults shelf.new) result }
+{
+    match UnitNumber::new(number) {
+        Some(units) => of_one(alloc, &IronUnits { units }, setting, shelf),
         None => of_none(alloc, &NumberRefused),
     }
 }

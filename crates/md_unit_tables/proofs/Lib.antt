@@ -1,3 +1,5 @@
+pub mod FurtherUnits
+pub mod MassLaws
 pub mod NetLaws
 pub mod FlowLaws
 pub mod WinnerLaws

@@ -39,7 +39,7 @@ room-of a units interim net rank v h b l =
 -- ---- how large they are
 
 -- no more bidders have a value than there are
-count-few : (a : SymmetricAuction) (rank v : ℕ) → rank < rank_count a → v < value_count a → slice_index (counts_in a rank) v ≤ a.bidders
+pub count-few : (a : SymmetricAuction) (rank v : ℕ) → rank < rank_count a → v < value_count a → slice_index (counts_in a rank) v ≤ a.bidders
 count-few a rank v b l =
     let counts = counts_in a rank in
     let r = ranked (value_count a) a.bidders rank b in

@@ -1,3 +1,5 @@
+pub mod Numbers
+pub mod Worth
 pub mod Tables
 pub mod Mechanisms
 pub mod UnitNets

@@ -8,8 +8,14 @@
 #![tactic(auto)]
 
 mod realising;
+mod sums;
 mod unit_end;
 mod unit_net;
+mod unit_number;
+mod worth;
 
 pub use realising::realise_units;
+pub use sums::mass_sum;
 pub use unit_end::UnitEnd;
+pub use unit_number::UnitNumber;
+pub use worth::unit_worth;

@@ -1,3 +1,2 @@
 pub mod UnitLaws
-mod FurtherUnits
 mod UnitEnds

@@ -17,7 +17,7 @@ use Rattle.md_cut_runs.specs.declared.optimum.Optimum.{Optimum}
 use Rattle.md_cut_runs.specs.CutRuns.{EndsSettled, IsShownBy}
 use Rattle.md_winners.specs.Odds.{HasUnitOdds, HasUnitPays}
 use Rattle.md_winners.specs.Setting.{units_of}
-use Rattle.md_units.specs.Worth.{HasUnitWorth}
+use Rattle.md_unit_tables.specs.Worth.{HasUnitWorth}
 use Rattle.md_units.proofs.UnitLaws.{makes-optimal, value-of_odds}
 use Rattle.md_unit_tables.specs.Mechanisms.{unit_mechanism_of}
 use Rattle.md_unit_tables.specs.Tables.{table_of}

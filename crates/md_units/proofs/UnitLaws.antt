@@ -17,7 +17,7 @@ use Rattle.md_winners.specs.Setting.{units_of}
 use Rattle.md_winners.specs.Odds.{HasUnitOdds, HasUnitPays}
 use Rattle.md_winners.proofs.UnitSales.{unit_sale, unit-sale, unit-odds-as, unit-pays-as}
 use Rattle.md_units.specs.Mechanisms.{AdmitsUnitPoints, HoldsUnitAdmissible, MakesUnitOptimal}
-use Rattle.md_units.specs.Worth.{HasUnitWorth}
+use Rattle.md_unit_tables.specs.Worth.{HasUnitWorth}
 
 module _ (a : SymmetricAuction) (units : ℕ) (cuts : List ℕ) (p : Program) (shaped : IsAuction a) (is : IsReducedProgram a units cuts p) where
   pub admits : AdmitsUnitPoints a units p

@@ -5,14 +5,11 @@
 mod programs;
 mod solving;
 mod unit_cuts;
-mod unit_number;
 mod units_answer;
-mod worth;
 
 pub use md_border::right_side_for as right_side;
 pub use md_cut_runs::CutsError as UnitsError;
-pub use md_unit_tables::{UnitEnd, realise_units};
+pub use md_unit_tables::{UnitEnd, realise_units, unit_worth};
 pub use programs::program;
 pub use solving::solve_units;
-pub use unit_number::UnitNumber;
 pub use units_answer::UnitsAnswer;

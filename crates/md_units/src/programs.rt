@@ -8,7 +8,7 @@ ghost use Rattle.md_reduced.specs.Conditions.{conditions_of};
 ghost use Rattle.md_reduced.specs.Mechanisms.{IsBounded};
 ghost use Rattle.md_reduced.specs.ProgramOf.{IsReducedProgram, HasEachRow, MeetsByConditions, CostsPoints};
 ghost use Rattle.md_units.specs.Mechanisms.{AdmitsUnitPoints, HoldsUnitAdmissible, MakesUnitOptimal};
-ghost use Rattle.md_units.specs.Numbers.{IsUnitNumber};
+ghost use Rattle.md_unit_tables.specs.Numbers.{IsUnitNumber};
 
 use md_lp::{Lp, Sets};
 use md_num::NoMemory;

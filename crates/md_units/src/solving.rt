@@ -1,5 +1,5 @@
 //! Sales of several units solved.
-ghost use Rattle.std.specs.Prelude.{◌≡◌, ◌<◌, ◌^◌, List, ℕ, IfErr, IfOk, MatchResult, length};
+ghost use Rattle.std.specs.Prelude.{◌≡◌, ◌<◌, ◌-◌, ◌^◌, List, ℕ, IfErr, IfOk, MatchResult, length};
 ghost use Rattle.md_lp.specs.Cuts.{AreCuts};
 ghost use Rattle.md_lp.specs.declared.wide.Wide.{Wide};
 ghost use Rattle.md_setting.specs.Auction.{value_count};
@@ -12,16 +12,18 @@ ghost use Rattle.md_cut_runs.specs.CutRuns.{EndsSettled, EndsWide, HasSmallEntri
 ghost use Rattle.md_winners.specs.Odds.{HasUnitOdds, HasUnitPays};
 ghost use Rattle.md_winners.specs.Setting.{units_of};
 ghost use Rattle.md_unit_tables.specs.Tables.{ImplementsUnits, IsUnitTable, table_of};
-ghost use Rattle.md_units.specs.Numbers.{IsUnitNumber};
+ghost use Rattle.md_math.specs.Sizes.{IsWithin};
+ghost use Rattle.md_unit_tables.specs.Numbers.{IsUnitNumber};
+ghost use Rattle.md_unit_tables.specs.Worth.{HasUnitWorth};
 ghost use Rattle.md_units.specs.Solved.{IsSolvedUnits, TellsUnits, mechanism_in};
 ghost use Rattle.md_cuts.specs.AuctionCuts.{unit_cutting};
 
 use crate::unit_cuts::UnitSale;
-use crate::worth::unit_worth;
 use crate::{UnitsAnswer, UnitsError};
 use md_cut_runs::cut_run;
 use md_num::Width;
 use md_setting::Auction;
+use md_unit_tables::unit_worth;
 use std::alloc::Global;
 
 /// Solves a sale of so many identical units to the bidders of an auction, each of whom wants one: the cut run over its reduced
@@ -49,6 +51,8 @@ pub fn solve_units(
     ensures optimal { IfOk result (λ answer. IsOptimal (units_of auction.now units) (mechanism_in auction.now units answer)) }
     ensures odds { IfOk result (λ answer. HasUnitOdds auction.now units (mechanism_in auction.now units answer) answer.interim.den answer.interim.odds) }
     ensures pays { IfOk result (λ answer. HasUnitPays auction.now units (mechanism_in auction.now units answer) answer.interim.den answer.interim.pays) }
+    ensures worth { IfOk result (λ answer. HasUnitWorth auction.now units answer.interim answer.value) }
+    ensures value_fits { IfOk result (λ answer. IsWithin (2 ^ 126 - 1) answer.value.num × IsWithin (2 ^ 126 - 1) answer.value.den) }
     ensures value { IfOk result (λ answer. IsValueOf (units_of auction.now units) (mechanism_in auction.now units answer) answer.value) }
 
     // There is one run, and it has one end.

@@ -3,7 +3,7 @@ ghost use Rattle.std.specs.Prelude.{◌≡◌, IfOk};
 ghost use Rattle.md_math.specs.Lists.{number_at};
 ghost use Rattle.md_cut_runs.specs.Cutting.{IsCutPoint, IsCutting};
 ghost use Rattle.md_cut_runs.specs.Worst.{IsWorst, NoneOver, WhereTable, WhereViolated};
-ghost use Rattle.md_units.specs.Numbers.{IsUnitNumber};
+ghost use Rattle.md_unit_tables.specs.Numbers.{IsUnitNumber};
 ghost use Rattle.md_cuts.specs.AuctionCuts.{unit_cutting};
 ghost use Rattle.md_units.specs.UnitCuts.{IsUnitRealised};
 
@@ -28,7 +28,7 @@ pub(crate) struct UnitSale<'a> {
 impl<'a> Model for UnitSale<'a> {
     ghost use Rattle.std.specs.Prelude.{ℕ};
     ghost use Rattle.md_setting.specs.Auction.{SymmetricAuction};
-    ghost use Rattle.md_units.specs.Numbers.{IsUnitNumber};
+    ghost use Rattle.md_unit_tables.specs.Numbers.{IsUnitNumber};
 
     ghost Value = { SymmetricAuction × ℕ };
 

@@ -1,4 +1,4 @@
 use Rattle.md_answer.proofs.writing.write_answer.Goals as goal
 
 pub returns-in-Auction-clause-auction_law : goal.returns-in-Auction-clause-auction_law
-returns-in-Auction-clause-auction_law c = λ told. rw c.in-Auction.is (c.text_about-in-Auction.ensures.law told)
+returns-in-Auction-clause-auction_law c = λ told. rw c.in-Auction.is (c.write_auction_answer.ensures.law told)

@@ -1,10 +1,8 @@
-use Rattle.std.proofs.Common.{◌*◌, ◌^◌, ◌*ℤ◌, sym, subst, lit<}
-use Rattle.md_math.specs.Lists.{number_at}
+use Rattle.std.proofs.Common.{◌*◌, ◌^◌, sym, subst, lit<}
 use Rattle.md_math.specs.Sizes.{IsWithin}
-use Rattle.md_math.proofs.Readings.{IsRead, read, read_of, product_fits, product_is, add_product_is, add_product_fits}
+use Rattle.md_math.proofs.Readings.{read, read_of, product_fits, product_is, add_product_is, add_product_fits}
 use Rattle.md_math.proofs.SizeLaws.{IsWithin-*ℤ, AllWithin-number_at}
 use Rattle.md_mech.specs.Accepted.{number_limit}
-use Rattle.md_asym_sale.specs.Values.{surplus_at}
 use Rattle.md_asym.proofs.GainLaws.{gain-within, odds-within, surplus-small}
 use Rattle.md_asym.proofs.worth.gain.Goals as goal
 

@@ -14,15 +14,15 @@ returns-in-Some-Point c = λ p masses cuts bound is add_up certified told.
     let right : to_z w128 (of_z w128 c.in-Some-Point.right) ≡ c.in-Some-Point.right = search rules in
     let same : c.args.fault ≡ Some (fault.Point c.in-Some-Point.row c.in-Some-Point.left c.in-Some-Point.right) = search rules in
     let first : IsFirstFault p (auction_certificate interim bound) (fault.Point c.in-Some-Point.row c.in-Some-Point.left c.in-Some-Point.right) = rw same at told in
-    rw (left, right) (told-row c.args.auction.now c.args.value.now interim masses cuts bound p c.in-Some-Point.row c.in-Some-Point.left c.in-Some-Point.right is add_up first)
+    rw (left, right) (told-row c.args.auction.now c.args.units c.args.value.now interim masses cuts bound p c.in-Some-Point.row c.in-Some-Point.left c.in-Some-Point.right is add_up first)
 
 pub returns-in-Some : goal.returns-in-Some
 returns-in-Some c = λ p masses cuts bound is add_up certified told.
     let behind : IfSome c.args.fault IsBehindPoint = search rules in
-    told-value c.args.auction.now c.args.value.now c.in-Some.right c.args.interim.now masses cuts bound p c.args.fault is c.requires.interim add_up behind certified told c.in-Some.ensures
+    told-value c.args.auction.now c.args.units c.args.value.now c.in-Some.right c.args.interim.now masses cuts bound p c.args.fault is c.requires.interim add_up behind certified told c.in-Some.ensures
 
 pub returns : goal.returns
 returns c = λ p masses cuts bound is add_up certified told.
     let behind : IfSome c.args.fault IsBehindPoint = search rules in
-    told-fault c.args.auction.now c.args.value.now c.args.interim.now masses cuts bound p c.args.fault c.verdict_by.result is c.requires.interim add_up behind certified told c.in_default-other_worth.ensures
+    told-fault c.args.auction.now c.args.units c.args.value.now c.args.interim.now masses cuts bound p c.args.fault c.verdict_by.result is c.requires.interim add_up behind certified told c.in_default-other_worth.ensures
     (c.verdict_by.ensures p (auction_certificate c.args.interim.now bound) certified told)

@@ -10,7 +10,7 @@ use Rattle.md_check.proofs.auction.judge_odds.Goals as goal
 pub check_lp-fault-requires : goal.check_lp-fault-requires
 check_lp-fault-requires c =
     let p = c.in_ok-lp.lp in
-    subst (Fits p) (sym c.in_ok-certificate.ensures) (fits-auction c.args.auction.now c.args.cuts.now p c.args.interim.now c.args.bound.now c.in_ok-lp.ensures.program c.requires.interim c.requires.bound)
+    subst (Fits p) (sym c.in_ok-certificate.ensures) (fits-auction c.args.auction.now c.args.units c.args.cuts.now p c.args.interim.now c.args.bound.now c.in_ok-lp.ensures.program c.requires.interim c.requires.bound)
 
 pub returns : goal.returns
 returns c =

@@ -13,7 +13,7 @@ returns-in_err-bytes g c =
     let served : serves file ≡ true = sym c.serves.ensures ∙ c.if-not-serves.false in
     let p = err_from_is_err_and c.from_residual-in_err-bytes.result c.from_residual-in_err-bytes.ensures.1 in
     rw (p.1, p.2)
-    (file-refused serves g.C.TwoFiles.reading (g.C.TwoFiles.says c.args.command.now) g.C.TwoFiles.own c.args.setting.now c.args.second.now (g.F.Shelf.content c.args.shelf.now)
+    (file-refused serves (g.C.TwoFiles.reading c.args.command.now) (g.C.TwoFiles.says c.args.command.now) g.C.TwoFiles.own c.args.setting.now c.args.second.now (g.F.Shelf.content c.args.shelf.now)
     file (λ bytes told. setting-served serves file bytes (c.in_ok-file.ensures.told bytes told) served)
     (faults c.args.shelf.now) (faults c.read_setting_file.new.shelf) (faults c.read_file.new.shelf)
     (λ n. c.in_ok-file.ensures.quiet n (read-not_refused file refusal.ReadFault))
@@ -30,7 +30,7 @@ returns-in_err-second g c =
     let served : serves file ≡ true = sym c.serves.ensures ∙ c.if-not-serves.false in
     let p = err_from_is_err_and c.from_residual-in_err-second.result c.from_residual-in_err-second.ensures.1 in
     rw (p.1, p.2)
-    (said-refused_second serves g.C.TwoFiles.reading (g.C.TwoFiles.says c.args.command.now) g.C.TwoFiles.own c.args.setting.now c.args.second.now (g.F.Shelf.content c.args.shelf.now)
+    (said-refused_second serves (g.C.TwoFiles.reading c.args.command.now) (g.C.TwoFiles.says c.args.command.now) g.C.TwoFiles.own c.args.setting.now c.args.second.now (g.F.Shelf.content c.args.shelf.now)
     file (λ bytes told. setting-served serves file bytes (c.in_ok-file.ensures.told bytes told) served)
     (faults c.args.shelf.now) (faults c.read_setting_file.new.shelf) (faults c.read_file.new.shelf)
     (λ n. c.in_ok-file.ensures.quiet n (read-not_refused file refusal.ReadFault))
@@ -44,7 +44,7 @@ returns g c =
     let faults = g.F.Shelf.faults in
     let file = c.in_ok-file.file in
     let served : serves file ≡ true = sym c.serves.ensures ∙ c.if-not-serves.false in
-    both-worked serves g.C.TwoFiles.reading (g.C.TwoFiles.says c.args.command.now) g.C.TwoFiles.own c.args.setting.now c.args.second.now (g.F.Shelf.content c.args.shelf.now)
+    both-worked serves (g.C.TwoFiles.reading c.args.command.now) (g.C.TwoFiles.says c.args.command.now) g.C.TwoFiles.own c.args.setting.now c.args.second.now (g.F.Shelf.content c.args.shelf.now)
     file (λ bytes told. setting-served serves file bytes (c.in_ok-file.ensures.told bytes told) served)
     (faults c.args.shelf.now) (faults c.read_setting_file.new.shelf) (faults c.read_file.new.shelf)
     (λ n. c.in_ok-file.ensures.quiet n (read-not_refused file refusal.ReadFault))

@@ -9,5 +9,5 @@ use Rattle.md_iron.proofs.cut_rows.cut_divisor.Goals as goal
 pub exact_quotient-requires-clause-exact : goal.exact_quotient-requires-clause-exact
 exact_quotient-requires-clause-exact c =
     let right : to_z w128 (of_z w128 c.right.result) ≡ right_at c.args.lp.now c.args.row = read_result c.right.result c.right.type_inv ∙ c.right.ensures.value in
-    let side : to_z w128 (of_z w128 c.right_side.result) ≡ right_by_counts c.args.auction.now 1 c.args.set = read_result c.right_side.result c.right_side.type_inv ∙ c.right_side.ensures.counts in
-    subst (λ z. Divides z (to_z w128 (of_z w128 c.right_side.result))) (sym right) (subst (Divides (right_at c.args.lp.now c.args.row)) (sym side) c.requires.divides)
+    let side : to_z w128 (of_z w128 c.right_side_for.result) ≡ right_by_counts c.args.auction.now c.args.units c.args.set = read_result c.right_side_for.result c.right_side_for.type_inv ∙ c.right_side_for.ensures.value in
+    subst (λ z. Divides z (to_z w128 (of_z w128 c.right_side_for.result))) (sym right) (subst (Divides (right_at c.args.lp.now c.args.row)) (sym side) c.requires.divides)

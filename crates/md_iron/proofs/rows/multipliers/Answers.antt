@@ -14,5 +14,5 @@ loop-row-preserved c =
     let new = c.push.new.self.items in (
       omega (arith, kept.0, ap length c.in_ok-push.ensures.items, length-append {A = Frac}),
       record { at = λ k b. each-pushed (λ i f. IsLeastFraction f) n old new c.multiplier.result kept.0 c.in_ok-push.ensures.items (λ i l. kept.1.at i (omega (arith, l, kept.0))) c.multiplier.ensures.least k (omega (arith, b, kept.0, ap length c.in_ok-push.ensures.items, length-append {A = Frac})) },
-      record { at = λ k b. each-pushed (IsMultiplierAt c.args.auction.now (pools_of c.args.pools.now) c.args.lp.now) n old new c.multiplier.result kept.0 c.in_ok-push.ensures.items kept.2.at c.multiplier.ensures.multiplier k b },
+      record { at = λ k b. each-pushed (IsMultiplierAt c.args.auction.now c.args.units (pools_of c.args.pools.now) c.args.lp.now) n old new c.multiplier.result kept.0 c.in_ok-push.ensures.items kept.2.at c.multiplier.ensures.multiplier k b },
     )

@@ -6,4 +6,4 @@ use Rattle.md_iron.proofs.rows.multipliers.Given as goal
 
 abbrev pub invariant-loop-row : goal.invariant-loop-row
 invariant-loop-row l =
-    (length l.fractions.items ≡ l.row) × AreLeastFractions l.fractions.items × AreRowMultipliers l.auction (pools_of l.pools) l.lp l.row l.fractions.items
+    (length l.fractions.items ≡ l.row) × AreLeastFractions l.fractions.items × AreRowMultipliers l.auction l.units (pools_of l.pools) l.lp l.row l.fractions.items

@@ -6,8 +6,8 @@ use Rattle.md_threshold.proofs.expected.amount.Goals as goal
 
 pub returns-in-Gain-clause-size : goal.returns-in-Gain-clause-size
 returns-in-Gain-clause-size c =
-    subst (IsWithin (2 ^ 89)) (sym (read _ _ (read_of _ _ c.gain.type_inv c.gain.ensures))) (gain-short c.args.auction.now c.args.interim.now c.kinds-shaped.ensures.shaped c.requires.short c.args.kind c.requires.kind)
+    subst (IsWithin (2 ^ 89)) (sym (read _ _ (read_of _ _ c.gain.type_inv c.gain.ensures))) (gain-short c.args.auction.now c.args.interim.now c.kinds-shaped.ensures.shaped c.requires.fits c.args.kind c.requires.kind)
 
 pub returns-in-Item-clause-size : goal.returns-in-Item-clause-size
 returns-in-Item-clause-size c =
-    subst (IsWithin (2 ^ 89)) (sym (read _ _ (read_of _ _ c.item.type_inv c.item.ensures))) (item-short c.args.auction.now c.args.interim.now c.kinds-shaped.ensures.shaped c.requires.short c.args.kind c.requires.kind)
+    subst (IsWithin (2 ^ 89)) (sym (read _ _ (read_of _ _ c.item.type_inv c.item.ensures))) (item-short c.args.auction.now c.args.interim.now c.kinds-shaped.ensures.shaped c.requires.fits c.args.kind c.requires.kind)

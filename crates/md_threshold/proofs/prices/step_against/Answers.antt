@@ -3,7 +3,7 @@ use Rattle.md_math.specs.Sizes.{IsWithin}
 use Rattle.md_math.proofs.Readings.{read_of, difference_is}
 use Rattle.md_iron_pools.specs.Pooling.{pools_of}
 use Rattle.md_threshold.specs.Prices.{chance_against}
-use Rattle.md_threshold.proofs.InterimSizes.{step-is}
+use Rattle.md_iron_pools.proofs.InterimLaws.{step-is}
 use Rattle.md_threshold.proofs.ChanceSizes.{step-small}
 use Rattle.md_threshold.proofs.PriceLaws.{against-most}
 use Rattle.md_threshold.proofs.prices.step_against.Goals as goal

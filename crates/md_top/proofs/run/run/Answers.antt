@@ -27,6 +27,12 @@ returns-in-Units g c =
     let fits : FitsSigned w128 number = search rules in
     rw c.in-Units.is (rw (to_z-of_z w128 number fits) at (c.sell_units.ensures c.args.order.now.second.now))
 
+pub returns-in-UnitCheck : goal.returns-in-UnitCheck
+returns-in-UnitCheck g c =
+    let number = c.args.order.now.number in
+    let fits : FitsSigned w128 number = search rules in
+    rw c.in-UnitCheck.is (rw (to_z-of_z w128 number fits) at c.check_units.ensures)
+
 pub returns-in-Threshold : goal.returns-in-Threshold
 returns-in-Threshold g c =
     let number = c.args.order.now.number in
@@ -46,6 +52,12 @@ returns-in-Determ g c = rw c.in-Determ.is (c.of_one-in-Determ.ensures c.args.ord
 
 pub returns-in-Iron : goal.returns-in-Iron
 returns-in-Iron g c = rw c.in-Iron.is (c.of_one-in-Iron.ensures c.args.order.now.second.now)
+
+pub returns-in-IronUnits : goal.returns-in-IronUnits
+returns-in-IronUnits g c =
+    let number = c.args.order.now.number in
+    let fits : FitsSigned w128 number = search rules in
+    rw c.in-IronUnits.is (rw (to_z-of_z w128 number fits) at (c.iron_units.ensures c.args.order.now.second.now))
 
 pub returns-in-Make : goal.returns-in-Make
 returns-in-Make g c =

@@ -1,0 +1,2 @@
+mod SalePrograms
+mod SaleEnds

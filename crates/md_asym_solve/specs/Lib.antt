@@ -1,0 +1,2 @@
+pub mod SaleCuts
+pub mod Solved

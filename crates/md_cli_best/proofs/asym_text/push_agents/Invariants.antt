@@ -1,7 +1,0 @@
-use Rattle.std.proofs.Common.{◌≡◌, ◌++◌}
-use Rattle.md_math.specs.Lists.{list_to}
-use Rattle.md_cli_best.specs.SaleTexts.{agent_row}
-use Rattle.md_cli_best.proofs.asym_text.push_agents.Given as goal
-
-abbrev pub invariant-loop-agent : goal.invariant-loop-agent
-invariant-loop-agent l = l.rows.items ≡ l.fn.rows.items ++ list_to l.agent (agent_row l.word l.setting l.numbers)

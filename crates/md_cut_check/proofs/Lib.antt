@@ -1,0 +1,3 @@
+pub mod CutPoints
+pub mod CutLaws
+pub mod OneCutVerdict

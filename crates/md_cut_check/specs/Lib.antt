@@ -1,0 +1,2 @@
+pub mod Interims
+pub mod CutClaims
