@@ -23,10 +23,23 @@ import {
 /** What commands are for, in the order in which they are offered. */
 export const GROUPS = { find: "Find a best rule", judge: "Judge a rule", run: "Run a rule", study: "Study a rule" };
 
-/** What may stand beside the setting file: its name in sentences, and what a file of it is called. */
+/** What may stand beside the setting file: its name in sentences, and what a file of it is called. `of` has the other kinds whose files
+ * will do as well. */
 export const SECONDS = {
-  answer: { label: "Answer", file: "answer.csv", hint: "What solve, find or iron printed, or a mechanism of your own" },
+  answer: { label: "Answer", file: "answer.csv", hint: "What solve, find or iron printed" },
   fairest: { label: "Answer", file: "fairest.csv", hint: "What fair or findfair printed" },
+  mechanism: {
+    label: "Answer",
+    file: "answer.csv",
+    hint: "What solve, find, iron, fair or findfair printed, or a rule of your own",
+    of: ["answer", "fairest"],
+  },
+  reported: {
+    label: "Answer",
+    file: "answer.csv",
+    hint: "What solve, find, iron, fair or findfair printed, or a rule of your own; of an auction its odds and pays will do",
+    of: ["answer", "fairest", "mechanism"],
+  },
   rule: { label: "Answer", file: "rule.csv", hint: "What determ printed" },
   sale: { label: "Answer", file: "sale.csv", hint: "What asym printed" },
   units: { label: "Answer", file: "units.csv", hint: "What units or ironunits printed for so many units" },
@@ -48,10 +61,9 @@ export const FIELDS = {
 
 /** `asks` says what a command does, `button` stands on the button that carries it out, and `next` on the one that asks it of an answer.
  * `kind` is the kind of setting that it is for, where it is not for all: `general`, `auction` or `sale`. `second` names the kind of its
- * second file, and `fields` its further words in order. `makes` names the kind of file that it prints, `saves` how such a file is called
- * behind the name of its setting, and `isOfMechanism` says that it wants a mechanism in its second file. `tooWide` has the commands to go
- * on with where there is no answer, `draws` how many draws there are for its fields, and `isLive` is of those that are asked anew as soon
- * as one of their fields changes. */
+ * second file, and `fields` its further words in order. `makes` names the kind of file that it prints, and `saves` how such a file is
+ * called behind the name of its setting. `tooWide` has the commands to go on with where there is no answer, `draws` how many draws there
+ * are for its fields, and `isLive` is of those that are asked anew as soon as one of their fields changes. */
 export const COMMANDS = [
   {
     word: "solve",
@@ -227,8 +239,7 @@ export const COMMANDS = [
     button: "Audit",
     next: "Audit its rule",
     kind: "general",
-    second: "answer",
-    isOfMechanism: true,
+    second: "mechanism",
     fields: [],
     view: auditView,
   },
@@ -248,8 +259,7 @@ export const COMMANDS = [
     asks: "Which outcome do two draws give at some reports, and who pays what?",
     button: "Run",
     next: "Draw an outcome",
-    second: "answer",
-    isOfMechanism: true,
+    second: "mechanism",
     fields: ["profile", "first", "second"],
     draws: { first: rangeOfFirst, second: rangeOfSecond },
     view: runView,
@@ -273,8 +283,7 @@ export const COMMANDS = [
     asks: "What does a rule do, and how far is it from truthful?",
     button: "Report",
     next: "Report on it",
-    second: "answer",
-    isOfMechanism: true,
+    second: "reported",
     fields: [],
     view: reportView,
   },
@@ -335,11 +344,18 @@ export function nextCommands(command, status, setting) {
   return COMMANDS.filter((each) => fits(each, setting) && follows(each, command, status));
 }
 
-function follows({ word, second, follows: kind = second, isOfMechanism }, { makes, tooWide = [] }, status) {
+function follows({ word, second, follows: kind = second }, { makes, tooWide = [] }, status) {
   if (NO_ANSWER.includes(status)) {
     return tooWide.includes(word);
   }
-  return kind !== undefined && kind === makes && DONE.includes(status) && !(isOfMechanism && status === NONE);
+  const isTaken = makes !== undefined && (kind === makes || takenAs(makes).includes(kind));
+  const wantsMechanism = SECONDS[second]?.of !== undefined;
+  return isTaken && DONE.includes(status) && !(wantsMechanism && status === NONE);
+}
+
+/** The kinds of second files as which a file of a kind is taken. */
+export function takenAs(kind) {
+  return Object.keys(SECONDS).filter((each) => each === kind || SECONDS[each].of?.includes(kind));
 }
 
 /** The words of a call, as they would stand behind the program's name. How many units there are stands before a second file. */

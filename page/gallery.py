@@ -7,6 +7,9 @@ import re
 HERE = pathlib.Path(__file__).resolve().parent
 EXAMPLES = HERE.parent / "examples"
 
+# Files beside a setting whose names do not begin with its name.
+BESIDE = {"auction-reserve": ["own-first-price.csv", "own-too-often.csv"]}
+
 # Second files that commands of the page print themselves.
 PRINTED = ("-answer", "-found", "-fairest", "-rule", "-threshold")
 
@@ -97,20 +100,27 @@ def asks_of(name):
 def kind_of(text):
     """Which second file of a command a text is, or None."""
     word, *fields = text.split("\n")[0].split(",")
+    if (word, fields[1:]) == ("answer", ["auction", "table"]):
+        return "reported"
     if word == "answer":
         return {"fair": "fairest", "determ": "rule", "asym": "sale", "units": "units"}.get(fields[1], "answer")
     return {"pivot": "pivots", "cut": "pivots", "interim": "odds"}.get(word)
 
 
-def seconds_of(name, names):
+def files_beside(name, names):
     """The files beside a setting that no command of the page would print."""
-    found = []
     for path in sorted(EXAMPLES.glob(f"{name}-*.csv")) + [EXAMPLES / f"{name}.csv"]:
         owner = next((each for each in names if path.stem == each or path.stem.startswith(f"{each}-")), None)
         if path.exists() and owner == name and not path.stem.endswith(PRINTED):
-            text = path.read_text()
-            found.append({"name": path.name, "kind": kind_of(text), "text": text})
-    return found
+            yield path
+    for beside in BESIDE.get(name, []):
+        yield EXAMPLES / beside
+
+
+def seconds_of(name, names):
+    """These files, each with its kind and its text."""
+    texts = {path.name: path.read_text() for path in files_beside(name, names)}
+    return [{"name": name, "kind": kind_of(text), "text": text} for name, text in texts.items()]
 
 
 def own_auction():

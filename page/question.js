@@ -1,6 +1,6 @@
 // The question: which command, its second file, and its further words.
 
-import { COMMANDS, FIELDS, GROUPS, SECONDS, commandOf, fits, wordsOf } from "./commands.js";
+import { COMMANDS, FIELDS, GROUPS, SECONDS, commandOf, fits, takenAs, wordsOf } from "./commands.js";
 import { button, byId, folded, make } from "./dom.js";
 import { drawnBelow } from "./draws.js";
 import { opensFile, save } from "./files.js";
@@ -46,9 +46,7 @@ export class Question {
       event.preventDefault();
       this.onAsk();
     });
-    byId("second").addEventListener("input", () => {
-      this.texts[this.command.second] = byId("second").value;
-    });
+    byId("second").addEventListener("input", () => this.takes(this.command.second, byId("second").value));
     byId("samples").addEventListener("change", ({ target }) => this.takesSample(target.value));
     byId("second-save").addEventListener("click", () => save(SECONDS[this.command.second].file, byId("second").value));
     opensFile(byId("second-open"), (text) => this.takes(this.command.second, text ?? ""));
@@ -137,10 +135,13 @@ export class Question {
     this.values.profile = reporters.map(({ types }, agent) => types[this.picked[agent]]).join(",");
   }
 
-  /** Takes the text of a second file. */
+  /** Takes the text of a second file, for all commands that read it. */
   takes(kind, text) {
-    this.texts[kind] = text;
-    if (this.command.second === kind) {
+    const kinds = takenAs(kind);
+    kinds.forEach((each) => {
+      this.texts[each] = text;
+    });
+    if (kinds.includes(this.command.second) && byId("second").value !== text) {
       byId("second").value = text;
     }
   }
@@ -189,7 +190,7 @@ export class Question {
   forgets() {
     Object.keys(this.texts).forEach((kind) => this.takes(kind, ""));
     for (const { kind, text } of this.samples.toReversed()) {
-      if (kind !== "answer") {
+      if (!takenAs(kind).includes("reported")) {
         this.takes(kind, text);
       }
     }
@@ -222,7 +223,7 @@ export class Question {
   }
 
   fillSamples() {
-    const samples = this.samples.filter(({ kind }) => kind === this.command.second);
+    const samples = this.samples.filter(({ kind }) => takenAs(kind).includes(this.command.second));
     const options = samples.map(({ name }) => make("option", { value: name }, name));
     byId("samples").replaceChildren(make("option", { value: "" }, "Take one of the gallery\u2026"), ...options);
     byId("samples-part").hidden = samples.length === 0;

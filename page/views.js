@@ -8,15 +8,19 @@ import { MOST_ROWS, brokenName, fractionWith, overText, paragraph, shortened, va
 
 /** What `realise` prints. */
 export function realiseView(records, { setting }) {
-  const violated = firstWith(records, "violated");
-  if (violated) {
-    const [set, excess, denominator] = violated;
-    const words = `No auction has these odds: bidders with ${setWords(set, setting)} ask for more than there is, by `;
-    return view(verdict("Violated", [words, breakable(`${new Fraction(excess, denominator)}`), " in profiles, by weight."], "bad"));
+  if (firstWith(records, "violated")) {
+    return violatedView(records, setting);
   }
   const [denominator] = firstWith(records, "realise");
   const words = "An auction has these odds. The table says when the item goes to which value.";
   return view(verdict("Realised", words, "good"), setting && massesPart(records, setting, denominator));
+}
+
+/** Which values ask for too much. */
+function violatedView(records, setting) {
+  const [set, excess, denominator] = firstWith(records, "violated");
+  const words = `No auction has these odds: bidders with ${setWords(set, setting)} ask for more than there is, by `;
+  return view(verdict("Violated", [words, breakable(`${new Fraction(excess, denominator)}`), " in profiles, by weight."], "bad"));
 }
 
 function setWords(set, setting) {
@@ -151,7 +155,10 @@ export function runView(records, { setting }) {
 }
 
 /** What `report` prints: in each record names come first, and then fractions as pairs of fields. */
-export function reportView(records) {
+export function reportView(records, { setting }) {
+  if (firstWith(records, "violated")) {
+    return violatedView(records, setting);
+  }
   const [value, revenue, welfare] = ["value", "revenue", "welfare"].map((word) => fractionWith(records, word));
   const types = withWord(records, "type").map((fields) => {
     const [gets, pays] = [fields.slice(-4, -2), fields.slice(-2)].map((pair) => number(new Fraction(...pair)));

@@ -2,7 +2,7 @@ import assert from "node:assert/strict";
 import { readFileSync } from "node:fs";
 import { test } from "node:test";
 
-import { COMMANDS, FIELDS, GROUPS, SECONDS, commandOf, fileOf, fits, nextCommands, wordsOf } from "../commands.js";
+import { COMMANDS, FIELDS, GROUPS, SECONDS, commandOf, fileOf, fits, nextCommands, takenAs, wordsOf } from "../commands.js";
 
 const repository = (name) => readFileSync(new URL(`../../${name}`, import.meta.url), "utf8");
 const general = { kind: "general", kinds: ["general"] };
@@ -66,7 +66,10 @@ test("what may follow an answer, and where numbers grow too wide", () => {
     ["find", 10, general, "check"],
     ["solve", 11, general, "check audit run report"],
     ["solve", 0, auction, "check run report"],
-    ["fair", 0, general, "faircheck"],
+    ["fair", 0, general, "faircheck audit run report"],
+    ["fair", 11, general, "faircheck audit run report"],
+    ["fair", 10, general, "faircheck"],
+    ["findfair", 0, sale, "faircheck audit run report"],
     ["findfair", 10, general, "faircheck"],
     ["asym", 0, sale, "asymcheck"],
     ["units", 0, auction, "unitcheck"],
@@ -79,6 +82,19 @@ test("what may follow an answer, and where numbers grow too wide", () => {
     const next = nextCommands(commandOf(word), status, setting).map((command) => command.word);
     assert.equal(next.join(" "), words, `${word} ${status} ${setting.kinds}`);
   }
+});
+
+test("a text is there for each command that reads it", () => {
+  assert.deepEqual(takenAs("answer"), ["answer", "mechanism", "reported"]);
+  assert.deepEqual(takenAs("fairest"), ["fairest", "mechanism", "reported"]);
+  for (const kind of ["reported", "rule", "sale", "units", "pivots", "odds"]) {
+    assert.deepEqual(takenAs(kind), [kind]);
+  }
+  const readers = (kind) => COMMANDS.filter(({ second }) => takenAs(kind).includes(second)).map(({ word }) => word);
+  assert.deepEqual(readers("answer"), ["check", "audit", "run", "report"]);
+  assert.deepEqual(readers("fairest"), ["faircheck", "audit", "run", "report"]);
+  assert.deepEqual(readers("mechanism"), ["audit", "run", "report"]);
+  assert.deepEqual(readers("reported"), ["report"]);
 });
 
 test("what a command printed is saved by the names of the examples", () => {

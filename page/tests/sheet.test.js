@@ -4,7 +4,7 @@ import { fileURLToPath } from "node:url";
 import { test } from "node:test";
 import { Script } from "node:vm";
 
-import { COMMANDS, FIELDS } from "../commands.js";
+import { COMMANDS, FIELDS, SECONDS } from "../commands.js";
 
 const folder = fileURLToPath(new URL("../", import.meta.url));
 const CODE = "import sheet; import sys; sys.stdout.buffer.write(sheet.page(b'module', 'the worker').encode())";
@@ -45,4 +45,12 @@ test("each setting of the menu has a title and a question, and asks a command", 
     assert.ok(COMMANDS.some(({ word }) => word === ask), name);
     assert.ok(Object.keys(fields).every((field) => field in FIELDS), name);
   }
+});
+
+test("each file beside a setting is one that a command reads", { skip: page === null }, () => {
+  const { gallery } = JSON.parse(contentOf("contents"));
+  const seconds = gallery.flatMap((entry) => entry.seconds.map((second) => ({ ...second, of: entry.name })));
+  assert.deepEqual(seconds.filter(({ kind }) => !(kind in SECONDS)), []);
+  const own = seconds.filter(({ kind }) => kind === "reported").map(({ of, name }) => `${of} ${name}`);
+  assert.deepEqual(own, ["auction-reserve own-first-price.csv", "auction-reserve own-too-often.csv"]);
 });

@@ -6,7 +6,7 @@ import { answerView, asymView, determView, findView, unitsView } from "../answer
 import { awardView, thresholdView } from "../awards.js";
 import { recordsOf } from "../records.js";
 import { readSetting } from "../setting.js";
-import { checkView, determCheckView, fairCheckView, reportView, runView } from "../views.js";
+import { checkView, determCheckView, fairCheckView, realiseView, reportView, runView } from "../views.js";
 
 const AUCTION = readSetting("kind = 'auction'\nbidders = 2\nvalues = [1, 3]\nweights = [1, 1]\n");
 const SALE = readSetting(
@@ -106,8 +106,28 @@ test("each checker has its own reasons", () => {
 
 test("a report tells what is broken, and a run who has the item", () => {
   const text = "value,2,1\nrevenue,2,1\nwelfare,3,2\ntype,buyer,low,0,1,0,1\ngain,buyer,high,low,high,1,1\nloss,buyer,high,0,1\nend\n";
-  const [types, worst] = cellsOfTables(reportView(recordsOf(text)));
+  const [types, worst] = cellsOfTables(reportView(recordsOf(text), { setting: null }));
   assert.deepEqual(types, [["buyer: low", "0", "0"]]);
   assert.deepEqual(worst.map((row) => row.slice(2)), [["1", "broken"], ["0", "met"]]);
   assert.equal(runView(recordsOf("outcome,2\npays,10,15,33\n"), { setting: AUCTION }).large, "Bidder 2");
+});
+
+test("a report of an auction tells of its values", () => {
+  // Where the winner pays its own bid: with 3 a bidder has nothing, and by the report 1 it has (3 - 1)/4.
+  const text = "value,5,2\nrevenue,5,2\nwelfare,5,2\ntype,1,0,1,1,4\ntype,3,0,1,9,4\ngain,3,1,1,2\nloss,1,0,1\ntight,rational/1\ntight,rational/3\nend\n";
+  const view = reportView(recordsOf(text), { setting: AUCTION });
+  assert.equal(view.large, "Value 5/2 = 2 + 1/2");
+  const [types, worst] = cellsOfTables(view);
+  assert.deepEqual(types, [["1", "0", "1/4"], ["3", "0", "9/4"]]);
+  assert.deepEqual(worst.map((row) => row.slice(1)), [["3/1", "1/2", "broken"], ["1", "0", "met"]]);
+});
+
+test("odds that no auction has are told by their values", () => {
+  for (const told of [realiseView, reportView]) {
+    const view = told(recordsOf("violated,3,16,4\n"), { setting: AUCTION });
+    assert.deepEqual([view.large, view.kind, view.content], ["Violated", "bad", []]);
+    assert.equal(view.words[0], "No auction has these odds: bidders with the values 1, 3 ask for more than there is, by ");
+    assert.ok(told(recordsOf("violated,2,4,4\n"), { setting: AUCTION }).words[0].includes("the value 3 ask"));
+    assert.ok(told(recordsOf("violated,3,16,4\n"), { setting: null }).words[0].includes("the set 3 ask"));
+  }
 });

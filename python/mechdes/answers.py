@@ -8,7 +8,18 @@ from collections.abc import Iterator, Mapping, Sequence
 from fractions import Fraction
 from typing import TYPE_CHECKING, Any, ClassVar
 
-from .mechanisms import AuctionMechanism, Counts, Mechanism, Payments, SaleMechanism, _frame, by_profile, mass_records
+from .mechanisms import (
+    AuctionMechanism,
+    Counts,
+    Mechanism,
+    Payments,
+    SaleMechanism,
+    _frame,
+    by_profile,
+    interim_records,
+    least_denominator,
+    mass_records,
+)
 from .records import Printed, Record, terms, units
 from .settings import AnySetting, Auction, Profile, Setting
 
@@ -302,6 +313,38 @@ class Table(Answer):
 
     def _inner(self) -> Iterator[Record]:
         yield from self.mechanism.records(self.setting)
+
+
+@dataclasses.dataclass(frozen=True, kw_only=True)
+class AuctionTable(Answer):
+    """An auction of one's own, of which nothing is claimed: how often a bidder wins and what it pays where all tell the truth. It
+    may be made by hand, to be reported on.
+
+    odds         for each value how often a bidder with it wins, on average over the values of the others
+    pays         for each value what a bidder with it pays on average, whether it wins or not
+    denominator  that of all these numbers in the text; where 0 is given, the least that will do
+    setting      the auction that it was read for, or None
+
+    Raises `TypeError` for a number that is not exact.
+    """
+
+    word = "table"
+    setting: Auction | None = dataclasses.field(default=None, repr=False, compare=False)
+    kind: str = "auction"
+    odds: Mapping[int, Fraction]
+    pays: Mapping[int, Fraction]
+    denominator: int = 0
+
+    def __post_init__(self) -> None:
+        if self.denominator == 0:
+            object.__setattr__(self, "denominator", least_denominator([self.odds, self.pays]))
+
+    def _inner(self) -> Iterator[Record]:
+        yield from interim_records(self.odds, self.pays, sorted(self.odds), self.denominator)
+
+    def to_pandas(self) -> pandas.DataFrame:
+        """The odds and pays as a table."""
+        return _frame({value: {"odds": odds, "pays": self.pays[value]} for value, odds in self.odds.items()}, ["value"])
 
 
 @dataclasses.dataclass(frozen=True)

@@ -1,7 +1,7 @@
 """The commands of mechdes as functions. Each gives a value; what the program refuses is raised as a `Refused`.
 
 A setting is given as a `Setting` or an `Auction`, as a path, or as a text (a `str` with a line end, or bytes). An answer is given
-as what a command gave, as a `Mechanism`, as a path, or as a text.
+as what a command gave, as a `Mechanism` or an `AuctionTable`, as a path, or as a text.
 
 All commands raise `SettingRefused` (the program's status 65), `OutOfMemory` (72), `LibraryMissing`, and `OSError` for a path that
 cannot be read; and `SettingNotRead` for forms of TOML 1.1, which the program reads and Python's reader does not. Those that take
@@ -24,12 +24,14 @@ from .answers import (
     Answer,
     Audit,
     AuctionOptimal,
+    AuctionTable,
     Award,
     Draw,
     Drill,
     Fairest,
     GeneralOptimal,
     Infeasible,
+    Optimal,
     Program,
     Realised,
     Replay,
@@ -46,7 +48,7 @@ from .answers import (
     Violated,
 )
 from .errors import AnswerNotRead, refusal
-from .mechanisms import Mechanism
+from .mechanisms import Mechanism, _wanted
 from .reading import (
     read_answer,
     read_audit,
@@ -63,10 +65,13 @@ from .reading import (
 from .settings import AnySetting, Auction, Setting, SettingLike, file_bytes, read_setting, setting_bytes
 
 AnswerLike: TypeAlias = Answer | Mechanism | str | bytes | os.PathLike[str]
+AnswerOfCommand: TypeAlias = Optimal | Infeasible | Unbounded | TooWide | Undecided
 
 
 def answer_bytes(setting: SettingLike, answer: AnswerLike) -> bytes:
     """The bytes of an answer's file. A mechanism is written as a table, in the order of the setting's names."""
+    if isinstance(answer, AuctionTable):
+        _try_values(setting, answer)
     if isinstance(answer, Answer):
         return answer.text().encode()
     if isinstance(answer, Mechanism):
@@ -81,9 +86,16 @@ def _table(setting: SettingLike, mechanism: Mechanism) -> Table:
     return Table(setting=named, mechanism=mechanism)
 
 
+def _try_values(setting: SettingLike, table: AuctionTable) -> None:
+    named = read_setting(setting)
+    if not isinstance(named, Auction):
+        raise ValueError("an AuctionTable is one of an auction, and the setting is none")
+    _wanted("odds", table.odds, named.values)
+
+
 def _mechanism_bytes(setting: SettingLike, answer: AnswerLike) -> bytes:
-    """The same for commands that look at the mechanism alone: of `fair` and `determ`, whose texts they do not read, as a table."""
-    if isinstance(answer, (Fairest, Rule)) or isinstance(answer, Unbounded) and answer.kind != "general":
+    """The same for commands that look at the mechanism alone: of `determ`, whose text they do not read, as a table."""
+    if isinstance(answer, Rule) or isinstance(answer, Unbounded) and answer.kind == "determ":
         return answer_bytes(setting, answer.mechanism)
     return answer_bytes(setting, answer)
 
@@ -333,10 +345,29 @@ def draw(
     return run(setting, answer, profile, first, below(same))
 
 
-def report(setting: SettingLike, answer: AnswerLike) -> Report:
+@overload
+def report(setting: Setting, answer: AnswerLike) -> Report:
+    ...
+
+
+@overload
+def report(setting: SettingLike, answer: AnswerOfCommand | Table | Mechanism) -> Report:
+    ...
+
+
+@overload
+def report(setting: SettingLike, answer: AnswerLike) -> Report | Violated:
+    ...
+
+
+def report(setting: SettingLike, answer: AnswerLike) -> Report | Violated:
     """What the mechanism of an answer does, and how far it is from truthful. The mechanism need not be admissible, and claims of
-    the answer are not looked at."""
-    text = _printed({0}, ["report", "setting", "answer"], setting_bytes(setting), _mechanism_bytes(setting, answer))
+    the answer are not looked at.
+
+    Of an auction an `AuctionTable` may be given in place of an answer, or its text. Where no auction has its odds, what comes is
+    the set of values that asks for too much, which is false. Raises `ValueError` where the table has other values than the auction.
+    """
+    text = _printed({0, 21}, ["report", "setting", "answer"], setting_bytes(setting), _mechanism_bytes(setting, answer))
     return read_report(read_setting(setting), text)
 
 

@@ -4,7 +4,7 @@ from __future__ import annotations
 
 import dataclasses
 import math
-from collections.abc import Collection, Iterator, Mapping, Sequence
+from collections.abc import Collection, Iterable, Iterator, Mapping, Sequence
 from fractions import Fraction
 from typing import TYPE_CHECKING, Any, TypeAlias
 
@@ -32,6 +32,14 @@ def _frame(rows: Mapping[Any, Mapping[Any, Any]], names: Sequence[str]) -> panda
     return pandas.DataFrame(list(rows.values()), index=index, dtype=object)
 
 
+def least_denominator(tables: Iterable[Mapping[Any, Fraction]]) -> int:
+    """The least denominator of all numbers of some tables. Raises `TypeError` for one that is not exact."""
+    numbers = [number for table in tables for number in table.values()]
+    if not all(isinstance(number, (Fraction, int)) for number in numbers):
+        raise TypeError("the numbers of a mechanism are fractions or whole numbers")
+    return math.lcm(*(number.denominator for number in numbers))
+
+
 def _wanted(what: str, found: Collection[Any], wanted: Collection[Any]) -> None:
     """Refuses a table that has other keys than are wanted, in whatever order."""
     if set(found) != set(wanted):
@@ -48,6 +56,16 @@ def by_profile(
         row = table[profile]
         _wanted(f"{word} at {'+'.join(profile)}", row, names)
         yield word, *profile, *(units(row[name], denominator) for name in names)
+
+
+def interim_records(
+    odds: Mapping[int, Fraction], pays: Mapping[int, Fraction], values: Sequence[int], denominator: int
+) -> Iterator[Record]:
+    """The records `interim`, `odds` and `pays` of an auction."""
+    yield "interim", denominator
+    for word, table in (("odds", odds), ("pays", pays)):
+        _wanted(word, table, values)
+        yield word, *(units(table[value], denominator) for value in values)
 
 
 def mass_records(masses: Mapping[Counts, Mapping[int, Fraction]], values: Sequence[int], denominator: int) -> Iterator[Record]:
@@ -76,10 +94,8 @@ class Mechanism:
 
     def __post_init__(self) -> None:
         if self.denominator == 0:
-            numbers = [number for table in (self.lotteries, self.payments) for row in table.values() for number in row.values()]
-            if not all(isinstance(number, (Fraction, int)) for number in numbers):
-                raise TypeError("the numbers of a mechanism are fractions or whole numbers")
-            object.__setattr__(self, "denominator", math.lcm(*(number.denominator for number in numbers)))
+            denominator = least_denominator([*self.lotteries.values(), *self.payments.values()])
+            object.__setattr__(self, "denominator", denominator)
 
     def draws(self, profile: Sequence[str]) -> int:
         """How many first draws there are for `run`: the first draw is from 0 to one below, each as likely."""
@@ -149,9 +165,7 @@ class AuctionMechanism:
     def records(self) -> Iterator[Record]:
         """The records from `interim` to the last mass."""
         values = tuple(self.weights)
-        yield "interim", self.denominator
-        for word, table in (("odds", self.odds), ("pays", self.pays)):
-            yield word, *(units(table[value], self.denominator) for value in values)
+        yield from interim_records(self.odds, self.pays, values, self.denominator)
         yield from mass_records(self.masses, values, self.denominator)
 
     def to_pandas(self) -> pandas.DataFrame:

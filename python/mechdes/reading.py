@@ -11,6 +11,7 @@ from .answers import (
     Answer,
     Audit,
     AuctionOptimal,
+    AuctionTable,
     Award,
     Basis,
     Branch,
@@ -250,6 +251,10 @@ def _auction(records: Records, auction: Auction, kind: str, word: str, version: 
     if word == "toowide":
         cuts = _cuts(records, auction)
         return _too_wide(records, auction, kind, version, cuts=cuts)
+    if word == "table" and kind == "auction":
+        odds, pays, denominator = _interim(records, auction)
+        records.end()
+        return AuctionTable(setting=auction, kind=kind, odds=odds, pays=pays, denominator=denominator)
     if word != "optimal":
         raise UnknownAnswer(f"an answer of an unknown kind: {kind}, {word}")
     value = records.fraction(records.take("value", 2))
@@ -260,10 +265,16 @@ def _auction(records: Records, auction: Auction, kind: str, word: str, version: 
     return made(setting=auction, kind=kind, value=value, mechanism=mechanism, cuts=cuts, bound=bound, multipliers=multipliers)
 
 
-def _auction_mechanism(records: Records, auction: Auction, units: int | None) -> AuctionMechanism:
-    """The records from `interim` to the last mass."""
+def _interim(records: Records, auction: Auction) -> tuple[dict[int, Fraction], dict[int, Fraction], int]:
+    """The records from `interim` to the pays: the odds, the pays, and their denominator."""
     denominator = records.denominator("interim")
     odds, pays = (_by_value(records, name, auction, denominator) for name in ("odds", "pays"))
+    return odds, pays, denominator
+
+
+def _auction_mechanism(records: Records, auction: Auction, units: int | None) -> AuctionMechanism:
+    """The records from `interim` to the last mass."""
+    odds, pays, denominator = _interim(records, auction)
     weights = dict(zip(auction.values, auction.weights, strict=True))
     return AuctionMechanism(auction.bidders, weights, odds, pays, _masses(records, auction, denominator), denominator, units)
 
@@ -386,15 +397,20 @@ def read_realised(auction: Auction, text: str) -> Realised | Violated:
     """What `realise` prints."""
     records = Records(text)
     if records.word() == "violated":
-        bits, excess, over = records.take("violated", 3)
-        values = _set_of(records, bits, auction.values)
-        found = records.fraction([excess, over])
-        records.nothing()
-        return Violated(setting=auction, values=values, excess=found, denominator=records.number(over))
+        return _violated(records, auction)
     denominator = records.denominator("realise")
     masses = _masses(records, auction, denominator)
     records.end()
     return Realised(setting=auction, masses=masses, denominator=denominator)
+
+
+def _violated(records: Records, auction: Auction) -> Violated:
+    """The set of values that asks for too much."""
+    bits, excess, over = records.take("violated", 3)
+    values = _set_of(records, bits, auction.values)
+    found = records.fraction([excess, over])
+    records.nothing()
+    return Violated(setting=auction, values=values, excess=found, denominator=records.number(over))
 
 
 def read_draw(setting: AnySetting, text: str) -> Draw:
@@ -482,9 +498,11 @@ def read_drill(text: str) -> Drill:
     return Drill(records.number(number), kind, word, found, read_verdict(verdict))
 
 
-def read_report(setting: AnySetting, text: str) -> Report:
+def read_report(setting: AnySetting, text: str) -> Report | Violated:
     """What `report` prints."""
     records = Records(text)
+    if isinstance(setting, Auction) and records.word() == "violated":
+        return _violated(records, setting)
     value, revenue, welfare = (records.fraction(records.take(word, 2)) for word in ("value", "revenue", "welfare"))
     keys = 1 if isinstance(setting, Auction) else 2
     types: dict[Any, TypeReport] = {}

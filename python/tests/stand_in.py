@@ -35,32 +35,28 @@ from second_opinion.setting import Refused  # noqa: E402
 Told = tuple[int, str]
 
 
-def _read(names: Sequence[str]) -> tuple[setting.GeneralSetting | setting.AuctionSetting, object]:
-    """A setting and an answer to it, from their files."""
+def _read(names: Sequence[str]) -> tuple[setting.Setting, bytes]:
+    """A setting, and the bytes of an answer to it, from their files."""
     its = setting.read_setting(command.read_file(names[0], setting.FILE_LIMIT))
-    reader = auction_answer if isinstance(its, setting.AuctionSetting) else answer
-    return its, reader.read_answer(command.read_file(names[1], answer.FILE_LIMIT), its)
-
-
-def _mechanism_of(said: object) -> answer.Mechanism:
-    """The mechanism of an answer about a general setting."""
-    if not hasattr(said, "mechanism"):
-        raise Refused(66, reporting.NO_TABLE)
-    return said.mechanism
+    return its, command.read_file(names[1], answer.FILE_LIMIT)
 
 
 def audit(words: Sequence[str]) -> Told:
     """The command `audit SETTING ANSWER`."""
-    its, said = _read(words)
-    broken = program.broken(its, _mechanism_of(said))
+    its, data = _read(words)
+    if isinstance(its, setting.AuctionSetting):
+        raise Refused(65, "setting refused: other kind")
+    broken = program.broken(its, answer.mechanism_in(data, its))
     return (0, "admissible\n") if broken is None else (20, ",".join(map(str, ("broken", *broken))) + "\n")
 
 
 def run(words: Sequence[str]) -> Told:
     """The command `run SETTING ANSWER PROFILE DRAW1 DRAW2`."""
-    its, said = _read(words)
-    draw = _auction_draw if isinstance(its, setting.AuctionSetting) else _general_draw
-    return 0, draw(its, said, words[2].split(","), int(words[3]), int(words[4]))
+    its, data = _read(words)
+    reports, first, second = words[2].split(","), int(words[3]), int(words[4])
+    if isinstance(its, setting.AuctionSetting):
+        return 0, _auction_draw(its, auction_answer.read_answer(data, its), reports, first, second)
+    return 0, _general_draw(its, answer.mechanism_in(data, its), reports, first, second)
 
 
 def find(words: Sequence[str]) -> Told:
@@ -100,8 +96,9 @@ def _try(holds: bool, what: str) -> None:
         raise Refused(67, f"{what} refused")
 
 
-def _general_draw(its: setting.GeneralSetting, said: object, reports: Sequence[str], first: int, second: int) -> str:
-    mechanism = _mechanism_of(said)
+def _general_draw(
+    its: setting.GeneralSetting, mechanism: answer.Mechanism, reports: Sequence[str], first: int, second: int
+) -> str:
     names = {tuple(agent.types[kind] for agent, kind in zip(its.agents, profile)): profile for profile in its.profiles()}
     _try(tuple(reports) in names, "profile")
     profile = names[tuple(reports)]

@@ -127,6 +127,22 @@ class Checking(unittest.TestCase):
         self.assertTrue(mechdes.audit(example("fair-split"), mechdes.fair(example("fair-split"))))
         self.assertEqual(mechdes.run(setting, mechdes.determ(setting), ["v3_3"], 0).payments, {"buyer": 5})
 
+    def test_answers_about_the_fairest_mechanism_are_audited_reported_and_run(self) -> None:
+        # The first outcome comes only where both voters like it. With `l` a voter gets it half of the time.
+        setting, path = example("welfare-vote"), stored("welfare-vote-fairest")
+        for answer in (path, path.read_text(), mechdes.read(setting, path)):
+            self.assertTrue(mechdes.audit(setting, answer))
+            told = mechdes.report(setting, answer)
+            self.assertEqual((told.value, told.types["first", "l"].gets, told.regret), (Fraction(3, 2), Fraction(1, 2), 0))
+            self.assertEqual(mechdes.run(setting, answer, ["l", "r"], 0).outcome, "right")
+            self.assertEqual(mechdes.draw(setting, answer, ["l", "l"]).outcome, "left")
+        # Whichever of the fairest is found, the voter that gets least gets 3/4.
+        found = mechdes.find_fair(setting)
+        self.assertTrue(mechdes.audit(setting, found))
+        told = mechdes.report(setting, found)
+        self.assertEqual(min(sum(told.types[name, kind].gets for kind in "lr") / 2 for name in ("first", "second")), Fraction(3, 4))
+        self.assertIn(mechdes.draw(setting, found, ["l", "r"]).outcome, ("left", "right"))
+
     def test_a_stored_answer_of_another_search_is_audited_reported_and_run(self) -> None:
         setting = example("two-goods")
         rule = mechdes.read(setting, stored("two-goods-rule"))
@@ -172,6 +188,45 @@ class Telling(unittest.TestCase):
         self.assertEqual(told.types[3], mechdes.TypeReport(gets=Fraction(3, 8), pays=Fraction(6, 8)))
         self.assertEqual((told.revenue, told.welfare, told.regret), (3, Fraction(63, 16), 0))
         self.assertIn("truth/3/2", told.tight)
+
+    def test_a_report_of_an_auction_of_ones_own(self) -> None:
+        # The page own-auction.md: the highest bid wins and pays itself.
+        auction, odds = example("auction-reserve"), {value: Fraction(2 * value - 1, 10) for value in range(1, 6)}
+        table = mechdes.AuctionTable(odds=odds, pays={value: value * odds[value] for value in (5, 4, 3, 2, 1)})
+        self.assertEqual(table.text(), text("own-first-price.csv"))
+        self.assertEqual(mechdes.read(auction, stored("own-first-price")), table)
+        for given in (table, stored("own-first-price"), table.text()):
+            told = mechdes.report(auction, given)
+            self.assertEqual((told.value, told.revenue, told.welfare), 3 * (Fraction(19, 5),))
+            self.assertEqual(told.types[5], mechdes.TypeReport(gets=Fraction(0), pays=Fraction(9, 2)))
+            self.assertEqual(told.gains, (mechdes.Worst(None, 5, Fraction(1), 3),))
+            self.assertEqual((told.regret, told.losses[0].amount, told.admissible, bool(told)), (1, 0, False, True))
+            self.assertEqual(told.tight, tuple(f"rational/{value}" for value in range(1, 6)))
+
+    def test_odds_that_no_auction_has(self) -> None:
+        # The same page: the values 4 and 5 ask for one profile more than there are.
+        auction = mechdes.read_setting(example("auction-reserve"))
+        tenths = dict(zip(auction.values, (Fraction(number, 10) for number in (1, 3, 4, 8, 9)), strict=True))
+        table = mechdes.AuctionTable(odds=tenths, pays=dict.fromkeys(auction.values, Fraction(0)))
+        for given in (table, stored("own-too-often")):
+            told = mechdes.report(auction, given)
+            self.assertIs(type(told), mechdes.Violated)
+            self.assertEqual((bool(told), told.values, told.excess, told.denominator), (False, frozenset({4, 5}), 1, 10))
+
+    def test_tables_of_other_values_are_refused(self) -> None:
+        half = Fraction(1, 2)
+        for odds, pays in (
+            ({2: half, 3: half}, {2: 1, 3: 1}),
+            ({2: half, 3: half, 6: half}, {2: 1, 3: 1}),
+            ({2: half, 3: half, 6: half, 7: half}, {2: 1, 3: 1, 6: 1, 7: 1}),
+        ):
+            with self.subTest(odds, pays=pays), self.assertRaisesRegex(ValueError, "are wanted, not"):
+                mechdes.report(example("auction-ironed"), mechdes.AuctionTable(odds=odds, pays=pays))
+        table = mechdes.AuctionTable(odds={2: half, 3: half, 6: half}, pays={2: 1, 3: 1, 6: 1})
+        with self.assertRaisesRegex(ValueError, "is one of an auction"):
+            mechdes.report(example("posted-price"), table)
+        with self.assertRaises(TypeError):
+            mechdes.AuctionTable(odds={2: 0.5}, pays={2: 1})
 
     def test_a_run(self) -> None:
         setting, answer = example("class-trip"), stored("class-trip-answer")
@@ -343,6 +398,13 @@ class Refused(unittest.TestCase):
             "answer refused: line 1: field 3",
             lambda: mechdes.check(example("fair-split"), stored("fair-split-fairest")),
         )
+        fair, line = example("fair-split"), "answer refused: no table"
+        for command in (mechdes.audit, mechdes.report):
+            self.refuses(mechdes.AnswerRefused, 66, line, lambda: command(fair, "answer,1,fair,infeasible\nend\n"))
+        own, line = mechdes.read(example("auction-reserve"), stored("own-first-price")), "answer refused: line 1: field 4"
+        self.refuses(mechdes.AnswerRefused, 66, line, lambda: mechdes.check(example("auction-reserve"), own))
+        self.refuses(mechdes.AnswerRefused, 66, line, lambda: mechdes.run(example("auction-reserve"), own, [1, 2], 0))
+        self.refuses(mechdes.AnswerRefused, 66, line, lambda: mechdes.draw(example("auction-reserve"), own, [1, 2]))
         self.refuses(mechdes.WordRefused, 67, "profile refused", lambda: mechdes.run(setting, answer, ["middle"], 0))
         self.refuses(mechdes.WordRefused, 67, "draw refused", lambda: mechdes.run(setting, answer, ["low"], -1))
         auction, line = example("auction-ironed"), "setting refused: other kind"

@@ -96,6 +96,14 @@ class Answers(unittest.TestCase):
         with self.assertRaises(ValueError):
             found.mechanism.chances([3, 4])
 
+    def test_an_auction_of_ones_own(self) -> None:
+        found = read("auction-reserve", "own-first-price")
+        self.assertIs(type(found), mechdes.AuctionTable)
+        self.assertEqual((found.kind, found.word, found.denominator), ("auction", "table", 10))
+        self.assertEqual(list(found.odds.items())[2:], [(3, Fraction(1, 2)), (4, Fraction(7, 10)), (5, Fraction(9, 10))])
+        self.assertEqual(found.pays[4], Fraction(28, 10))
+        self.assertEqual(pickle.loads(pickle.dumps(found)), found)
+
     def test_fairest(self) -> None:
         found = read("fair-split", "fair-split-fairest")
         self.assertIs(type(found), mechdes.Fairest)
@@ -247,6 +255,7 @@ class Refusals(unittest.TestCase):
             ("divorce", "posted-price-answer"),
             ("auction-reserve", "auction-ironed-answer"),
             ("two-goods", "posted-price-answer"),
+            ("two-bidders", "own-first-price"),
         ):
             with self.subTest(setting), self.assertRaises(mechdes.AnswerNotRead):
                 read(setting, answer)
@@ -255,6 +264,7 @@ class Refusals(unittest.TestCase):
         for setting, answer in (
             ("posted-price", "posted-price-answer"),
             ("auction-ironed", "auction-ironed-answer"),
+            ("auction-reserve", "own-first-price"),
             ("two-goods", "two-goods-rule"),
         ):
             lines = text(f"{answer}.csv").splitlines(keepends=True)

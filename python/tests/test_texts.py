@@ -17,7 +17,13 @@ from mechdes.settings import AnySetting
 from .common import EXAMPLES, TOP, example, stored, text
 from .stand_in import SecondOpinion
 
-OTHER_SETTINGS = {"first-price": "second-price", "price-above-value": "posted-price", "correlated-side-bets": "correlated-values"}
+OTHER_SETTINGS = {
+    "first-price": "second-price",
+    "price-above-value": "posted-price",
+    "correlated-side-bets": "correlated-values",
+    "own-first-price": "auction-reserve",
+    "own-too-often": "auction-reserve",
+}
 NO_ANSWERS = ("interim,", "pivot,", "threshold,")
 
 
@@ -75,7 +81,8 @@ class Shown(Texts):
                 found = self.again("solve", printed, setting_of(name))
                 kinds.add((found.kind, found.word))
         general = {("general", word) for word in ("table", "optimal", "infeasible", "unbounded", "toowide")}
-        self.assertEqual(kinds, general | {(kind, "optimal") for kind in ("auction", "fair", "asym", "units", "determ")})
+        optimal = {(kind, "optimal") for kind in ("auction", "fair", "asym", "units", "determ")}
+        self.assertEqual(kinds, general | optimal | {("auction", "table")})
 
     def test_stored_auctions_in_which_only_winners_pay(self) -> None:
         for path in sorted(EXAMPLES.glob("*-threshold.csv")):
@@ -103,8 +110,11 @@ class Shown(Texts):
         blocks = re.findall(r"(?m)(?:^    .*\n)+", (TOP / "docs/FORMATS.md").read_text())
         texts = [re.sub("(?m)^    ", "", block) for block in blocks]
         (answer,) = (block for block in texts if block.startswith("answer,1,auction,optimal\n"))
+        (own,) = (block for block in texts if block.startswith("answer,1,auction,table\n"))
         (rows,) = (block for block in texts if block.startswith("program,6,6\n"))
         self.assertEqual(self.again("solve", answer, auction).value, Fraction(5, 2))
+        self.assertEqual(mechdes.read(auction, own), mechdes.AuctionTable(odds={1: 1, 3: 1}, pays={1: 1, 3: 3}))
+        self.assertEqual(mechdes.read(auction, own).text(), own)
         self.assertEqual(self.again("rows", rows).rows[4], mechdes.Row("cut/1", False, 1, {0: 1}))
         (sold,) = (block for block in texts if block.startswith("threshold,1\nunits,1\n"))
         (awarded,) = (block for block in texts if block.startswith("chance,1,1,2\n"))
@@ -196,8 +206,9 @@ class Made(Texts):
 
     def test_odds(self) -> None:
         auction = mechdes.read_setting(example("two-bidders"))
-        found = self.again("realise", "violated,6,4,4\n", auction)
-        self.assertEqual((bool(found), found.excess, found.values), (False, 1, frozenset(auction.values[1:])))
+        for command in ("realise", "report"):
+            found = self.again(command, "violated,6,4,4\n", auction)
+            self.assertEqual((bool(found), found.excess, found.values), (False, 1, frozenset(auction.values[1:])))
 
     def test_draws(self) -> None:
         self.again("run", "outcome,keep\npays,2,0,4\n", mechdes.read_setting(example("auction-ironed")))
@@ -299,6 +310,9 @@ class Refused(unittest.TestCase):
             ("replay", "rule,0\nend\n", None),
             ("realise", "violated,8,1,1\n", auction),
             ("realise", "violated,1,1,0\n", auction),
+            ("report", "violated,8,1,1\n", auction),
+            ("report", "violated,1,1,1\nend\n", auction),
+            ("report", "violated,1,1,1\n", posted),
             ("realise", "realise,1\nend\n", auction),
             ("run", "outcome,sell\n", posted),
             ("run", "outcome,sell\npays,1,2,3\n", posted),

@@ -19,6 +19,8 @@ FILE_LIMIT = 67_108_864
 GREATEST = 2**62 - 1  # the size of a number
 GREATEST_WIDE = 2**126 - 1  # the size of a number in `value` and `wide` records
 GREATEST_PLACE = 2**32 - 1  # a row or column of a pivot or an entry
+NO_TABLE = "answer refused: no table"  # of a command that needs a mechanism
+ANOTHER_KIND, ANOTHER_WORD = (f"answer refused: line 1: field {place}" for place in (3, 4))  # in the first record
 
 NUMBER = re.compile(rb"0|-?[1-9][0-9]*")
 # A field that begins with a quote runs to the next single quote, or to the end of the file; what follows that quote up
@@ -181,6 +183,20 @@ def read_fair_answer(data: bytes, setting: GeneralSetting) -> Answer:
     records, word, _ = begun(data, "fair", {"1": [word for word in READERS if word != "table"], "2": ["toowide"]})
     rows = setting.condition_count() + setting.profile_count() + len(setting.agents)
     return read_begun(records, word, setting, rows, 2)
+
+
+def mechanism_in(data: bytes, setting: GeneralSetting) -> Mechanism:
+    """The mechanism of an answer, or `Refused` where it has none. A text whose first record names another kind than that of answers
+    about the best mechanism is read as one about the fairest."""
+    try:
+        said = read_answer(data, setting)
+    except Refused as refused:
+        if refused.line != ANOTHER_KIND:
+            raise
+        said = read_fair_answer(data, setting)
+    if isinstance(said, (InfeasibleAnswer, TooWideAnswer)):
+        raise Refused(66, NO_TABLE)
+    return said.mechanism
 
 
 def read_begun(records: Records, word: str, setting: GeneralSetting, rows: int, paths: int) -> Answer:

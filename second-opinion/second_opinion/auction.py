@@ -68,6 +68,13 @@ def excess(auction: AuctionSetting, interim: Interim, number: int, units: int = 
     return asked - interim.den * right_side(auction, number, units)
 
 
+def worst_set(auction: AuctionSetting, interim: Interim, units: int = 1) -> int | None:
+    """The set with the greatest excess, the largest number of several; None where no set asks for too much."""
+    sets = range(1, 2 ** len(auction.values))
+    worst = max(sets, key=lambda number: (excess(auction, interim, number, units), number))
+    return worst if excess(auction, interim, worst, units) > 0 else None
+
+
 def value_of(auction: AuctionSetting, interim: Interim, units: int = 1) -> Fraction:
     """The objective: that of keeping all units, and what each bidder adds."""
     added = sum(

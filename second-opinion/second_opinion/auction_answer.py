@@ -6,7 +6,7 @@ from dataclasses import dataclass
 from second_opinion import answer
 from second_opinion.answer import GREATEST, GREATEST_WIDE, Pair, Records, TooWideAnswer
 from second_opinion.auction import Counts, Interim, count_lists, weight_of
-from second_opinion.setting import AuctionSetting
+from second_opinion.setting import AuctionSetting, Refused
 
 
 @dataclass
@@ -30,6 +30,26 @@ def read_answer(data: bytes, auction: AuctionSetting) -> AuctionAnswer | TooWide
     said = read_optimal(records, auction) if word == "optimal" else read_too_wide(records, auction, version)
     records.finish()
     return said
+
+
+def read_table(data: bytes, auction: AuctionSetting) -> Interim:
+    """The odds and pays of an auction of one's own, of which nothing is claimed, or `Refused`."""
+    records, _, _ = answer.begun(data, "auction", {"1": ["table"], "2": []})
+    interim = read_interim(records, auction)
+    records.expect(end=1)
+    records.finish()
+    return interim
+
+
+def read_answer_or_table(data: bytes, auction: AuctionSetting) -> AuctionAnswer | TooWideAnswer | Interim:
+    """An answer about an auction. A text whose first record has another word than those of answers is read as an auction of one's
+    own."""
+    try:
+        return read_answer(data, auction)
+    except Refused as refused:
+        if refused.line != answer.ANOTHER_WORD:
+            raise
+        return read_table(data, auction)
 
 
 def read_unit_answer(data: bytes, auction: AuctionSetting, units: int) -> AuctionAnswer | TooWideAnswer:

@@ -10,7 +10,7 @@ import math
 from fractions import Fraction
 
 from second_opinion.auction import (
-    Counts, Interim, count_lists, demand, excess, program_of, single_cuts, value_of, weight_of,
+    Counts, Interim, count_lists, demand, program_of, single_cuts, value_of, weight_of, worst_set,
 )
 from second_opinion.auction_answer import AuctionAnswer, has_wide_number
 from second_opinion.program import Program
@@ -37,13 +37,6 @@ def found_answer(auction: AuctionSetting, units: int = 1) -> AuctionAnswer:
         cuts.append(worst)
     found = answer_at(auction, units, cuts, program, dictionary, 0)
     return answer_at(auction, units, cuts, program, dictionary, 25) if has_wide_number(found) else found
-
-
-def worst_set(auction: AuctionSetting, interim: Interim, units: int = 1) -> int | None:
-    """The set with the greatest excess, the largest number of several; None where no set asks for too much."""
-    sets = range(1, 2 ** len(auction.values))
-    worst = max(sets, key=lambda number: (excess(auction, interim, number, units), number))
-    return worst if excess(auction, interim, worst, units) > 0 else None
 
 
 def answer_at(

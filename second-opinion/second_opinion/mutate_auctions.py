@@ -82,7 +82,7 @@ def change_odds(numbers: random.Random, its: AuctionSetting, said: AuctionAnswer
 
 def have_odds(its: AuctionSetting, said: AuctionAnswer, units: int) -> None:
     """Masses of so many units that have the odds, where there are any."""
-    if auction_finding.worst_set(its, said.interim, units) is None:
+    if auction.worst_set(its, said.interim, units) is None:
         said.masses = auction_finding.masses_of(its, said.interim, units)
 
 

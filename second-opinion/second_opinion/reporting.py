@@ -1,6 +1,7 @@
 """Tells what the mechanism of an answer does, and how far it is from truthful: docs/FORMATS.md, "What `report` prints".
 
-Of a general setting all is computed from the lotteries and payments, profile by profile; of an auction from its odds and pays.
+Of a general setting all is computed from the lotteries and payments, profile by profile; of an auction from the odds and pays of an
+answer, or of an auction of one's own.
 """
 
 from collections.abc import Callable, Iterable, Iterator
@@ -8,11 +9,12 @@ from fractions import Fraction
 
 from second_opinion import answer, auction, auction_answer, command, program, setting
 from second_opinion.answer import Mechanism
+from second_opinion.auction import Interim
 from second_opinion.auction_answer import AuctionAnswer
 from second_opinion.setting import Agent, AuctionSetting, GeneralSetting, Profile, Refused
 
 Field = str | int
-NO_TABLE = "answer refused: no table"
+DONE, VIOLATED = 0, 21
 
 
 def report(words: list[str]) -> tuple[int, str]:
@@ -21,16 +23,10 @@ def report(words: list[str]) -> tuple[int, str]:
     its = setting.read_setting(command.read_file(setting_name, setting.FILE_LIMIT))
     data = command.read_file(answer_name, answer.FILE_LIMIT)
     if isinstance(its, AuctionSetting):
-        said = auction_answer.read_answer(data, its)
-        if not isinstance(said, AuctionAnswer):
-            raise Refused(66, NO_TABLE)
-        records = auction_records(its, said.interim, said.cuts)
+        status, records = auction_report(its, data)
     else:
-        mechanism = getattr(answer.read_answer(data, its), "mechanism", None)
-        if mechanism is None:
-            raise Refused(66, NO_TABLE)
-        records = general_records(its, mechanism)
-    return 0, "".join(",".join(map(str, record)) + "\n" for record in records)
+        status, records = DONE, general_records(its, answer.mechanism_in(data, its))
+    return status, "".join(",".join(map(str, record)) + "\n" for record in records)
 
 
 def number(value: Fraction) -> list[int]:
@@ -153,7 +149,21 @@ def room(its: GeneralSetting, mechanism: Mechanism, condition: program.Condition
 # ---- an auction
 
 
-def auction_records(its: AuctionSetting, interim: auction.Interim, cuts: list[int]) -> Iterator[list[Field]]:
+def auction_report(its: AuctionSetting, data: bytes) -> tuple[int, Iterable[list[Field]]]:
+    """The status and the records, of an answer or of an auction of one's own. Where no auction has the odds of the latter, the set
+    that asks for too much is told."""
+    said = auction_answer.read_answer_or_table(data, its)
+    if isinstance(said, AuctionAnswer):
+        return DONE, auction_records(its, said.interim, said.cuts)
+    if not isinstance(said, Interim):
+        raise Refused(66, answer.NO_TABLE)
+    worst = auction.worst_set(its, said)
+    if worst is None:
+        return DONE, auction_records(its, said, [])
+    return VIOLATED, [["violated", worst, auction.excess(its, said, worst), said.den]]
+
+
+def auction_records(its: AuctionSetting, interim: Interim, cuts: list[int]) -> Iterator[list[Field]]:
     kinds = range(len(its.values))
     whole = sum(its.weights) * interim.den
 

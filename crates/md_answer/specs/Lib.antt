@@ -14,3 +14,4 @@ pub mod AuctionAnswers
 pub mod AuctionAnswerTo
 pub mod AuctionPivots
 pub mod AuctionRows
+pub mod AuctionTables

@@ -4,6 +4,7 @@
 mod answer;
 mod auction_kind;
 mod auction_reading;
+mod auction_table;
 mod auction_writing;
 mod interim_records;
 mod kind;
@@ -18,6 +19,7 @@ mod writing;
 
 pub use answer::Answer;
 pub use auction_reading::read_auction_answer;
+pub use auction_table::read_auction_table;
 pub use auction_writing::write_auction_answer;
 pub use interim_records::push_interim;
 pub use mass_records::push_masses;

@@ -1,5 +1,5 @@
 -- What `audit` says of a setting and of the mechanism that an answer file says.
-use Rattle.std.specs.Prelude.{◌≡◌, ◌⊎◌, ◌++◌, ◌∷◌, [], ℕ, ℤ, List, Result, Ok, Err, codes}
+use Rattle.std.specs.Prelude.{◌≡◌, ◌⊎◌, ◌++◌, ◌∷◌, [], ℕ, ℤ, List, Option, None, Some, Result, Ok, Err, codes}
 use Rattle.md_num.specs.WholeText.{text_of}
 use Rattle.md_setting.specs.Setting.{GeneralSetting}
 use Rattle.md_setting.specs.ByKind.{WhereGeneral}
@@ -10,30 +10,24 @@ use Rattle.md_mech.specs.declared.mechanism.Mechanism.{Mechanism}
 use Rattle.md_mech.specs.Admissible.{IsAdmissible}
 use Rattle.md_mech.specs.Rows.{IsFirstBroken, conditions_of}
 use Rattle.md_mech.specs.RowName.{name_of}
-use Rattle.md_answer.specs.declared.answer.Answer.{Answer}
-use Rattle.md_answer.specs.declared.answer.Answer.TheVariants.{Table, Optimal, Infeasible, Unbounded, AuctionOptimal, TooWide}
 use Rattle.md_parts.specs.declared.refusal.AnswerRefusal.{AnswerRefusal}
-use Rattle.md_answer.specs.Answers.{answer_of}
+use Rattle.md_mechanism_text.specs.MechanismText.{mechanism_text_of}
 use Rattle.md_cli_driver.specs.declared.refusal.Refusal.{Refusal}
 use Rattle.md_cli_driver.specs.declared.refusal.Refusal.TheVariants as refusal
 use Rattle.md_cli_driver.specs.Saying.{Saying}
 
--- the mechanism of an answer, where it has one
-abbrev pub mechanism_of : Answer → Result Mechanism Refusal
-mechanism_of (Table mechanism) = Ok mechanism
-mechanism_of (Optimal value mechanism bound) = Ok mechanism
-mechanism_of (Infeasible face) = Err refusal.NoTable
-mechanism_of (Unbounded mechanism ray) = Ok mechanism
-mechanism_of (AuctionOptimal value interim masses cuts bound) = Err refusal.NoTable
-mechanism_of (TooWide cuts first second) = Err refusal.NoTable
+-- a mechanism that an answer has; an answer without one is refused
+abbrev pub mechanism_or_no_table : Option Mechanism → Result Mechanism Refusal
+mechanism_or_no_table (Some mechanism) = Ok mechanism
+mechanism_or_no_table None = Err refusal.NoTable
 
-abbrev pub mechanism_or_refusal : Result Answer AnswerRefusal → Result Mechanism Refusal
-mechanism_or_refusal (Ok answer) = mechanism_of answer
+abbrev pub mechanism_or_refusal : Result (Option Mechanism) AnswerRefusal → Result Mechanism Refusal
+mechanism_or_refusal (Ok found) = mechanism_or_no_table found
 mechanism_or_refusal (Err e) = Err (refusal.Answer e)
 
 -- the mechanism that the second file says of a general setting
 abbrev pub mechanism_in : SettingFile → List ℕ → Result Mechanism Refusal
-mechanism_in (General s) bytes = mechanism_or_refusal (answer_of s bytes)
+mechanism_in (General s) bytes = mechanism_or_refusal (mechanism_text_of s bytes)
 mechanism_in (Auction a) bytes = Err refusal.OtherKind
 
 abbrev pub admissible_text : List ℕ

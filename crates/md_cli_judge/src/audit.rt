@@ -1,17 +1,14 @@
 //! The command `audit`: whether a mechanism meets all conditions of a setting.
-ghost use Rattle.std.specs.Prelude.{◌≡◌, IfOk, MatchResult, Ok, Err};
+ghost use Rattle.std.specs.Prelude.{◌≡◌, IfOk};
 ghost use Rattle.md_setting.specs.ByKind.{WhereGeneral};
-ghost use Rattle.md_setting.specs.Setting.{GeneralSetting};
 ghost use Rattle.md_mech.specs.Accepted.{IsAccepted};
-ghost use Rattle.md_answer.specs.AnswerTo.{IsAnswerTo};
-ghost use Rattle.md_cli_driver.specs.declared.refusal.Refusal.TheVariants as refusal;
-ghost use Rattle.md_cli_judge.specs.Auditing.{IsAudit, IsAuditStatus, IsVerdict, broken_text, mechanism_in, mechanism_of};
+ghost use Rattle.md_cli_judge.specs.Auditing.{IsAudit, IsAuditStatus, IsVerdict, broken_text, mechanism_in, mechanism_or_no_table};
 ghost use Rattle.md_cli_driver.specs.Reading.{is_general};
 ghost use Rattle.md_cli_driver.specs.Saying.{said};
 
-use md_answer::{Answer, read_answer};
 use md_cli_driver::{Answered, DONE, REJECTED, Refusal, TwoFiles, general, is_general};
 use md_mech::{Broken, Mechanism, audit, row_name};
+use md_mechanism_text::read_mechanism_text;
 use md_num::{NoMemory, write_whole};
 use md_setting::{Setting, SettingFile};
 use std::alloc::Global;
@@ -43,7 +40,7 @@ impl TwoFiles for Audit {
         file: &SettingFile,
         bytes: &[u8],
     ) -> Result<Mechanism, Refusal> {
-        mechanism_in(read_answer(alloc, bytes, file)?)
+        given(read_mechanism_text(alloc, bytes, file)?)
     }
 
     fn answer(
@@ -56,32 +53,13 @@ impl TwoFiles for Audit {
     }
 }
 
-// The mechanism of an answer about the setting, where it has one.
-fn mechanism_in(answer: Answer) -> Result<Mechanism, Refusal>
-    ensures given { MatchResult result (λ mechanism. mechanism_of answer ≡ Ok mechanism) (λ e. (mechanism_of answer ≡ Err e) × (e ≡ refusal.NoTable)) }
-    ensures accepted { (s : GeneralSetting) → IsAnswerTo s answer → IfOk result (IsAccepted s) }
+// The mechanism of an answer, which must have one.
+fn given(found: Option<Mechanism>) -> Result<Mechanism, Refusal>
+    ensures { result ≡ mechanism_or_no_table found }
 {
-    match answer {
-        Answer::Table(mechanism) => Ok(mechanism),
-        Answer::Optimal {
-            mechanism,
-            value: _,
-            bound: _,
-        } => Ok(mechanism),
-        Answer::Unbounded { mechanism, ray: _ } => Ok(mechanism),
-        Answer::Infeasible { face: _ } => Err(Refusal::NoTable),
-        Answer::AuctionOptimal {
-            value: _,
-            interim: _,
-            masses: _,
-            cuts: _,
-            bound: _,
-        } => Err(Refusal::NoTable),
-        Answer::TooWide {
-            cuts: _,
-            first: _,
-            second: _,
-        } => Err(Refusal::NoTable),
+    match found {
+        Some(mechanism) => Ok(mechanism),
+        None => Err(Refusal::NoTable),
     }
 }
 

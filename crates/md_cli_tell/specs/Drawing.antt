@@ -1,5 +1,5 @@
 -- What `run` says of a setting and an answer, at a profile of reports and by two draws.
-use Rattle.std.specs.Prelude.{◌≡◌, ◌≢◌, ◌⊎◌, ◌==◌, ◌<◌, ◌∷◌, [], ℕ, ℤ, zero, suc, pos, Bool, true, false, List, Result, Ok, Err, codes, length, replicate, slice_index, slice_index_or, if◌then◌else◌}
+use Rattle.std.specs.Prelude.{◌≡◌, ◌≢◌, ◌⊎◌, ◌==◌, ◌<◌, ◌∷◌, [], ℕ, ℤ, zero, suc, pos, Bool, true, false, List, Option, None, Some, Result, Ok, Err, codes, length, replicate, slice_index, slice_index_or, if◌then◌else◌}
 use Rattle.std.specs.List.{slice_split}
 use Rattle.md_math.specs.Lists.{number_at}
 use Rattle.md_num.specs.WholeText.{text_of}
@@ -11,8 +11,12 @@ use Rattle.md_setting.specs.declared.file.SettingFile.{SettingFile}
 use Rattle.md_setting.specs.declared.file.SettingFile.TheVariants.{General, Auction}
 use Rattle.md_records.specs.Written.{text_of_records}
 use Rattle.md_parts.specs.Rows.{number_row}
+use Rattle.md_mech.specs.declared.mechanism.Mechanism.{Mechanism}
+use Rattle.md_parts.specs.declared.refusal.AnswerRefusal.{AnswerRefusal}
+use Rattle.md_answer.specs.AuctionAnswers.{auction_answer_of}
 use Rattle.md_answer.specs.declared.answer.Answer.{Answer}
 use Rattle.md_answer.specs.declared.answer.Answer.TheVariants.{Table, Optimal, Infeasible, Unbounded, AuctionOptimal, TooWide}
+use Rattle.md_mechanism_text.specs.MechanismText.{mechanism_text_of}
 use Rattle.md_run.specs.Drawn.{AreLotteries, IsDrawn}
 use Rattle.md_run.specs.Refusals.{IsRefused}
 use Rattle.md_run.specs.declared.drawn.Drawn.{Drawn}
@@ -20,7 +24,7 @@ use Rattle.md_run.specs.declared.refusal.DrawRefusal.{DrawRefusal}
 use Rattle.md_run.specs.declared.refusal.DrawRefusal.TheVariants as draws
 use Rattle.md_cli_driver.specs.declared.refusal.Refusal.{Refusal}
 use Rattle.md_cli_driver.specs.declared.refusal.Refusal.TheVariants as refusal
-use Rattle.md_cli_driver.specs.Reading.{answer_in, and_then}
+use Rattle.md_cli_driver.specs.Reading.{and_then, answer_or_refusal}
 use Rattle.md_cli_driver.specs.Refused.{refused}
 use Rattle.md_cli_driver.specs.Saying.{Saying}
 
@@ -38,9 +42,20 @@ has_table (TooWide cuts first second) = false
 abbrev pub drawable : Answer → Result Answer Refusal
 drawable answer = if has_table answer then Ok answer else Err refusal.NoTable
 
--- the answer that the second file says of the setting, if something can be drawn of it
+-- a mechanism as an answer
+abbrev pub table_or_none : Option Mechanism → Result Answer Refusal
+table_or_none (Some mechanism) = Ok (Table mechanism)
+table_or_none None = Err refusal.NoTable
+
+abbrev pub table_or_refusal : Result (Option Mechanism) AnswerRefusal → Result Answer Refusal
+table_or_refusal (Ok found) = table_or_none found
+table_or_refusal (Err e) = Err (refusal.Answer e)
+
+-- What the second file says of which something can be drawn: of a general setting the mechanism of an answer, whichever command
+-- printed it; of an auction an answer with masses.
 abbrev pub drawable_in : SettingFile → List ℕ → Result Answer Refusal
-drawable_in file bytes = and_then (answer_in file bytes) drawable
+drawable_in (General s) bytes = table_or_refusal (mechanism_text_of s bytes)
+drawable_in (Auction a) bytes = and_then (answer_or_refusal (auction_answer_of a bytes)) drawable
 
 -- ---- the profile
 

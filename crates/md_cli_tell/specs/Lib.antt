@@ -6,4 +6,5 @@ pub mod Realising
 pub mod Drawing
 pub mod AwardTexts
 pub mod Awarding
+pub mod Reported
 pub mod Reporting

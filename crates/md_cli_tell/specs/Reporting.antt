@@ -1,5 +1,5 @@
--- What `report` says of a setting and of an answer that has a mechanism.
-use Rattle.std.specs.Prelude.{◌≡◌, ◌↔◌, ℕ, List}
+-- What `report` says of a setting and of a mechanism, or of odds and payments.
+use Rattle.std.specs.Prelude.{◌≡◌, ◌⊎◌, ◌↔◌, [], ℕ, List}
 use Rattle.md_setting.specs.Setting.{GeneralSetting}
 use Rattle.md_setting.specs.Auction.{SymmetricAuction}
 use Rattle.md_setting.specs.General.{general_of}
@@ -12,8 +12,6 @@ use Rattle.md_expost.specs.declared.masses.Masses.{Masses}
 use Rattle.md_expost.specs.Masses.{AreMasses}
 use Rattle.md_expost.specs.Implementing.{Implements}
 use Rattle.md_claims.specs.AuctionClaims.{mechanism_in}
-use Rattle.md_answer.specs.declared.answer.Answer.{Answer}
-use Rattle.md_answer.specs.declared.answer.Answer.TheVariants.{Table, Optimal, Infeasible, Unbounded, AuctionOptimal, TooWide}
 use Rattle.md_report.specs.declared.report.Report.{Report}
 use Rattle.md_report.specs.Admissible.{IsToldWhole, MissesNothing}
 use Rattle.md_report.specs.Records.{report_text}
@@ -24,6 +22,9 @@ use Rattle.md_auction_report.specs.Mechanisms.{JudgesMechanisms, TellsMechanisms
 use Rattle.md_auction_report.specs.Records.{report_text as auction_report_text}
 use Rattle.md_auction_report.specs.ReportOf.{IsAuctionReportOf}
 use Rattle.md_cli_driver.specs.Saying.{Saying}
+use Rattle.md_cli_tell.specs.Realising.{IsViolatedSaying}
+use Rattle.md_cli_tell.specs.declared.reported.Reported.{Reported}
+use Rattle.md_cli_tell.specs.declared.reported.Reported.TheVariants as reported
 
 -- The text tells of a mechanism what it does. It is admissible exactly where the text tells no gain and no loss above 0, and
 -- no deficit below.
@@ -55,31 +56,26 @@ pub record IsInterimText (a : SymmetricAuction) (interim : Interim) (cuts : List
   pub tables : JudgesTables a interim report
   pub told : text ≡ auction_report_text a cuts report
 
--- of an answer about a general setting its mechanism is told
-abbrev pub IsGeneralText : GeneralSetting → Answer → List ℕ → Type 0
-IsGeneralText s (Table mechanism) text = IsMechanismText s mechanism text
-IsGeneralText s (Optimal value mechanism bound) text = IsMechanismText s mechanism text
-IsGeneralText s (Infeasible face) text = ⊥
-IsGeneralText s (Unbounded mechanism ray) text = IsMechanismText s mechanism text
-IsGeneralText s (AuctionOptimal value interim masses cuts bound) text = ⊥
-IsGeneralText s (TooWide cuts first second) text = ⊥
+-- Of an auction of the designer's own what its odds and payments do is told, where some mass table has the odds.
+pub record IsOwnText (a : SymmetricAuction) (interim : Interim) (saying : Saying) : Type 0 where
+  pub masses : Masses
+  pub table : AreMasses a masses
+  pub odds : Implements a interim masses
+  pub status : saying.status ≡ 0
+  pub text : IsInterimText a interim [] saying.text
 
--- of an answer about an auction its odds and payments are, with the cuts of the answer
-abbrev pub IsAuctionText : SymmetricAuction → Answer → List ℕ → Type 0
-IsAuctionText a (Table mechanism) text = ⊥
-IsAuctionText a (Optimal value mechanism bound) text = ⊥
-IsAuctionText a (Infeasible face) text = ⊥
-IsAuctionText a (Unbounded mechanism ray) text = ⊥
-IsAuctionText a (AuctionOptimal value interim masses cuts bound) text = IsInterimText a interim cuts text
-IsAuctionText a (TooWide cuts first second) text = ⊥
+-- else the set of values that asks for too much, as `realise` tells it
+abbrev pub IsOwnReporting : SymmetricAuction → Interim → Saying → Type 0
+IsOwnReporting a interim saying = IsOwnText a interim saying ⊎ IsViolatedSaying a interim saying
 
-abbrev pub IsReportText : SettingFile → Answer → List ℕ → Type 0
-IsReportText (General s) answer text = IsGeneralText s answer text
-IsReportText (Auction a) answer text = IsAuctionText a answer text
-
-abbrev pub IsReporting : SettingFile → Answer → Saying → Type 0
-IsReporting file answer saying = (saying.status ≡ 0) × IsReportText file answer saying.text
+abbrev pub IsReporting : SettingFile → Reported → Saying → Type 0
+IsReporting (General s) (reported.Mechanism mechanism) saying = (saying.status ≡ 0) × IsMechanismText s mechanism saying.text
+IsReporting (General s) (reported.Odds interim cuts) saying = ⊥
+IsReporting (General s) (reported.Own interim) saying = ⊥
+IsReporting (Auction a) (reported.Mechanism mechanism) saying = ⊥
+IsReporting (Auction a) (reported.Odds interim cuts) saying = (saying.status ≡ 0) × IsInterimText a interim cuts saying.text
+IsReporting (Auction a) (reported.Own interim) saying = IsOwnReporting a interim saying
 
 -- the statuses of what is answered
 abbrev pub IsReportStatus : ℕ → Type 0
-IsReportStatus status = status ≡ 0
+IsReportStatus status = (status ≡ 0) ⊎ (status ≡ 21)

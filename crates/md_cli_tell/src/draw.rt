@@ -5,14 +5,16 @@ ghost use Rattle.md_records.specs.Written.{text_of_records};
 ghost use Rattle.md_answer.specs.AnswerTo.{IsAnswerTo};
 ghost use Rattle.md_answer.specs.AuctionAnswerTo.{IsAuctionAnswer};
 ghost use Rattle.md_cli_driver.specs.declared.refusal.Refusal.TheVariants as refusal;
-ghost use Rattle.md_cli_tell.specs.Drawing.{IsDrawing, IsOutcomeIn, IsRun, IsRunStatus, draw_refused, drawable_in, drawn_rows, has_pays, has_table, outcome_row, pays_rows, winner_name};
-ghost use Rattle.md_cli_driver.specs.Reading.{is_any};
+ghost use Rattle.md_cli_tell.specs.Drawing.{IsDrawing, IsOutcomeIn, IsRun, IsRunStatus, draw_refused, drawable_in, drawn_rows, has_pays, has_table, outcome_row, pays_rows, table_or_none, winner_name};
+ghost use Rattle.md_cli_driver.specs.Reading.{Follows, is_any};
 ghost use Rattle.md_cli_driver.specs.Refused.{refused, status_of};
 ghost use Rattle.md_cli_driver.specs.Saying.{said};
 
 use crate::profile::reports_of;
 use md_answer::{Answer, read_answer};
 use md_cli_driver::{Answered, DONE, Refusal, TwoFiles};
+use md_mech::Mechanism;
+use md_mechanism_text::read_mechanism_text;
 use md_num::NoMemory;
 use md_parts::push_numbers;
 use md_records::{Row, write_records};
@@ -49,7 +51,7 @@ impl TwoFiles for Draw<'_> {
     }
 
     fn second(&self, alloc: Global, file: &SettingFile, bytes: &[u8]) -> Result<Answer, Refusal> {
-        drawable(read_answer(alloc, bytes, file)?)
+        read_drawable(alloc, file, bytes)
     }
 
     fn answer(
@@ -62,8 +64,32 @@ impl TwoFiles for Draw<'_> {
     }
 }
 
-/// An answer of which something can be drawn: one with a mechanism.
-pub(crate) fn drawable(answer: Answer) -> Result<Answer, Refusal>
+// What is drawn of: of a general setting the mechanism of an answer, and of an auction an answer with masses.
+fn read_drawable(alloc: Global, file: &SettingFile, bytes: &[u8]) -> Result<Answer, Refusal>
+    ensures follows { Follows (λ answer. answer) result (drawable_in file.now bytes.now) }
+    ensures general { IfOk result (λ answer. WhereGeneral (λ s. IsAnswerTo s answer) file.now) }
+    ensures auction { IfOk result (λ answer. WhereAuction (λ a. IsAuctionAnswer a answer) file.now) }
+    ensures table { IfOk result (λ answer. has_table answer ≡ true) }
+    ensures errors { IfErr result (λ e. (e ≡ refusal.Memory) ⊎ (status_of e ≡ 66)) }
+{
+    match file {
+        SettingFile::General(_) => table_of(read_mechanism_text(alloc, bytes, file)?),
+        SettingFile::Auction(_) => drawable(read_answer(alloc, bytes, file)?),
+    }
+}
+
+// A mechanism as an answer.
+fn table_of(found: Option<Mechanism>) -> Result<Answer, Refusal>
+    ensures { result ≡ table_or_none found }
+{
+    match found {
+        Some(mechanism) => Ok(Answer::Table(mechanism)),
+        None => Err(Refusal::NoTable),
+    }
+}
+
+// An answer of which something can be drawn.
+fn drawable(answer: Answer) -> Result<Answer, Refusal>
     ensures { MatchResult result (λ same. (same ≡ answer) × (has_table answer ≡ true)) (λ e. (e ≡ refusal.NoTable) × (has_table answer ≡ false)) }
 {
     if !has_table(&answer) {

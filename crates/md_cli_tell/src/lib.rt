@@ -12,6 +12,7 @@ mod realise;
 mod reduced;
 mod replay;
 mod report;
+mod reported;
 mod rows;
 
 pub use award::Awarding;
@@ -19,4 +20,5 @@ pub use draw::Draw;
 pub use realise::Realise;
 pub use replay::Replay;
 pub use report::Tell;
+pub use reported::Reported;
 pub use rows::Rows;

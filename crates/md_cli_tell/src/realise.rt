@@ -87,8 +87,8 @@ fn table_text(alloc: Global, auction: &Auction, masses: &Masses) -> Result<Vec<u
     write_records(alloc, &rows)
 }
 
-// The record of a violated set.
-fn violated_text(
+/// The record of a violated set.
+pub(crate) fn violated_text(
     alloc: Global,
     auction: &Auction,
     interim: &Interim,

@@ -1,22 +1,21 @@
-//! The command `report`: what the mechanism of an answer does, and how far it is from truthful.
-ghost use Rattle.std.specs.Prelude.{◌≡◌, true, IfOk};
+//! The command `report`: what a mechanism does, and how far it is from truthful.
+ghost use Rattle.std.specs.Prelude.{IfOk};
 ghost use Rattle.md_setting.specs.Auction.{value_count};
-ghost use Rattle.md_setting.specs.ByKind.{WhereAuction, WhereGeneral};
+ghost use Rattle.md_setting.specs.declared.file.SettingFile.TheVariants as files;
 ghost use Rattle.md_mech.specs.Accepted.{IsAccepted};
 ghost use Rattle.md_lp.specs.Cuts.{AreCuts};
 ghost use Rattle.md_border.specs.Odds.{IsInterim};
-ghost use Rattle.md_answer.specs.AnswerTo.{IsAnswerTo};
-ghost use Rattle.md_answer.specs.AuctionAnswerTo.{IsAuctionAnswer};
-ghost use Rattle.md_cli_tell.specs.Drawing.{drawable_in, has_table};
+ghost use Rattle.md_cli_tell.specs.Reported.{IsReportable, reported_in};
 ghost use Rattle.md_cli_driver.specs.Reading.{is_any};
-ghost use Rattle.md_cli_tell.specs.Reporting.{IsAuctionText, IsGeneralText, IsInterimText, IsMechanismText, IsReporting, IsReportStatus, IsReportText};
+ghost use Rattle.md_cli_tell.specs.Reporting.{IsInterimText, IsMechanismText, IsOwnReporting, IsReporting, IsReportStatus};
 ghost use Rattle.md_cli_driver.specs.Saying.{said};
 
-use crate::draw::drawable;
-use md_answer::{Answer, read_answer};
+use crate::realise::violated_text;
+use crate::reported::{Reported, read_reported};
 use md_auction_report::{AuctionReport, auction_report_text};
 use md_border::Interim;
-use md_cli_driver::{Answered, DONE, Refusal, TwoFiles};
+use md_cli_driver::{Answered, DONE, Refusal, TwoFiles, VIOLATED};
+use md_expost::{RealiseEnd, realise};
 use md_lp::Sets;
 use md_mech::Mechanism;
 use md_num::NoMemory;
@@ -29,13 +28,13 @@ use std::alloc::Global;
 pub struct Tell;
 
 impl TwoFiles for Tell {
-    type Second = Answer;
+    type Second = Reported;
 
     ghost is_served = { is_any };
 
-    ghost reading = { λ _. drawable_in };
+    ghost reading = { λ _. reported_in };
 
-    ghost fits = { λ _ file answer. (WhereGeneral (λ s. IsAnswerTo s answer) file × WhereAuction (λ a. IsAuctionAnswer a answer) file) × (has_table answer ≡ true) };
+    ghost fits = { λ _. IsReportable };
 
     ghost says = { λ _. IsReporting };
 
@@ -45,63 +44,65 @@ impl TwoFiles for Tell {
         true
     }
 
-    fn second(&self, alloc: Global, file: &SettingFile, bytes: &[u8]) -> Result<Answer, Refusal> {
-        drawable(read_answer(alloc, bytes, file)?)
+    fn second(&self, alloc: Global, file: &SettingFile, bytes: &[u8]) -> Result<Reported, Refusal> {
+        read_reported(alloc, file, bytes)
     }
 
     fn answer(
         &self,
         alloc: Global,
         file: &SettingFile,
-        answer: &Answer,
+        reported: &Reported,
     ) -> Result<Answered, Refusal> {
-        Ok(told(alloc, file, answer)?)
+        Ok(told(alloc, file, reported)?)
     }
 }
 
-// What is told of an answer.
-fn told(alloc: Global, file: &SettingFile, answer: &Answer) -> Result<Answered, NoMemory>
-    requires general { WhereGeneral (λ s. IsAnswerTo s answer.now) file.now }
-    requires auction { WhereAuction (λ a. IsAuctionAnswer a answer.now) file.now }
-    requires table { has_table answer.now ≡ true }
-    ensures reporting { IfOk result (λ answered. IsReporting file.now answer.now (said answered)) }
-    ensures status { IfOk result (λ answered. answered.status ≡ 0) }
-{
-    Ok(Answered {
-        status: DONE,
-        text: text_of(alloc, file, answer)?,
-    })
-}
-
-// The records of a report.
-fn text_of(alloc: Global, file: &SettingFile, answer: &Answer) -> Result<Vec<u8>, NoMemory>
-    requires general { WhereGeneral (λ s. IsAnswerTo s answer.now) file.now }
-    requires auction { WhereAuction (λ a. IsAuctionAnswer a answer.now) file.now }
-    requires table { has_table answer.now ≡ true }
-    ensures { IfOk result (λ text. IsReportText file.now answer.now text.items) }
+// What is told of a mechanism, or of odds and payments.
+fn told(alloc: Global, file: &SettingFile, reported: &Reported) -> Result<Answered, NoMemory>
+    requires { IsReportable file.now reported.now }
+    ensures reporting { IfOk result (λ answered. IsReporting file.now reported.now (said answered)) }
+    ensures status { IfOk result (λ answered. IsReportStatus answered.status) }
 {
     match file {
-        SettingFile::General(setting) => general_text(alloc, setting, answer),
-        SettingFile::Auction(auction) => auction_text(alloc, auction, answer),
+        SettingFile::General(setting) => general_told(alloc, setting, reported),
+        SettingFile::Auction(auction) => auction_told(alloc, auction, reported),
     }
 }
 
-// Those of a general setting: on the mechanism of the answer.
-fn general_text(alloc: Global, setting: &Setting, answer: &Answer) -> Result<Vec<u8>, NoMemory>
-    requires answer { IsAnswerTo setting.now answer.now }
-    requires table { has_table answer.now ≡ true }
-    ensures { IfOk result (λ text. IsGeneralText setting.now answer.now text.items) }
+// The same about a general setting.
+fn general_told(alloc: Global, setting: &Setting, reported: &Reported) -> Result<Answered, NoMemory>
+    requires { IsReportable (files.General setting.now) reported.now }
+    ensures reporting { IfOk result (λ answered. IsReporting (files.General setting.now) reported.now (said answered)) }
+    ensures status { IfOk result (λ answered. IsReportStatus answered.status) }
 {
-    match answer {
-        Answer::Table(mechanism) => mechanism_text(alloc, setting, mechanism),
-        Answer::Optimal { mechanism, .. } => mechanism_text(alloc, setting, mechanism),
-        Answer::Unbounded { mechanism, .. } => mechanism_text(alloc, setting, mechanism),
-        Answer::Infeasible { .. } => unreachable!(),
-        Answer::AuctionOptimal { .. } => unreachable!(),
-        Answer::TooWide { .. } => unreachable!(),
+    match reported {
+        Reported::Mechanism(mechanism) => Ok(Answered {
+            status: DONE,
+            text: mechanism_text(alloc, setting, mechanism)?,
+        }),
+        Reported::Odds { .. } => unreachable!(),
+        Reported::Own(_) => unreachable!(),
     }
 }
 
+// The same about an auction.
+fn auction_told(alloc: Global, auction: &Auction, reported: &Reported) -> Result<Answered, NoMemory>
+    requires { IsReportable (files.Auction auction.now) reported.now }
+    ensures reporting { IfOk result (λ answered. IsReporting (files.Auction auction.now) reported.now (said answered)) }
+    ensures status { IfOk result (λ answered. IsReportStatus answered.status) }
+{
+    match reported {
+        Reported::Odds { interim, cuts } => Ok(Answered {
+            status: DONE,
+            text: interim_text(alloc, auction, interim, cuts)?,
+        }),
+        Reported::Own(interim) => own_told(alloc, auction, interim),
+        Reported::Mechanism(_) => unreachable!(),
+    }
+}
+
+// The records about a mechanism.
 fn mechanism_text(
     alloc: Global,
     setting: &Setting,
@@ -115,24 +116,7 @@ fn mechanism_text(
     Ok(text)
 }
 
-// Those of an auction: on the odds and payments of the answer.
-fn auction_text(alloc: Global, auction: &Auction, answer: &Answer) -> Result<Vec<u8>, NoMemory>
-    requires answer { IsAuctionAnswer auction.now answer.now }
-    requires table { has_table answer.now ≡ true }
-    ensures { IfOk result (λ text. IsAuctionText auction.now answer.now text.items) }
-{
-    match answer {
-        Answer::AuctionOptimal { interim, cuts, .. } => {
-            interim_text(alloc, auction, interim, cuts)
-        }
-        Answer::Table(_) => unreachable!(),
-        Answer::Optimal { .. } => unreachable!(),
-        Answer::Infeasible { .. } => unreachable!(),
-        Answer::Unbounded { .. } => unreachable!(),
-        Answer::TooWide { .. } => unreachable!(),
-    }
-}
-
+// The records about odds and payments, with some cuts.
 fn interim_text(
     alloc: Global,
     auction: &Auction,
@@ -146,4 +130,22 @@ fn interim_text(
     let report = AuctionReport::new(alloc, auction, interim, cuts)?;
     let text = auction_report_text(alloc, auction, cuts, &report)?;
     Ok(text)
+}
+
+// What is told of an auction of the designer's own: the set of values that asks for too much, where no auction has its odds.
+fn own_told(alloc: Global, auction: &Auction, interim: &Interim) -> Result<Answered, NoMemory>
+    requires { IsInterim auction.now interim.now }
+    ensures reporting { IfOk result (λ answered. IsOwnReporting auction.now interim.now (said answered)) }
+    ensures status { IfOk result (λ answered. IsReportStatus answered.status) }
+{
+    match realise(alloc, auction, interim)? {
+        RealiseEnd::Table(_) => Ok(Answered {
+            status: DONE,
+            text: interim_text(alloc, auction, interim, &Sets::new(alloc))?,
+        }),
+        RealiseEnd::Violated(set) => Ok(Answered {
+            status: VIOLATED,
+            text: violated_text(alloc, auction, interim, set)?,
+        }),
+    }
 }

@@ -1,8 +1,8 @@
 //! Auctions solved, their answers checked after they were written, their reduced programs listed and pivots carried out on
 //! them, over files in memory.
-use crate::calls::{ONE_BUYER, ONE_BUYER_ANSWER};
-use crate::solving_tests::carried_out;
-use crate::test_settings::{THREE_BIDDERS, TWO_BIDDERS};
+use md_cli_samples::answers::ONE_BUYER_ANSWER;
+use md_cli_samples::settings::{ONE_BUYER, ONE_TO_TWENTY, THREE_BIDDERS, TWO_BIDDERS};
+use md_cli_samples::{carried_out, is_told};
 use std::test::Fail;
 
 // An auction, the general setting that it means, and how the answers to both begin behind their kinds: with the value that
@@ -57,10 +57,6 @@ type Case = (
     &'static str,
     &'static str,
 );
-
-// One bidder with the value 1 or 20.
-const ONE_TO_TWENTY: &str =
-    "format = \"mechanism-setting\"\nversion = 1\nkind = \"auction\"\nbidders = 1\nvalues = [1, 20]\nweights = [1, 1]\n";
 
 const CHECK: &[&str] = &["check", "setting", "second"];
 
@@ -269,16 +265,6 @@ static CASES: [Case; 25] = [
         "",
     ),
 ];
-
-// A text that ends with a comma is the begin of what is wanted, and any other one is the whole of it.
-pub(crate) fn is_told(told: &[u8], wanted: &str) -> bool {
-    let wanted = wanted.as_bytes();
-    if wanted.ends_with(b",") {
-        told.starts_with(wanted)
-    } else {
-        told == wanted
-    }
-}
 
 #[test]
 fn carries_commands_out_on_auctions(rt: HostRuntime) -> Result<(), Fail> {

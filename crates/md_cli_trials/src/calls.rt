@@ -1,29 +1,16 @@
 //! One call of each command over files in memory, with what it says. What is printed is worked out by hand, but for the long
 //! texts, of which the begin stands here.
-use crate::test_settings::{
-    ONE_BUYER_SALE, ONE_TYPE, OUT_OF_REACH, POSTED_PRICE, TWO_BIDDERS, VOTE,
+use md_cli_samples::answers::{
+    ONE_BUYER_ANSWER, ONE_TYPE_TABLE, POSTED_PRICE_ANSWER, PRICE_ABOVE_VALUE,
+};
+use md_cli_samples::settings::{
+    ONE_BUYER, ONE_BUYER_SALE, ONE_TYPE, OUT_OF_REACH, POSTED_PRICE, TWO_BIDDERS, VOTE,
 };
 use md_ports::MemShelf;
 use std::alloc::{AllocError, Global};
 
 /// A call: its words, how many files it reads, its status, and how what it says begins.
 pub(crate) type Call = (&'static [&'static str], u32, u8, &'static str);
-
-/// One bidder with the value 1 or 3. The item is worth 2 where it is kept.
-pub(crate) const ONE_BUYER: &str =
-    "format = \"mechanism-setting\"\nversion = 1\nkind = \"auction\"\nbidders = 1\nvalues = [1, 3]\nweights = [1, 1]\nkeep = 2\n";
-
-/// The item is sold at 3. It brings 3 in one of two profiles, and 2 in the other.
-pub(crate) const ONE_BUYER_ANSWER: &str =
-    "answer,1,auction,optimal\nvalue,5,2\ninterim,1\nodds,0,1\npays,0,3\nmass,0,1,0,1\nmass,1,0,0,0\ncut,1\ncut,2\nbound,1\nrow,2,0,1\nrow,3,0,1\nrow,5,0,1\nend\n";
-
-/// The item is sold at 3, and brings that in one of two profiles.
-pub(crate) const POSTED_PRICE_ANSWER: &str =
-    "answer,1,general,optimal\nvalue,3,2\ntable,1\nlottery,low,1,0\nlottery,high,0,1\npay,low,0\npay,high,3\nbound,2\nrow,1,0,1\nrow,2,0,3\nrow,3,0,1\nrow,5,0,6\nend\n";
-
-/// The price is above the buyer's value.
-pub(crate) const PRICE_ABOVE_VALUE: &str =
-    "answer,1,general,table\ntable,1\nlottery,low,1,0\nlottery,high,0,1\npay,low,0\npay,high,4\nend\n";
 
 /// No mechanism gives the agent what it has outside, as the first row shows.
 const REACH_TREE: &str = "answer,1,determ,infeasible\nleaf,infeasible\nrow,0,1\nend\n";
@@ -34,8 +21,6 @@ const REACH_FAIR: &str = "answer,1,fair,infeasible\nrow,0,1\nend\n";
 /// The first voter decides.
 pub(crate) const FIRST_VOTER: &str =
     "answer,1,general,table\ntable,1\nlottery,l,l,1,0\nlottery,l,r,1,0\nlottery,r,l,0,1\nlottery,r,r,0,1\nend\n";
-
-const ONE_TYPE_TABLE: &str = "answer,1,general,table\ntable,1\nlottery,t,1\nend\n";
 
 const PIVOTS: &str = "pivot,4,0\npivot,1,1\nend\n";
 

@@ -1,7 +1,7 @@
 //! Each read and each write of a call fails in turn, in one call of each command.
 use crate::calls::{CALLS, shelf};
-use crate::tests::words;
 use md_ports::MemSink;
+use md_samples::words;
 use md_top::mechdes;
 use std::alloc::{AllocError, Global};
 use std::test::Fail;

@@ -1,11 +1,11 @@
 //! The fairest mechanisms of settings, over files in memory. What each has is worked out by hand.
-use crate::auction_tests::is_told;
-use crate::test_settings::{
+use md_cli_samples::is_told;
+use md_cli_samples::settings::{
     OUT_OF_REACH, POSTED_PRICE_FRONT, RICH_AND_POOR, TAKING, TWO_BIDDERS, UNEQUAL_GOOD,
     WELFARE_VOTE,
 };
-use crate::tests::words;
 use md_ports::{MemShelf, MemSink};
+use md_samples::words;
 use md_top::mechdes;
 use std::test::Fail;
 

@@ -1,11 +1,10 @@
 //! Best and fairest mechanisms that are searched for, over files in memory. What each has is worked out by hand. A search may take
 //! another way to another answer, so that a text stands here whole where only one mechanism and only these multipliers will do.
-use crate::auction_tests::is_told;
-use crate::solving_tests::carried_out;
-use crate::test_settings::{
+use md_cli_samples::settings::{
     CORRELATED, INDEPENDENT, INTERDEPENDENT, OUT_OF_REACH, PAYING, POSTED_PRICE, RICH_AND_POOR,
     TAKING, TWO_BIDDERS, TWO_OUTCOMES, UNEQUAL_GOOD, WELFARE_VOTE,
 };
+use md_cli_samples::{carried_out, is_told};
 use std::test::Fail;
 
 // The agent gets 3 at the first outcome and has 1 outside. The designer wants the second outcome.

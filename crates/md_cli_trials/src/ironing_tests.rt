@@ -1,12 +1,7 @@
 //! Auctions answered in closed form, and their answers checked, over files in memory.
-use crate::calls::ONE_BUYER;
-use crate::solving_tests::carried_out;
-use crate::test_settings::{POSTED_PRICE, THREE_BIDDERS, TWO_BIDDERS};
+use md_cli_samples::carried_out;
+use md_cli_samples::settings::{ONE_BUYER, POOLED, POSTED_PRICE, THREE_BIDDERS, TWO_BIDDERS};
 use std::test::Fail;
-
-// Two bidders with the values 2, 3 and 6.
-pub(crate) const POOLED: &str =
-    "format = \"mechanism-setting\"\nversion = 1\nkind = \"auction\"\nbidders = 2\nvalues = [2, 3, 6]\nweights = [2, 1, 1]\n";
 
 // An auction, how its answer begins, and how it ends behind the masses. A separate program gave all of these by the stated
 // closed form; the first two were worked out by hand too.

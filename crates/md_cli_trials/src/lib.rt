@@ -4,39 +4,19 @@
 #![tactic(auto)]
 
 #[cfg(test)]
-mod asymcheck_tests;
-#[cfg(test)]
 mod auction_tests;
 #[cfg(test)]
 mod calls;
-#[cfg(test)]
-mod drawing_tests;
-#[cfg(test)]
-mod early_ends;
 #[cfg(test)]
 mod failing;
 #[cfg(test)]
 mod fair_tests;
 #[cfg(test)]
-mod faircheck_tests;
-#[cfg(test)]
 mod finding_tests;
-#[cfg(test)]
-mod forged;
 #[cfg(test)]
 mod ironing_tests;
 #[cfg(test)]
-mod limits;
-#[cfg(test)]
 mod number_tests;
-#[cfg(test)]
-mod realising_tests;
-#[cfg(test)]
-mod refusing_tests;
-#[cfg(test)]
-mod replaying_tests;
-#[cfg(test)]
-mod reporting_tests;
 #[cfg(test)]
 mod ruling_tests;
 #[cfg(test)]
@@ -46,13 +26,7 @@ mod selling_tests;
 #[cfg(test)]
 mod solving_tests;
 #[cfg(test)]
-mod test_settings;
-#[cfg(test)]
-mod tests;
-#[cfg(test)]
 mod threshold_tests;
-#[cfg(test)]
-mod unitcheck_tests;
 #[cfg(test)]
 mod units_tests;
 #[cfg(test)]

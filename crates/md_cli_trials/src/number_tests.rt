@@ -1,5 +1,5 @@
 //! Settings that numbers stand for, made, read back, solved and checked, over files in memory.
-use crate::solving_tests::carried_out;
+use md_cli_samples::carried_out;
 use md_setting::SettingFile;
 use md_toml::read_setting;
 use std::test::Fail;

@@ -1,13 +1,10 @@
 //! The best mechanisms without lotteries, found and checked over files in memory. What each has is worked out by hand.
-use crate::solving_tests::carried_out;
-use crate::test_settings::{OUT_OF_REACH, POSTED_PRICE, POSTED_PRICE_FRONT, TAKING};
+use md_cli_samples::carried_out;
+use md_cli_samples::settings::{
+    OUT_OF_REACH, POSTED_PRICE, POSTED_PRICE_FRONT, TAKING, TRADE, TWICE,
+};
 use std::alloc::Global;
 use std::test::Fail;
-
-/// The designer would like the outcome that gives the agent nothing, and the other one gives it twice what it has outside: by a
-/// lottery it may have half of each.
-pub(crate) const TWICE: &str =
-    "format = \"mechanism-setting\"\nversion = 1\nkind = \"general\"\ntruth = \"dominant\"\nrational = \"ex-post\"\npayments = false\noutcomes = [\"x\", \"y\"]\n[objective]\nvalue = [0, 4]\n[[agent]]\nname = \"a\"\ntypes = [\"t\"]\nweights = [1]\noutside = [1]\nutility = [[2, 0]]\n";
 
 // Two goods, and a buyer who values them 1 and 0, 0 and 2, or 3 and 3.
 const TWO_GOODS: &str =
@@ -20,10 +17,6 @@ const OUTING: &str =
 // A car that is bad twice as often as good: worth 0 to the seller and 2 to the buyer, or 4 and 6.
 const LEMONS: &str =
     "format = \"mechanism-setting\"\nversion = 2\nkind = \"general\"\ntruth = \"bayes\"\nrational = \"interim\"\npayments = true\nno_deficit = true\noutcomes = [\"keep\", \"sell\"]\n[objective]\nwelfare = 1\n[[agent]]\nname = \"seller\"\ntypes = [\"lemon\", \"peach\"]\nweights = [2, 1]\nutility = [[0, 0], [0, -4]]\n[[agent]]\nname = \"buyer\"\ntypes = [\"any\"]\nweights = [1]\nutility_at = [[0, 2], [0, 6]]\n";
-
-// A seller to whom an item costs 1 or 5, and a buyer to whom it is worth 2 or 6.
-const TRADE: &str =
-    "format = \"mechanism-setting\"\nversion = 1\nkind = \"general\"\ntruth = \"bayes\"\nrational = \"interim\"\npayments = true\nno_deficit = true\noutcomes = [\"keep\", \"trade\"]\n[objective]\nwelfare = 1\n[[agent]]\nname = \"seller\"\ntypes = [\"cost1\", \"cost5\"]\nweights = [1, 1]\nutility = [[0, -1], [0, -5]]\n[[agent]]\nname = \"buyer\"\ntypes = [\"worth2\", \"worth6\"]\nweights = [1, 1]\nutility = [[0, 2], [0, 6]]\n";
 
 // A setting, and the value of its best mechanism without lotteries. A separate program that tries each one finds the same.
 static VALUES: [(&str, &str); 5] = [

@@ -1,6 +1,6 @@
 //! Which settings are sales of one item to bidders who differ: a sale and changes of it, each of which meets or breaks one of
 //! the conditions that stand in docs/FORMATS.md.
-use crate::solving_tests::carried_out;
+use md_cli_samples::carried_out;
 use std::alloc::{AllocError, Global};
 use std::test::Fail;
 

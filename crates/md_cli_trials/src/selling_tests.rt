@@ -1,7 +1,7 @@
 //! Sales of one item to bidders who differ, over files in memory. The values come from outside: each sale is solved by the
 //! bidders' virtual values, as Myerson has shown in "Optimal auction design" (1981).
-use crate::solving_tests::carried_out;
-use crate::test_settings::{POSTED_PRICE, TWO_BIDDERS};
+use md_cli_samples::carried_out;
+use md_cli_samples::settings::{POSTED_PRICE, TWO_BIDDERS};
 use std::alloc::{AllocError, Global};
 use std::test::Fail;
 
@@ -14,7 +14,7 @@ const SECOND: &str = "\n[[agent]]\nname = \"two\"\ntypes = [\"low\", \"high\"]\n
 const OBJECTIVE: &str = "\n[objective]\nrevenue = 1\n";
 
 // A sale to two bidders for the payments, and what the best mechanism brings.
-pub(crate) struct Sale {
+struct Sale {
     one: &'static str,
     two: &'static str,
     // what the designer has of the outcomes, where that is something
@@ -22,14 +22,14 @@ pub(crate) struct Sale {
     value: &'static str,
 }
 
-pub(crate) fn text_of(alloc: Global, sale: &Sale) -> Result<String, AllocError> {
+fn text_of(alloc: Global, sale: &Sale) -> Result<String, AllocError> {
     let (one, two, values) = (sale.one, sale.two, sale.values);
     format!(in alloc; "{OPENING}{one}{SECOND}{two}{OBJECTIVE}{values}")
 }
 
 // Behind each the virtual values of both bidders: a low value less what the high one is more, by the weights, and the high
 // value. At each profile the greatest one above what the item is worth where it is kept counts.
-pub(crate) static SALES: [Sale; 9] = [
+static SALES: [Sale; 9] = [
     // 0 and 2, 0 and 4: (0 + 4 + 2 + 4) / 4
     Sale {
         one: "weights = [1, 1]\nutility = [[0, 1, 0], [0, 2, 0]]",
@@ -127,6 +127,24 @@ fn sales_bring_as_much_as_settings(rt: HostRuntime) -> Result<(), Fail> {
             solved.out.bytes().starts_with(printed.as_bytes()),
             "at {value}"
         );
+    }
+    Ok(())
+}
+
+#[test]
+fn finds_valid_what_asym_prints(rt: HostRuntime) -> Result<(), Fail> {
+    let alloc = rt.alloc();
+    for sale in &SALES {
+        let setting = text_of(alloc, sale)?;
+        let sold = carried_out(alloc, &["asym", "setting"], &setting, b"")?;
+        let words = ["asymcheck", "setting", "second"];
+        let checked = carried_out(alloc, &words, &setting, sold.out.bytes())?;
+        assert_eq!(rt; checked.status, 0, "at {setting}");
+        assert!(rt;
+            checked.out.bytes() == b"valid\n".as_slice(),
+            "at {setting}"
+        );
+        assert!(rt; checked.err.bytes().is_empty(), "at {setting}");
     }
     Ok(())
 }

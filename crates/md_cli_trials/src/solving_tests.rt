@@ -1,12 +1,9 @@
 //! Settings solved, answers checked after they were written, and pivots carried out, over files in memory.
-use crate::test_settings::{
+use md_cli_samples::carried_out;
+use md_cli_samples::settings::{
     CORRELATED, HONEST, INDEPENDENT, INTERDEPENDENT, OUT_OF_REACH, PAYING, POSTED_PRICE,
     POSTED_PRICE_FRONT, TAKING, TWO_OUTCOMES, WELFARE_VOTE,
 };
-use crate::tests::words;
-use md_ports::{MemShelf, MemSink};
-use md_top::mechdes;
-use std::alloc::{AllocError, Global};
 use std::test::Fail;
 
 // A setting, its status and what `solve` prints, or how that begins.
@@ -164,31 +161,6 @@ static WALKS: [Walk; 14] = [
         "mechdes: setting refused: unknown word truth\n",
     ),
 ];
-
-/// What a command answered.
-#[derive(Drop)]
-pub(crate) struct Reply {
-    pub(crate) status: u8,
-    pub(crate) out: MemSink,
-    pub(crate) err: MemSink,
-}
-
-/// Carries a command out over two files, with room for the masses of many counts.
-pub(crate) fn carried_out(
-    alloc: Global,
-    texts: &[&str],
-    setting: &str,
-    second: &[u8],
-) -> Result<Reply, AllocError> {
-    let words = words(alloc, texts)?;
-    let mut shelf = MemShelf::new(alloc);
-    shelf.put("setting", setting.as_bytes())?;
-    shelf.put("second", second)?;
-    let mut out = MemSink::new(alloc, 40_000)?;
-    let mut err = MemSink::new(alloc, 100)?;
-    let status = mechdes(alloc, &words, &mut shelf, &mut out, &mut err);
-    Ok(Reply { status, out, err })
-}
 
 #[test]
 fn solves_settings_and_checks_what_it_printed(rt: HostRuntime) -> Result<(), Fail> {

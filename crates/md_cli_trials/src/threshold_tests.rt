@@ -1,8 +1,7 @@
 //! Units that go to the highest bidders, of whom only winners pay, over files in memory. All is worked out by hand: virtual values and
 //! pools as in Myerson's "Optimal auction design" (1981), and what is expected by counting profiles.
-use crate::calls::ONE_BUYER;
-use crate::solving_tests::carried_out;
-use crate::test_settings::{INDEPENDENT, TWO_BIDDERS};
+use md_cli_samples::carried_out;
+use md_cli_samples::settings::{INDEPENDENT, ONE_BUYER, TWO_BIDDERS};
 use std::test::Fail;
 
 // Two bidders with the values 1, 2 and 3, whose virtual values are -1, 1 and 3.

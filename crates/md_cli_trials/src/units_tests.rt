@@ -1,10 +1,8 @@
 //! Several units of an item sold to bidders who each want one, over files in memory. The values come from outside: the units go to
 //! the bidders with the greatest virtual values that are not negative, as Myerson has shown for one item in "Optimal auction
 //! design" (1981).
-use crate::auction_tests::is_told;
-use crate::calls::ONE_BUYER;
-use crate::solving_tests::carried_out;
-use crate::test_settings::{INDEPENDENT, THREE_BIDDERS, TWO_BIDDERS};
+use md_cli_samples::settings::{INDEPENDENT, ONE_BUYER, THREE_BIDDERS, TWO_BIDDERS};
+use md_cli_samples::{carried_out, is_told};
 use std::test::Fail;
 
 // One bidder with the value 1 or 20.

@@ -1,5 +1,5 @@
 //! Words that are no command, or that ask for what is refused before any file is read.
-use crate::solving_tests::carried_out;
+use md_cli_samples::carried_out;
 use std::test::Fail;
 
 const USAGE: &str = "mechdes: usage\n";

@@ -1,18 +1,18 @@
-//! Lists of names and of rows of numbers.
+//! Lists of words and of rows of numbers.
 ghost use Rattle.std.specs.Prelude.{◌≡◌, IfOk, map};
 ghost use Rattle.md_setting.specs.Setting.{names_of, lists_of};
 
 use std::alloc::{AllocError, Global};
 
-// The names that some words are.
-pub(crate) fn names(alloc: Global, words: &[&str]) -> Result<Vec<String>, AllocError>
-    ensures { IfOk result (λ names. names_of names.items ≡ map (λ word. word.now) words.now) }
+/// Texts as words that are their own, as names are and the words of a call.
+pub fn words(alloc: Global, texts: &[&str]) -> Result<Vec<String>, AllocError>
+    ensures { IfOk result (λ words. names_of words.items ≡ map (λ text. text.now) texts.now) }
 {
-    let mut names = Vec::new(alloc);
-    for word in words {
-        names.push(String::from_str(alloc, word)?)?;
+    let mut words = Vec::new(alloc);
+    for text in texts {
+        words.push(String::from_str(alloc, text)?)?;
     }
-    Ok(names)
+    Ok(words)
 }
 
 // The rows that some lists of numbers are.

@@ -1,6 +1,6 @@
 //! Agents in plain words and numbers, and settings of such agents.
 
-use crate::lists::{names, rows};
+use crate::lists::{rows, words};
 use md_setting::{Rational, RawAgent, RawSetting, Truth};
 use std::alloc::{AllocError, Global};
 
@@ -38,7 +38,7 @@ pub fn setting(
 ) -> Result<RawSetting, AllocError> {
     Ok(RawSetting {
         agents: raw_agents(alloc, agents)?,
-        outcomes: names(alloc, outcomes)?,
+        outcomes: words(alloc, outcomes)?,
         prior: None,
         values: Vec::from_slice(alloc, values)?,
         welfare: 0,
@@ -65,7 +65,7 @@ fn raw_agent(alloc: Global, agent: &SampleAgent<'_>) -> Result<RawAgent, AllocEr
     };
     Ok(RawAgent {
         name: String::from_str(alloc, agent.name)?,
-        types: names(alloc, agent.types)?,
+        types: words(alloc, agent.types)?,
         weights: Vec::from_slice(alloc, agent.weights)?,
         outside: Vec::from_slice(alloc, agent.outside)?,
         utility,

@@ -29,7 +29,9 @@ use Rattle.md_cli_tell.specs.Realising.{odds_in, IsRealise, IsRealiseStatus}
 use Rattle.md_cli_best.specs.Fair.{IsFair}
 use Rattle.md_cli_best.specs.Finding.{IsFind, IsFindFair, IsFindStatus}
 use Rattle.md_cli_tell.specs.Drawing.{drawable_in, IsRun, IsRunStatus}
+use Rattle.md_cli_tell.specs.Reported.{reported_in}
 use Rattle.md_cli_tell.specs.Reporting.{IsReporting, IsReportStatus}
+use Rattle.md_cli_tell.specs.declared.reported.Reported.{Reported}
 use Rattle.md_cli_sell.specs.Ironing.{IsIron, IsIronStatus}
 use Rattle.md_cli_sell.specs.IroningUnits.{IsIronUnits}
 use Rattle.md_cli_best.specs.Making.{IsMake, IsMakeStatus}
@@ -92,7 +94,7 @@ work_by Award order = award_work order.number order.profile order.first_draw
 work_by Determ order = one_file is_general (IsDeterm order.width) IsDetermStatus
 work_by DetermCheck order = two_files (List ℕ) is_general determ_text_in IsDetermCheck IsDetermCheckStatus
 work_by Run order = draw_work order.profile order.first_draw order.second_draw
-work_by Report order = two_files Answer is_any drawable_in IsReporting IsReportStatus
+work_by Report order = two_files Reported is_any reported_in IsReporting IsReportStatus
 work_by Iron order = one_file is_auction IsIron IsIronStatus
 work_by IronUnits order = iron_units_work order.number
 work_by Make order = no_file (IsMake order.number) IsMakeStatus

@@ -1,0 +1,44 @@
+//! A command carried out over two files in memory, and what it says.
+
+use md_ports::{MemShelf, MemSink};
+use md_samples::words;
+use md_top::mechdes;
+use std::alloc::{AllocError, Global};
+
+/// What a command answered.
+#[derive(Drop)]
+pub struct Reply {
+    /// The status that it ended with.
+    pub status: u8,
+    /// What it printed.
+    pub out: MemSink,
+    /// What it said on the other stream.
+    pub err: MemSink,
+}
+
+/// Carries a command out over two files, `setting` and `second`, with room for the masses of many counts.
+pub fn carried_out(
+    alloc: Global,
+    texts: &[&str],
+    setting: &str,
+    second: &[u8],
+) -> Result<Reply, AllocError> {
+    let words = words(alloc, texts)?;
+    let mut shelf = MemShelf::new(alloc);
+    shelf.put("setting", setting.as_bytes())?;
+    shelf.put("second", second)?;
+    let mut out = MemSink::new(alloc, 40_000)?;
+    let mut err = MemSink::new(alloc, 100)?;
+    let status = mechdes(alloc, &words, &mut shelf, &mut out, &mut err);
+    Ok(Reply { status, out, err })
+}
+
+/// Whether a text is as wanted: it begins with the wanted one where that ends with a comma, and is that one else.
+pub fn is_told(told: &[u8], wanted: &str) -> bool {
+    let wanted = wanted.as_bytes();
+    if wanted.ends_with(b",") {
+        told.starts_with(wanted)
+    } else {
+        told == wanted
+    }
+}

@@ -1,0 +1,59 @@
+-- The mechanism that a text says of a general setting, as an answer about the best one or about the fairest one.
+use Rattle.std.specs.Prelude.{◌==◌, ℕ, Bool, false, List, Option, None, Some, Result, Ok, Err, if◌then◌else◌}
+use Rattle.md_setting.specs.Setting.{GeneralSetting}
+use Rattle.md_mech.specs.declared.mechanism.Mechanism.{Mechanism}
+use Rattle.md_parts.specs.declared.refusal.AnswerRefusal.{AnswerRefusal}
+use Rattle.md_parts.specs.declared.refusal.AnswerRefusal.TheVariants.{Line, Cell, Sum, End, Memory}
+use Rattle.md_answer.specs.declared.answer.Answer.{Answer}
+use Rattle.md_answer.specs.declared.answer.Answer.TheVariants.{Table, Optimal, Infeasible, Unbounded, AuctionOptimal, TooWide}
+use Rattle.md_answer.specs.Answers.{answer_of}
+use Rattle.md_question.specs.declared.finding.Finding.{Finding}
+use Rattle.md_question.specs.declared.finding.Finding.TheVariants as findings
+use Rattle.md_fair.specs.declared.answer.FairAnswer.{FairAnswer}
+use Rattle.md_fair.specs.declared.answer.FairAnswer.TheVariants as fairest
+use Rattle.md_fair.specs.FairText.{fair_answer_of}
+
+-- the mechanism of an answer about the best one, where it has one
+abbrev pub mechanism_of : Answer → Option Mechanism
+mechanism_of (Table mechanism) = Some mechanism
+mechanism_of (Optimal value mechanism bound) = Some mechanism
+mechanism_of (Infeasible face) = None
+mechanism_of (Unbounded mechanism ray) = Some mechanism
+mechanism_of (AuctionOptimal value interim masses cuts bound) = None
+mechanism_of (TooWide cuts first second) = None
+
+-- the same of an answer about the fairest one
+abbrev pub mechanism_found : Finding → Option Mechanism
+mechanism_found (findings.Optimal value mechanism bound) = Some mechanism
+mechanism_found (findings.Infeasible face) = None
+mechanism_found (findings.Unbounded mechanism ray) = Some mechanism
+
+abbrev pub mechanism_of_fairest : FairAnswer → Option Mechanism
+mechanism_of_fairest (fairest.Found finding) = mechanism_found finding
+mechanism_of_fairest (fairest.TooWide first second) = None
+
+-- a text is refused for the third field of its first record, which names the kind of the answer
+abbrev pub names_another_kind : AnswerRefusal → Bool
+names_another_kind (Line line) = false
+names_another_kind (Cell line field) = if line == 1 then field == 3 else false
+names_another_kind (Sum line) = false
+names_another_kind (End line) = false
+names_another_kind Memory = false
+
+-- what it says as an answer about the fairest mechanism
+abbrev pub fairest_or_refusal : Result FairAnswer AnswerRefusal → Result (Option Mechanism) AnswerRefusal
+fairest_or_refusal (Ok answer) = Ok (mechanism_of_fairest answer)
+fairest_or_refusal (Err e) = Err e
+
+abbrev pub fairest_in : GeneralSetting → List ℕ → Result (Option Mechanism) AnswerRefusal
+fairest_in s bytes = fairest_or_refusal (fair_answer_of s bytes)
+
+-- what it says as an answer about the best one, or else as one about the fairest
+abbrev pub mechanism_or_fairest : Result Answer AnswerRefusal → Result (Option Mechanism) AnswerRefusal → Result (Option Mechanism) AnswerRefusal
+mechanism_or_fairest (Ok answer) other = Ok (mechanism_of answer)
+mechanism_or_fairest (Err e) other = if names_another_kind e then other else Err e
+
+-- The mechanism of the answer that a text says, if that has one, or the first reason to refuse the text. A text whose first record
+-- names another kind than that of answers about the best mechanism is read as one about the fairest.
+abbrev pub mechanism_text_of : GeneralSetting → List ℕ → Result (Option Mechanism) AnswerRefusal
+mechanism_text_of s bytes = mechanism_or_fairest (answer_of s bytes) (fairest_in s bytes)

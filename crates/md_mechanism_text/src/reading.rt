@@ -1,0 +1,127 @@
+//! Reading the mechanism of an answer.
+ghost use Rattle.std.specs.Prelude.{◌≡◌, ◌≢◌, Ok, Err, IfOk, IfSome, MatchResult};
+ghost use Rattle.md_setting.specs.Setting.{GeneralSetting};
+ghost use Rattle.md_setting.specs.ByKind.{IsGeneral, WhereGeneral};
+ghost use Rattle.md_mech.specs.Accepted.{IsAccepted};
+ghost use Rattle.md_answer.specs.AnswerTo.{IsAnswerTo};
+ghost use Rattle.md_question.specs.Shown.{IsFindingTo};
+ghost use Rattle.md_fair.specs.FairQuestion.{fair_question};
+ghost use Rattle.md_fair.specs.FairRows.{IsFairAnswer};
+ghost use Rattle.md_mechanism_text.specs.MechanismText.{fairest_in, mechanism_found, mechanism_of, mechanism_of_fairest, mechanism_text_of, names_another_kind};
+
+use md_answer::{Answer, read_answer};
+use md_fair::{FairAnswer, read_fair};
+use md_mech::Mechanism;
+use md_parts::AnswerRefusal;
+use md_question::Finding;
+use md_setting::{Setting, SettingFile};
+use std::alloc::Global;
+
+/// Reads the mechanism of an answer about the general setting of a file, if the answer has one: it is about the best mechanism, or
+/// about the fairest one.
+///
+/// # Errors
+/// The first record that may not stand there, has a wrong field or does not add to what it must, that no end stands
+/// among the records, or that memory ran out.
+pub fn read_mechanism_text(
+    alloc: Global,
+    bytes: &[u8],
+    file: &SettingFile,
+) -> Result<Option<Mechanism>, AnswerRefusal>
+    requires { IsGeneral file.now }
+    ensures reads { WhereGeneral (λ s. MatchResult result
+        (λ found. mechanism_text_of s bytes.now ≡ Ok found)
+        (λ refusal. refusal ≢ AnswerRefusal.Memory → mechanism_text_of s bytes.now ≡ Err refusal)) file.now }
+
+    // What is read has the sizes of the setting, and its numbers are in their ranges.
+    ensures accepted { WhereGeneral (λ s. IfOk result (λ found. IfSome found (IsAccepted s))) file.now }
+{
+    match file {
+        SettingFile::General(setting) => match read_answer(alloc, bytes, file) {
+            Ok(answer) => Ok(mechanism_of(answer)),
+            Err(refusal) if names_another_kind(refusal) => read_fairest(alloc, bytes, setting),
+            Err(refusal) => Err(refusal),
+        },
+        SettingFile::Auction(_) => unreachable!(),
+    }
+}
+
+// Whether an answer is refused since its first record names another kind of answers.
+fn names_another_kind(refusal: AnswerRefusal) -> bool
+    ensures { result ≡ names_another_kind refusal }
+{
+    matches!(refusal, AnswerRefusal::Cell(1, 3))
+}
+
+// The mechanism of an answer about the fairest one.
+fn read_fairest(
+    alloc: Global,
+    bytes: &[u8],
+    setting: &Setting,
+) -> Result<Option<Mechanism>, AnswerRefusal>
+    ensures reads { MatchResult result
+        (λ found. fairest_in setting.now bytes.now ≡ Ok found)
+        (λ refusal. refusal ≢ AnswerRefusal.Memory → fairest_in setting.now bytes.now ≡ Err refusal) }
+    ensures accepted { IfOk result (λ found. IfSome found (IsAccepted setting.now)) }
+{
+    Ok(mechanism_of_fairest(read_fair(alloc, bytes, setting)?))
+}
+
+// The mechanism of an answer about the best one, where it has one.
+fn mechanism_of(answer: Answer) -> Option<Mechanism>
+    ensures given { result ≡ mechanism_of answer }
+    ensures accepted { (s : GeneralSetting) → IsAnswerTo s answer → IfSome result (IsAccepted s) }
+{
+    match answer {
+        Answer::Table(mechanism) => Some(mechanism),
+        Answer::Optimal {
+            mechanism,
+            value: _,
+            bound: _,
+        } => Some(mechanism),
+        Answer::Unbounded { mechanism, ray: _ } => Some(mechanism),
+        Answer::Infeasible { face: _ } => None,
+        Answer::AuctionOptimal {
+            value: _,
+            interim: _,
+            masses: _,
+            cuts: _,
+            bound: _,
+        } => None,
+        Answer::TooWide {
+            cuts: _,
+            first: _,
+            second: _,
+        } => None,
+    }
+}
+
+// The same of an answer about the fairest one.
+fn mechanism_of_fairest(answer: FairAnswer) -> Option<Mechanism>
+    ensures given { result ≡ mechanism_of_fairest answer }
+    ensures accepted { (s : GeneralSetting) → IsFairAnswer s answer → IfSome result (IsAccepted s) }
+{
+    match answer {
+        FairAnswer::Found(finding) => mechanism_found(finding),
+        FairAnswer::TooWide {
+            first: _,
+            second: _,
+        } => None,
+    }
+}
+
+// The mechanism that was found, if one was.
+fn mechanism_found(finding: Finding) -> Option<Mechanism>
+    ensures given { result ≡ mechanism_found finding }
+    ensures accepted { (s : GeneralSetting) → IsFindingTo (fair_question s) finding → IfSome result (IsAccepted s) }
+{
+    match finding {
+        Finding::Optimal {
+            mechanism,
+            value: _,
+            bound: _,
+        } => Some(mechanism),
+        Finding::Unbounded { mechanism, ray: _ } => Some(mechanism),
+        Finding::Infeasible { face: _ } => None,
+    }
+}
