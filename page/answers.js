@@ -1,6 +1,7 @@
 // What the page shows of an answer: a rule as pictures and tables, and what shows that no other is better. All numbers are those of the
 // text, or sums and quotients of them.
 
+import { conditionsPart, withoutConditions } from "./conditions.js";
 import { folded, head, make, number, table } from "./dom.js";
 import { Fraction, counted, sum } from "./fraction.js";
 import { barsFigure, legend, lotteryFigure } from "./pictures.js";
@@ -41,6 +42,7 @@ const VERDICTS = {
 
 /** What an optimal answer says where it is about another question than the setting's own. */
 const OPTIMAL_WORDS = {
+  required: "Optimal: no other rule that meets the conditions, yours among them, has a greater value.",
   fair: "Under no rule that meets the conditions does the agent that gets least get more.",
   determ: "Optimal: no rule without lotteries that meets the conditions has a greater value.",
   asym: "Optimal: no other way to sell the item has a greater value.",
@@ -50,6 +52,9 @@ const OPTIMAL_WORDS = {
 function verdictOf(records) {
   const [, kind, word] = firstWith(records, "answer");
   const found = { ...VERDICTS[word](fractionWith(records, "value")) };
+  if (word === "infeasible" && kind === "required") {
+    return { ...found, words: "No rule meets the conditions of this setting and yours." };
+  }
   return word === "optimal" && kind in OPTIMAL_WORDS ? { ...found, words: OPTIMAL_WORDS[kind] } : found;
 }
 
@@ -74,10 +79,17 @@ export const ironView = answerOr(TOO_LONG);
 /** The same of `ironunits`. */
 export const ironUnitsView = answerOr(TOO_LONG, unitsView);
 
+const NOT_FOUND =
+  "No answer was found, though numbers may have 126 bits on the way. This says nothing of the setting: it may have a best rule, or none.";
+
 /** What `find` and `findfair` print: an answer, or that none was found. */
-export const findView = answerOr(
-  "No answer was found, though numbers may have 126 bits on the way. This says nothing of the setting: it may have a best rule, or none.",
-);
+export const findView = answerOr(NOT_FOUND);
+
+/** What `require` prints: an answer with the conditions of the designer, or that none was found. */
+export const requireView = answerOr(NOT_FOUND, (records, { setting, names = [] }) => {
+  const own = withoutConditions(records);
+  return view(verdictOf(own), conditionsPart(records), mechanismParts(own, setting), multipliersPart(own, names));
+});
 
 /** What `determ` prints: the rule, and the search that shows that there is none better. */
 export function determView(records, { setting }) {

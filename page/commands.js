@@ -1,8 +1,9 @@
 // The commands of the page, each in one entry: a further command of the program wants one more entry here, and a `view` only where its
 // text should be shown as more than text.
 
-import { answerView, asymView, determView, findView, ironUnitsView, ironView, unitsView } from "./answers.js";
+import { answerView, asymView, determView, findView, ironUnitsView, ironView, requireView, unitsView } from "./answers.js";
 import { awardView, thresholdView } from "./awards.js";
+import { sampleConditions } from "./conditions.js";
 import { rangeOfAward, rangeOfFirst, rangeOfSecond } from "./draws.js";
 import {
   asymCheckView,
@@ -15,6 +16,7 @@ import {
   realiseView,
   replayView,
   reportView,
+  requireCheckView,
   rowsView,
   runView,
   unitCheckView,
@@ -24,21 +26,30 @@ import {
 export const GROUPS = { find: "Find a best rule", judge: "Judge a rule", run: "Run a rule", study: "Study a rule" };
 
 /** What may stand beside the setting file: its name in sentences, and what a file of it is called. `of` has the other kinds whose files
- * will do as well. */
+ * will do as well. `sample` makes a text to begin with from the setting, where there is none. */
 export const SECONDS = {
   answer: { label: "Answer", file: "answer.csv", hint: "What solve, find or iron printed" },
+  conditions: {
+    label: "Conditions",
+    file: "conditions.csv",
+    hint:
+      "require,1, then a line for each condition, then end. revenue,SIDE,NUM,DEN with the side least or most; welfare,…; " +
+      "utility,AGENT,…; chance,OUTCOME,…; at,PROFILE,OUTCOME,…; pay,AGENT,…; pay,AGENT,TYPE,…",
+    sample: sampleConditions,
+  },
+  required: { label: "Answer", file: "required.csv", hint: "What require printed" },
   fairest: { label: "Answer", file: "fairest.csv", hint: "What fair or findfair printed" },
   mechanism: {
     label: "Answer",
     file: "answer.csv",
-    hint: "What solve, find, iron, fair or findfair printed, or a rule of your own",
-    of: ["answer", "fairest"],
+    hint: "What solve, find, iron, require, fair or findfair printed, or a rule of your own",
+    of: ["answer", "required", "fairest"],
   },
   reported: {
     label: "Answer",
     file: "answer.csv",
-    hint: "What solve, find, iron, fair or findfair printed, or a rule of your own; of an auction its odds and pays will do",
-    of: ["answer", "fairest", "mechanism"],
+    hint: "What solve, find, iron, require, fair or findfair printed, or a rule of your own; of an auction its odds and pays will do",
+    of: ["answer", "required", "fairest", "mechanism"],
   },
   rule: { label: "Answer", file: "rule.csv", hint: "What determ printed" },
   sale: { label: "Answer", file: "sale.csv", hint: "What asym printed" },
@@ -179,6 +190,18 @@ export const COMMANDS = [
     saves: "fairest",
   },
   {
+    word: "require",
+    group: "find",
+    asks: "Which rule is best among those that meet conditions of yours?",
+    button: "Find under conditions",
+    kind: "general",
+    second: "conditions",
+    fields: [],
+    view: requireView,
+    makes: "required",
+    saves: "required",
+  },
+  {
     word: "check",
     group: "judge",
     asks: "Is what an answer claims so? Uses nothing of the part that searches.",
@@ -187,6 +210,17 @@ export const COMMANDS = [
     second: "answer",
     fields: [],
     view: checkView,
+  },
+  {
+    word: "requirecheck",
+    group: "judge",
+    asks: "Is what an answer under conditions of yours claims so?",
+    button: "Check",
+    next: "Check this answer",
+    kind: "general",
+    second: "required",
+    fields: [],
+    view: requireCheckView,
   },
   {
     word: "faircheck",

@@ -11,7 +11,7 @@ EXAMPLES = HERE.parent / "examples"
 BESIDE = {"auction-reserve": ["own-first-price.csv", "own-too-often.csv"]}
 
 # Second files that commands of the page print themselves.
-PRINTED = ("-answer", "-found", "-fairest", "-rule", "-threshold")
+PRINTED = ("-answer", "-found", "-required", "-fairest", "-rule", "-threshold")
 
 # Titles of settings that have no page of their own.
 TITLES = {
@@ -28,6 +28,7 @@ TITLES = {
     "partnership-sole": "A firm of one partner",
     "public-good": "A bridge for two neighbours",
     "second-price": "An item for two bidders",
+    "subsidy-least": "Bilateral trade with the least subsidy",
     "too-wide-rounded": "Numbers that grow too wide, rounded",
     "two-bidders": "How often can a bidder win?",
     "vote": "A choice between two outcomes",
@@ -44,6 +45,7 @@ QUESTIONS = {
     "one-type": "What is there to decide?",
     "public-good": "When should the bridge be built, and who pays what?",
     "second-price": "Who should have the item, and at which price?",
+    "subsidy-least": "How much has to be paid in so that all good trades are made?",
     "too-wide": "Which rule brings the most revenue, where the numbers on the way have many digits?",
     "too-wide-rounded": "Which rule brings the most revenue, with fewer digits?",
     "two-bidders": "Is there an auction in which the values win as often as these odds say?",
@@ -103,8 +105,8 @@ def kind_of(text):
     if (word, fields[1:]) == ("answer", ["auction", "table"]):
         return "reported"
     if word == "answer":
-        return {"fair": "fairest", "determ": "rule", "asym": "sale", "units": "units"}.get(fields[1], "answer")
-    return {"pivot": "pivots", "cut": "pivots", "interim": "odds"}.get(word)
+        return {"required": "required", "fair": "fairest", "determ": "rule", "asym": "sale", "units": "units"}.get(fields[1], "answer")
+    return {"pivot": "pivots", "cut": "pivots", "interim": "odds", "require": "conditions"}.get(word)
 
 
 def files_beside(name, names):

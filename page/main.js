@@ -1,6 +1,7 @@
 // The page: it begins with a setting of the gallery or of a link, asks the library what the user asks, and shows what it says.
 
 import { fileOf, nextCommands, wordsOf } from "./commands.js";
+import { conditionRowNames, conditionsOf } from "./conditions.js";
 import { breakable, button, byId, keepsOpen, make } from "./dom.js";
 import { Editor } from "./editor.js";
 import { Engine, Interrupted, canRun, unpacked } from "./engine.js";
@@ -235,7 +236,8 @@ class Page {
     const told = await call(["rows", "setting"]);
     const names = conditionNames(recordsOf(told.out), records);
     const levels = kind === "fair" ? (setting?.agents ?? []).map(({ name }) => `${name} gets the level`) : [];
-    return [...names, ...levels];
+    const wanted = kind === "required" ? conditionRowNames(conditionsOf(records), setting) : [];
+    return [...names, ...levels, ...wanted];
   }
 
   /** What may be done next. */
@@ -259,7 +261,7 @@ class Page {
   }
 }
 
-const NAMED_BY_ROWS = ["general", "auction", "fair", "units"];
+const NAMED_BY_ROWS = ["general", "auction", "required", "fair", "units"];
 
 /** Where the answer stands below the question, and not beside it, the page moves there. */
 function comesIntoView(element) {

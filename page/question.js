@@ -71,7 +71,10 @@ export class Question {
     byId("ask").textContent = this.command.button;
     byId("second-part").hidden = !this.command.second;
     if (this.command.second) {
-      const { label, hint } = SECONDS[this.command.second];
+      const { label, hint, sample } = SECONDS[this.command.second];
+      if (sample && this.second === "") {
+        this.texts[this.command.second] = sample(this.setting);
+      }
       byId("second-label").textContent = label;
       byId("second-hint").textContent = `${hint}.`;
       byId("second").value = this.second;

@@ -62,6 +62,9 @@ function checking(own) {
 /** What `check` prints. */
 export const checkView = checking({});
 
+/** What `requirecheck` prints. */
+export const requireCheckView = checking({ 17: "the mechanism does not meet one of your conditions" });
+
 /** What `faircheck` prints. */
 export const fairCheckView = checking({ 11: "the level of the mechanism has more than 62 bits" });
 

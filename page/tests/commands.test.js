@@ -24,7 +24,7 @@ test("each command of the program has an entry, whose parts are known", () => {
 
 test("the words of each command are those of docs/FORMATS.md", () => {
   const [, listed] = /\n((?: {4}mechdes .*\n)+)/.exec(repository("docs/FORMATS.md"));
-  const names = { PROFILE: "p", DRAW1: "d1", DRAW2: "d2", DRAW: "d", W: "w", SETTING: "setting", ANSWER: "second", PIVOTS: "second", ODDS: "second" };
+  const names = { PROFILE: "p", DRAW1: "d1", DRAW2: "d2", DRAW: "d", W: "w", SETTING: "setting", ANSWER: "second", PIVOTS: "second", ODDS: "second", CONDITIONS: "second" };
   const values = { width: "w", units: "n", number: "n", profile: "p", first: "d1", second: "d2", draw: "d" };
   for (const line of listed.trim().split("\n")) {
     const [, ...words] = line.replace(/[[\]]/g, "").trim().split(/\s+/);
@@ -45,7 +45,19 @@ test("commands that do not fit a setting are not offered", () => {
   const left = (setting) => COMMANDS.filter((command) => !fits(command, setting)).map(({ word }) => word);
   assert.deepEqual(left(general), ["iron", "threshold", "units", "ironunits", "asym", "asymcheck", "unitcheck", "realise", "award"]);
   assert.deepEqual(left(sale), ["iron", "threshold", "units", "ironunits", "unitcheck", "realise", "award"]);
-  assert.deepEqual(left(auction), ["find", "asym", "determ", "fair", "findfair", "faircheck", "asymcheck", "determcheck", "audit"]);
+  assert.deepEqual(left(auction), [
+    "find",
+    "asym",
+    "determ",
+    "fair",
+    "findfair",
+    "require",
+    "requirecheck",
+    "faircheck",
+    "asymcheck",
+    "determcheck",
+    "audit",
+  ]);
   assert.deepEqual(left(null), []);
 });
 
@@ -71,6 +83,10 @@ test("what may follow an answer, and where numbers grow too wide", () => {
     ["fair", 10, general, "faircheck"],
     ["findfair", 0, sale, "faircheck audit run report"],
     ["findfair", 10, general, "faircheck"],
+    ["require", 0, general, "requirecheck audit run report"],
+    ["require", 11, general, "requirecheck audit run report"],
+    ["require", 10, general, "requirecheck"],
+    ["require", 22, general, ""],
     ["asym", 0, sale, "asymcheck"],
     ["units", 0, auction, "unitcheck"],
     ["ironunits", 0, auction, "unitcheck"],
@@ -102,6 +118,7 @@ test("what a command printed is saved by the names of the examples", () => {
     ["solve", "vote-answer.csv"],
     ["find", "vote-found.csv"],
     ["fair", "vote-fairest.csv"],
+    ["require", "vote-required.csv"],
     ["determ", "vote-rule.csv"],
     ["report", "vote-report.csv"],
     ["drill", "drill.csv"],

@@ -8,6 +8,7 @@ from collections.abc import Iterator, Mapping, Sequence
 from fractions import Fraction
 from typing import TYPE_CHECKING, Any, ClassVar
 
+from .conditions import Condition, condition_records
 from .mechanisms import (
     AuctionMechanism,
     Counts,
@@ -47,8 +48,8 @@ def _cut_records(setting: AnySetting, cuts: tuple[frozenset[Any], ...]) -> Itera
 
 @dataclasses.dataclass(frozen=True, kw_only=True)
 class Answer(Printed):
-    """What every answer has: the setting that it answers, its kind (`general`, `auction`, `fair`, `asym`, `units`, `determ`), and
-    its word (`optimal`, `infeasible`, `unbounded`, `toowide`, `table` or `undecided`)."""
+    """What every answer has: the setting that it answers, its kind (`general`, `auction`, `required`, `fair`, `asym`, `units`,
+    `determ`), and its word (`optimal`, `infeasible`, `unbounded`, `toowide`, `table` or `undecided`)."""
 
     setting: Any = dataclasses.field(repr=False)
     kind: str
@@ -136,6 +137,18 @@ class GeneralOptimal(Bounded):
 @dataclasses.dataclass(frozen=True, kw_only=True)
 class Fairest(GeneralOptimal):
     """A fairest mechanism. `value` is what the agent that gets least gets on average, payments taken off."""
+
+
+@dataclasses.dataclass(frozen=True, kw_only=True)
+class Required(GeneralOptimal):
+    """A best mechanism among those that meet conditions of the designer (`require`), which are `conditions`, in their order. Behind
+    the multipliers of the setting's rows come those of the rows of the conditions."""
+
+    conditions: tuple[Condition, ...]
+
+    def _inner(self) -> Iterator[Record]:
+        yield from condition_records(self.conditions)
+        yield from super()._inner()
 
 
 @dataclasses.dataclass(frozen=True, kw_only=True)
@@ -276,28 +289,34 @@ class Rule(Optimal):
 
 @dataclasses.dataclass(frozen=True, kw_only=True)
 class Infeasible(Answer):
-    """No mechanism meets the conditions, as the multipliers show; of `determ` no deterministic one does, as the tree shows."""
+    """No mechanism meets the conditions, as the multipliers show; of `determ` no deterministic one does, as the tree shows.
+    `conditions` are those of the designer, of `require`."""
 
     word = "infeasible"
     setting: Setting = dataclasses.field(repr=False)
     multipliers: tuple[Multiplier, ...] = ()
     tree: tuple[Node, ...] = ()
+    conditions: tuple[Condition, ...] = ()
 
     def _inner(self) -> Iterator[Record]:
+        yield from condition_records(self.conditions)
         yield from _face_records(self.multipliers)
         yield from _tree_records(self.setting, self.tree)
 
 
 @dataclasses.dataclass(frozen=True, kw_only=True)
 class Unbounded(Answer):
-    """The objective has no bound: the payments of `ray` may be added to the mechanism again and again, and gain each time."""
+    """The objective has no bound: the payments of `ray` may be added to the mechanism again and again, and gain each time.
+    `conditions` are those of the designer, of `require`."""
 
     word = "unbounded"
     setting: Setting = dataclasses.field(repr=False)
     mechanism: Mechanism
     ray: Payments
+    conditions: tuple[Condition, ...] = ()
 
     def _inner(self) -> Iterator[Record]:
+        yield from condition_records(self.conditions)
         yield from self.mechanism.records(self.setting)
         yield from by_profile("ray", self.ray, self.setting, self.setting.agent_names, self.mechanism.denominator)
 
@@ -403,8 +422,8 @@ class TooWide(Answer):
 
 @dataclasses.dataclass(frozen=True, kw_only=True)
 class Undecided(Answer):
-    """`iron`, `iron_units`: the multipliers in closed form have more than 62 bits. `find` and `find_fair`: nothing was found, and
-    nothing is said of the setting. The kind is that of the setting."""
+    """`iron`, `iron_units`: the multipliers in closed form have more than 62 bits. `find`, `find_fair` and `require`: nothing was
+    found, and nothing is said of the setting. The kind is that of the setting."""
 
     word = "undecided"
     setting: AnySetting = dataclasses.field(repr=False)
@@ -415,7 +434,8 @@ class Undecided(Answer):
 
 @dataclasses.dataclass(frozen=True)
 class Verdict(Printed):
-    """What `check`, `faircheck`, `asymcheck`, `unitcheck` or `determcheck` says. It is true exactly where the word is `valid`.
+    """What `check`, `requirecheck`, `faircheck`, `asymcheck`, `unitcheck` or `determcheck` says. It is true exactly where the word is
+    `valid`.
 
     word       `valid`, `undecided` (the answer claims nothing) or `rejected`
     condition  where rejected, the number of the first condition that fails, as docs/FORMATS.md counts them

@@ -36,6 +36,7 @@ from .answers import (
     Realised,
     Replay,
     Report,
+    Required,
     Rule,
     SaleOptimal,
     Table,
@@ -47,6 +48,7 @@ from .answers import (
     Verdict,
     Violated,
 )
+from .conditions import Condition, conditions_text
 from .errors import AnswerNotRead, refusal
 from .mechanisms import Mechanism, _wanted
 from .reading import (
@@ -66,6 +68,7 @@ from .settings import AnySetting, Auction, Setting, SettingLike, file_bytes, rea
 
 AnswerLike: TypeAlias = Answer | Mechanism | str | bytes | os.PathLike[str]
 AnswerOfCommand: TypeAlias = Optimal | Infeasible | Unbounded | TooWide | Undecided
+ConditionsLike: TypeAlias = Sequence[Condition] | str | bytes | os.PathLike[str]
 
 
 def answer_bytes(setting: SettingLike, answer: AnswerLike) -> bytes:
@@ -109,15 +112,27 @@ def _printed(expected: set[int], words: Sequence[str], setting: bytes = b"", sec
 
 
 # Those of another command have its name.
-_KINDS = {"solve": ("general", "auction"), "find": ("general",), "findfair": ("fair",), "iron": ("auction",), "ironunits": ("units",)}
+_KINDS = {
+    "solve": ("general", "auction"),
+    "find": ("general",),
+    "require": ("required",),
+    "findfair": ("fair",),
+    "iron": ("auction",),
+    "ironunits": ("units",),
+}
 
 
 def _answered(
-    words: Sequence[str], setting: SettingLike, expected: set[int], kinds: tuple[type[Answer], ...], units: int | None = None
+    words: Sequence[str],
+    setting: SettingLike,
+    expected: set[int],
+    kinds: tuple[type[Answer], ...],
+    units: int | None = None,
+    second: bytes = b"",
 ) -> Any:
     """The answer to a setting, as a value. The program looks at the setting first, so that its refusal comes first."""
     given = setting_bytes(setting)
-    text = _printed(expected, words, given)
+    text = _printed(expected, words, given, second)
     named = setting if isinstance(setting, (Setting, Auction)) else read_setting(given)
     answer = read_answer(named, text, units)
     # That nothing is decided has one text for all commands.
@@ -158,6 +173,19 @@ def find(setting: SettingLike) -> GeneralOptimal | Infeasible | Unbounded | Unde
     `solve` is too wide have an answer here. Where several mechanisms are best it may be another one. Undecided says nothing of the
     setting."""
     return _answered(["find", "setting"], setting, {0, 10, 11, 22}, (GeneralOptimal, Infeasible, Unbounded, Undecided))
+
+
+def require(setting: SettingLike, conditions: ConditionsLike) -> Required | Infeasible | Unbounded | Undecided:
+    """The best mechanism of a general setting among those that meet conditions of the designer, found as `find` finds the best one
+    of all.
+
+    conditions  a list of `Revenue`, `Welfare`, `Utility`, `Chance` and `Payment`; or a conditions file as a path or a text
+
+    Raises `AnswerRefused` for conditions that are refused.
+    """
+    second = file_bytes(conditions) if isinstance(conditions, (str, bytes, os.PathLike)) else conditions_text(conditions).encode()
+    kinds = (Required, Infeasible, Unbounded, Undecided)
+    return _answered(["require", "setting", "conditions"], setting, {0, 10, 11, 22}, kinds, second=second)
 
 
 def find_fair(setting: SettingLike) -> Fairest | Infeasible | Unbounded | Undecided:
@@ -240,6 +268,12 @@ def check(setting: SettingLike, answer: AnswerLike) -> Verdict:
     """Whether what an answer of `solve`, `find` or `iron` claims is so. It uses nothing of the part that searches."""
     words = ["check", "setting", "answer"]
     return read_verdict(_printed({0, 20, 22}, words, setting_bytes(setting), answer_bytes(setting, answer)))
+
+
+def requirecheck(setting: SettingLike, answer: AnswerLike) -> Verdict:
+    """Whether what an answer of `require` claims is so. It uses nothing of the part that searches."""
+    words = ["requirecheck", "setting", "answer"]
+    return read_verdict(_printed({0, 20}, words, setting_bytes(setting), answer_bytes(setting, answer)))
 
 
 def faircheck(setting: SettingLike, answer: AnswerLike) -> Verdict:
@@ -385,6 +419,7 @@ Command: TypeAlias = Callable[..., Any]
 _COMMANDS: tuple[Command, ...] = (
     solve,
     find,
+    require,
     find_fair,
     fair,
     asym,
@@ -395,6 +430,7 @@ _COMMANDS: tuple[Command, ...] = (
     iron,
     iron_units,
     check,
+    requirecheck,
     faircheck,
     asymcheck,
     unitcheck,

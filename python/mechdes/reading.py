@@ -2,6 +2,7 @@
 
 from __future__ import annotations
 
+import dataclasses
 import math
 from collections.abc import Callable, Iterator, Mapping, Sequence
 from fractions import Fraction
@@ -28,6 +29,7 @@ from .answers import (
     Realised,
     Replay,
     Report,
+    Required,
     Row,
     Rule,
     SaleOptimal,
@@ -44,6 +46,7 @@ from .answers import (
     Worst,
     elements,
 )
+from .conditions import take_conditions
 from .errors import AnswerNotRead, UnknownAnswer
 from .mechanisms import AuctionMechanism, Counts, Mechanism, SaleMechanism
 from .records import Over, Printed, Records
@@ -161,6 +164,31 @@ def _unbounded(records: Records, setting: Setting, kind: str) -> Unbounded:
     ray = _by_profile(records, "ray", setting, setting.agent_names, mechanism.denominator)
     records.end()
     return Unbounded(setting=setting, kind=kind, mechanism=mechanism, ray=ray)
+
+
+def _required(records: Records, setting: Setting, kind: str, word: str, version: str) -> Answer:
+    """An answer of `require`: one as of `find`, with the conditions of the designer in front."""
+    conditions = take_conditions(records, setting)
+    if word == "optimal":
+        value, mechanism = records.fraction(records.take("value", 2)), _mechanism(records, setting)
+        bound, multipliers = _bound(records)
+        records.end()
+        return Required(
+            setting=setting,
+            kind=kind,
+            value=value,
+            mechanism=mechanism,
+            bound=bound,
+            multipliers=multipliers,
+            conditions=conditions,
+        )
+    if word == "infeasible":
+        faces = _faces(records)
+        records.end()
+        return Infeasible(setting=setting, kind=kind, multipliers=faces, conditions=conditions)
+    if word == "unbounded":
+        return dataclasses.replace(_unbounded(records, setting, kind), conditions=conditions)
+    raise UnknownAnswer(f"an answer of an unknown kind: {kind}, {word}")
 
 
 def _tree(records: Records, setting: Setting) -> tuple[Node, ...]:
@@ -307,7 +335,13 @@ def _sale(records: Records, setting: Setting, kind: str, word: str, version: str
     )
 
 
-_GENERAL: dict[str, Callable[..., Answer]] = {"general": _general, "fair": _general, "determ": _rule, "asym": _sale}
+_GENERAL: dict[str, Callable[..., Answer]] = {
+    "general": _general,
+    "required": _required,
+    "fair": _general,
+    "determ": _rule,
+    "asym": _sale,
+}
 _AUCTION = ("auction", "units")
 _TWO_VERSIONS = {("general", "toowide"), ("auction", "toowide")}
 
@@ -336,7 +370,7 @@ def read_answer(setting: AnySetting, text: str, units: int | None = None) -> Ans
 
 
 def read_verdict(text: str) -> Verdict:
-    """What `check`, `faircheck`, `asymcheck`, `unitcheck` or `determcheck` prints."""
+    """What `check`, `requirecheck`, `faircheck`, `asymcheck`, `unitcheck` or `determcheck` prints."""
     records = Records(text)
     word = records.word()
     if word not in ("valid", "undecided", "rejected"):
@@ -537,10 +571,11 @@ def _worst(records: Records, setting: AnySetting, fields: list[str], is_gain: bo
     return Worst(names[0], names[1], amount, names[2] if is_gain else None, tuple(names[-1].split("+")) if each else None)
 
 
-_ANSWERS = ("solve", "find", "fair", "findfair", "asym", "units", "determ", "iron", "ironunits")
+_ANSWERS = ("solve", "find", "require", "fair", "findfair", "asym", "units", "determ", "iron", "ironunits")
 _OF_SETTINGS: dict[str, Callable[[Any, str], Printed]] = {"realise": read_realised, "run": read_draw, "report": read_report}
 _ALONE: dict[str, Callable[[str], Printed]] = {
     "check": read_verdict,
+    "requirecheck": read_verdict,
     "faircheck": read_verdict,
     "asymcheck": read_verdict,
     "unitcheck": read_verdict,

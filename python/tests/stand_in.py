@@ -23,8 +23,11 @@ from second_opinion import (  # noqa: E402
     fairness,
     finding,
     listing,
+    mechanisms,
     program,
     reporting,
+    require_checking,
+    requiring,
     sale_checking,
     setting,
     threshold,
@@ -46,7 +49,7 @@ def audit(words: Sequence[str]) -> Told:
     its, data = _read(words)
     if isinstance(its, setting.AuctionSetting):
         raise Refused(65, "setting refused: other kind")
-    broken = program.broken(its, answer.mechanism_in(data, its))
+    broken = program.broken(its, mechanisms.mechanism_in(data, its))
     return (0, "admissible\n") if broken is None else (20, ",".join(map(str, ("broken", *broken))) + "\n")
 
 
@@ -56,7 +59,7 @@ def run(words: Sequence[str]) -> Told:
     reports, first, second = words[2].split(","), int(words[3]), int(words[4])
     if isinstance(its, setting.AuctionSetting):
         return 0, _auction_draw(its, auction_answer.read_answer(data, its), reports, first, second)
-    return 0, _general_draw(its, answer.mechanism_in(data, its), reports, first, second)
+    return 0, _general_draw(its, mechanisms.mechanism_in(data, its), reports, first, second)
 
 
 def find(words: Sequence[str]) -> Told:
@@ -64,6 +67,11 @@ def find(words: Sequence[str]) -> Told:
     if isinstance(setting.read_setting(command.read_file(words[0], setting.FILE_LIMIT)), setting.AuctionSetting):
         raise Refused(65, "setting refused: other kind")
     return _or_undecided(finding.find, words)
+
+
+def require(words: Sequence[str]) -> Told:
+    """The command `require SETTING CONDITIONS`."""
+    return _or_undecided(requiring.require, words)
 
 
 def find_fair(words: Sequence[str]) -> Told:
@@ -126,8 +134,10 @@ class SecondOpinion:
     _commands: dict[str, Callable[[Sequence[str]], Told]] = {
         "solve": finding.find,
         "find": find,
+        "require": require,
         "findfair": find_fair,
         "check": checking.check,
+        "requirecheck": require_checking.requirecheck,
         "faircheck": fair_checking.faircheck,
         "asymcheck": sale_checking.asymcheck,
         "unitcheck": unit_checking.unitcheck,
@@ -153,6 +163,7 @@ class SecondOpinion:
             paths = {"setting": pathlib.Path(folder) / "setting", "answer": pathlib.Path(folder) / "answer"}
             for path, data in zip(paths.values(), (setting, second), strict=True):
                 path.write_bytes(data)
+            paths["conditions"] = paths["answer"]
             given = [str(paths.get(word, word)) for word in rest if word != "--"]
             status, out, line = command.outcome(self._commands[name], given)
         return Reply(status, out.encode(), b"" if line is None else f"mechdes: {line}\n".encode())

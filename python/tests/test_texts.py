@@ -24,7 +24,7 @@ OTHER_SETTINGS = {
     "own-first-price": "auction-reserve",
     "own-too-often": "auction-reserve",
 }
-NO_ANSWERS = ("interim,", "pivot,", "threshold,")
+NO_ANSWERS = ("interim,", "pivot,", "threshold,", "require,")
 
 
 def setting_of(name: str) -> AnySetting:
@@ -34,7 +34,7 @@ def setting_of(name: str) -> AnySetting:
 
 
 def stored_answers() -> Iterator[tuple[str, str]]:
-    """The stored answers, by name: all but odds, pivots and auctions by `threshold`."""
+    """The stored answers, by name: all but odds, pivots, conditions and auctions by `threshold`."""
     for path in sorted(EXAMPLES.glob("*.csv")):
         if not path.read_text().startswith(NO_ANSWERS):
             yield path.stem, path.read_text()
@@ -81,8 +81,18 @@ class Shown(Texts):
                 found = self.again("solve", printed, setting_of(name))
                 kinds.add((found.kind, found.word))
         general = {("general", word) for word in ("table", "optimal", "infeasible", "unbounded", "toowide")}
-        optimal = {(kind, "optimal") for kind in ("auction", "fair", "asym", "units", "determ")}
-        self.assertEqual(kinds, general | optimal | {("auction", "table")})
+        others = {(kind, "optimal") for kind in ("auction", "required", "fair", "asym", "units", "determ")}
+        self.assertEqual(kinds, general | others | {("auction", "table"), ("required", "infeasible")})
+
+    def test_stored_conditions(self) -> None:
+        names = set()
+        for path in sorted(EXAMPLES.glob("*.csv")):
+            printed = path.read_text()
+            if printed.startswith("require,"):
+                with self.subTest(path.name):
+                    self.assertEqual(mechdes.conditions_text(mechdes.read_conditions(setting_of(path.stem), printed)), printed)
+                    names.add(printed.splitlines()[1].split(",")[0])
+        self.assertEqual(names, {"revenue", "welfare", "chance", "pay"})
 
     def test_stored_auctions_in_which_only_winners_pay(self) -> None:
         for path in sorted(EXAMPLES.glob("*-threshold.csv")):
@@ -230,9 +240,10 @@ class Made(Texts):
             ("rejected,11,-9223372036854775808", False),
             ("rejected,12,rational/a/t,-1,0", False),
             ("rejected,16", False),
+            ("rejected,17,0,15,16", False),
         ):
             with self.subTest(printed):
-                for command in ("check", "faircheck", "asymcheck", "unitcheck", "determcheck"):
+                for command in ("check", "requirecheck", "faircheck", "asymcheck", "unitcheck", "determcheck"):
                     found = self.again(command, printed + "\n")
                     self.assertEqual((bool(found), str(found)), (truth, printed))
         self.assertFalse(self.again("audit", "broken,deficit/low+low,-2,0\n"))

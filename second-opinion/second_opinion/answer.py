@@ -114,17 +114,29 @@ class Records:
         self.records = records_of(data)
         self.number = 0
         self.fields: list[bytes] = []
+        self.is_held = False  # whether the record that was read last is to be read once more
+
+    def again(self) -> None:
+        """Has the record that was read last read once more."""
+        self.is_held = True
 
     def refuse(self, reason: str) -> NoReturn:
         raise Refused(66, f"answer refused: line {self.number}: {reason}")
 
-    def expect(self, **counts: int) -> str:
-        """Reads the next record, whose word is one of those listed, each with its number of fields; gives the word."""
+    def take(self) -> None:
+        """Reads the next record, whatever it is."""
+        if self.is_held:
+            self.is_held = False
+            return
         fields = next(self.records, None)
         if fields is None:
             self.refuse("ended")
         self.fields = fields
         self.number += 1
+
+    def expect(self, **counts: int) -> str:
+        """Reads the next record, whose word is one of those listed, each with its number of fields; gives the word."""
+        self.take()
         word = self.fields[0].decode("utf-8", "replace")
         if counts.get(word) != len(self.fields):
             self.refuse("record")
@@ -183,20 +195,6 @@ def read_fair_answer(data: bytes, setting: GeneralSetting) -> Answer:
     records, word, _ = begun(data, "fair", {"1": [word for word in READERS if word != "table"], "2": ["toowide"]})
     rows = setting.condition_count() + setting.profile_count() + len(setting.agents)
     return read_begun(records, word, setting, rows, 2)
-
-
-def mechanism_in(data: bytes, setting: GeneralSetting) -> Mechanism:
-    """The mechanism of an answer, or `Refused` where it has none. A text whose first record names another kind than that of answers
-    about the best mechanism is read as one about the fairest."""
-    try:
-        said = read_answer(data, setting)
-    except Refused as refused:
-        if refused.line != ANOTHER_KIND:
-            raise
-        said = read_fair_answer(data, setting)
-    if isinstance(said, (InfeasibleAnswer, TooWideAnswer)):
-        raise Refused(66, NO_TABLE)
-    return said.mechanism
 
 
 def read_begun(records: Records, word: str, setting: GeneralSetting, rows: int, paths: int) -> Answer:

@@ -7,7 +7,7 @@ answer, or of an auction of one's own.
 from collections.abc import Callable, Iterable, Iterator
 from fractions import Fraction
 
-from second_opinion import answer, auction, auction_answer, command, program, setting
+from second_opinion import answer, auction, auction_answer, command, mechanisms, program, setting
 from second_opinion.answer import Mechanism
 from second_opinion.auction import Interim
 from second_opinion.auction_answer import AuctionAnswer
@@ -25,7 +25,7 @@ def report(words: list[str]) -> tuple[int, str]:
     if isinstance(its, AuctionSetting):
         status, records = auction_report(its, data)
     else:
-        status, records = DONE, general_records(its, answer.mechanism_in(data, its))
+        status, records = DONE, general_records(its, mechanisms.mechanism_in(data, its))
     return status, "".join(",".join(map(str, record)) + "\n" for record in records)
 
 

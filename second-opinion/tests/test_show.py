@@ -13,12 +13,14 @@ import xml.etree.ElementTree as tree
 from fractions import Fraction
 from html.parser import HTMLParser
 
-from second_opinion import program
 from second_opinion.answer import InfeasibleAnswer, OptimalAnswer
 from second_opinion.auction import Interim, count_lists
 from second_opinion.auction_answer import AuctionAnswer
 from second_opinion.auction_finding import found_answer
+from second_opinion.conditions import broken_condition, program_under, read_conditions
 from second_opinion.places import EXAMPLES, FOLDER, stored_names
+from second_opinion.required_answer import RequiredAnswer, read_required
+from second_opinion.requiring import found_under
 from second_opinion.setting import AuctionSetting, GeneralSetting, read_setting
 from second_opinion.show import gallery, style
 from second_opinion.show.auction_draw import cut_bars, odds_bars, value_bars
@@ -27,11 +29,12 @@ from second_opinion.show.auction_page import AuctionPage
 from second_opinion.show.bars import Bar, Bars, Group
 from second_opinion.show.draw import CHAR, place
 from second_opinion.show.facts import Play, Prior, conditions, contradiction, name_of, terms_of
-from second_opinion.show.frontier import Step, corners_of, step_of
+from second_opinion.show.floors import floor_step, with_corners
+from second_opinion.show.frontier import Chart, Step, corners_of, parts_of, step_of
 from second_opinion.show.kinds import read_answer
 from second_opinion.show.page import Page
 from second_opinion.show.parts import ANY_PAGE
-from second_opinion.show.text import MINUS, decimal, html_name, mixed, number, set_words, with_decimal
+from second_opinion.show.text import MINUS, asked_words, decimal, html_name, mixed, number, set_words, with_decimal
 
 EMPTY = {"meta", "br", "wbr"}
 
@@ -48,6 +51,25 @@ def stored(kind=GeneralSetting):
         setting, answer = example(name)
         if isinstance(setting, kind):
             yield name, setting, answer
+
+
+def required():
+    """The name, setting and answer of each example under conditions of the designer."""
+    for path in sorted(EXAMPLES.glob("*-required.csv")):
+        setting = read_setting((EXAMPLES / f"{path.name.rsplit('-', 2)[0]}.toml").read_bytes())
+        yield path.name, setting, read_answer(path.read_bytes(), setting)
+
+
+EACH_WORD = b"""require,1
+revenue,most,-1,8
+welfare,least,7,4
+utility,seller,least,1,3
+chance,trade,most,2,3
+at,cost5+worth2,keep,least,1,1
+pay,seller,most,1,2
+pay,buyer,worth6,least,5,1
+end
+"""
 
 
 class Elements(HTMLParser):
@@ -87,12 +109,14 @@ def contrast(one, two):
 
 class Facts(unittest.TestCase):
     def test_rows_are_those_of_the_program(self):
-        for name, setting, _ in stored():
+        subsidy = read_setting((EXAMPLES / "subsidy.toml").read_bytes())
+        cases = [(name, setting, ()) for name, setting, _ in stored()]
+        cases += [(name, setting, answer.conditions) for name, setting, answer in required()]
+        for name, setting, asked in [*cases, ("each word", subsidy, read_conditions(EACH_WORD, subsidy))]:
             prior = Prior(setting)
             profiles, outcomes, agents = setting.profile_count(), len(setting.outcomes), len(setting.agents)
-            rows = conditions(setting)
-            self.assertEqual(len(rows), len(program.program_of(setting).rows))
-            for row, other in zip(rows, program.program_of(setting).rows):
+            rows = conditions(setting, asked)
+            for row, other in zip(rows, program_under(setting, asked).rows, strict=True):
                 terms, right = terms_of(setting, prior, row)
                 columns = {}
                 for where, factor in terms.items():
@@ -102,6 +126,8 @@ class Facts(unittest.TestCase):
                     else:
                         plus = profiles * outcomes + where[2] * profiles + rank
                         columns[plus], columns[plus + agents * profiles] = factor, -factor
+                if row.asked and row.profile:
+                    other.name += "/" + setting.profile_name(row.profile)
                 said = name_of(setting, row), right, row.kind == "profile", columns
                 self.assertEqual(said, (other.name, other.right, other.exact, other.terms), name)
 
@@ -118,6 +144,42 @@ class Facts(unittest.TestCase):
                 weights = {index: face for index, (face, _) in answer.multipliers.items()}
                 self.assertLess(contradiction(setting, page.prior, weights), 0)
                 self.assertIsNone(contradiction(setting, page.prior, {0: 1}))
+
+    def test_answers_under_conditions_hold(self):
+        for name, setting, answer in required():
+            page = Page(setting, answer, name, ["a", "b"])
+            self.assertNotIn("answer is wrong", page.html(), name)
+            for index, pair in answer.said.multipliers.items():
+                if isinstance(answer.said, OptimalAnswer) and page.rows[index].kind != "profile" and pair > (0, 0):
+                    self.assertIn(index, page.equal, name)
+            # Without the rows of the designer it shows nothing.
+            if isinstance(answer.said, InfeasibleAnswer):
+                faces = {index: face for index, (face, _) in answer.said.multipliers.items() if not page.rows[index].asked}
+                self.assertIsNone(contradiction(setting, page.prior, faces, answer.conditions), name)
+
+    def test_conditions_of_the_designer_that_are_broken(self):
+        setting = read_setting((EXAMPLES / "subsidy.toml").read_bytes())
+        asked = read_conditions(EACH_WORD, setting)
+        said = read_answer((EXAMPLES / "subsidy-eighth-required.csv").read_bytes(), setting).said
+        for number, each in enumerate(asked):
+            page = Page(setting, RequiredAnswer([each], said), "a", ["a", "b"])
+            first = next(((left, right) for _, left, right in page.broken), None)
+            expected = broken_condition(setting, said.mechanism, [each])
+            self.assertEqual(first, expected and expected[1:], number)
+            self.assertEqual("of the setting and of the designer, first <code>require/<wbr>0" in page.html(), bool(expected))
+        self.assertEqual(sum(bool(broken_condition(setting, said.mechanism, [each])) for each in asked), 3)
+        words = [asked_words(setting, each) for each in asked]
+        self.assertEqual(words[:3], ["the revenue is at most \u22121/8, on average", "the welfare is at least 7/4, on average",
+                                     "what seller gets is at least 1/3, on average"])
+        self.assertEqual(words[3:], ["the chance of trade is at most 2/3, on average", "the chance of keep is at least 1",
+                                     "what seller pays is at most 1/2", "what buyer pays is at least 5"])
+
+    def test_an_objective_without_a_bound_under_conditions(self):
+        setting = read_setting((EXAMPLES / "unbounded-revenue.toml").read_bytes())
+        for line, gains in (("welfare,least,0,1", True), ("revenue,most,1000,1", False), ("revenue,least,1,1", True)):
+            asked = read_conditions(f"require,1\n{line}\nend\n".encode(), setting)
+            unbounded = example("unbounded-revenue")[1]
+            self.assertEqual(Page(setting, RequiredAnswer(asked, unbounded), "a", ["a", "b"]).gains(), gains, line)
 
     def test_broken_conditions_are_named(self):
         setting = read_setting((EXAMPLES / "posted-price.toml").read_bytes())
@@ -338,6 +400,57 @@ class Frontiers(unittest.TestCase):
         text = gallery.pages()["frontier.html"]
         self.assertIn("From 71/25 to 68/25 of revenue, 3/25 of it buys 6/25 of welfare.", text)
         self.assertIn("From 68/25 to 13/5 of revenue, 3/25 of it buys 1/25 of welfare.", text)
+
+    def test_floors(self):
+        # By hand, in the page revenue-floor.md: what prices bring, and what each unit of revenue costs between two of them.
+        steps = gallery.floor_steps()
+        prices = [(5, 15), (8, 14), (9, 12)]
+        corners = [(Fraction(revenue, 5), Fraction(welfare, 5)) for revenue, welfare in prices]
+        self.assertEqual([step.point for step in steps if step.name == ""], corners)
+        named = {step.name: step.point for step in steps if step.name}
+        for name, point in named.items():
+            lines = (EXAMPLES / f"{name}.csv").read_text().splitlines()
+            floor = Fraction(*map(int, lines[1].split(",")[2:]))
+            self.assertEqual(point, (floor, Fraction(*map(int, lines[2].split(",")[1:]))) if point else None, name)
+            setting = read_setting((EXAMPLES / "revenue-floor.toml").read_bytes())
+            found = found_under(setting, read_required((EXAMPLES / f"{name}.csv").read_bytes(), setting).conditions).said
+            self.assertEqual(point, (floor, Fraction(*found.value)) if isinstance(found, OptimalAnswer) else None, name)
+        self.assertEqual([step.unmet for step in steps if not step.point], [2])
+        parts = [(one, other, edge.weights) for one, other, edge in reversed(parts_of(steps))]
+        lines = (corners[0], (Fraction(1, 2), 3), (0, 1)), (corners[1], corners[0], (Fraction(1, 3), 1))
+        self.assertEqual(parts, [*lines, (corners[2], corners[1], (2, 1))])
+        self.assertEqual([steps[-1].weights, steps[-1].value], [(1, 0), Fraction(9, 5)])
+
+    def test_what_is_no_answer_under_a_floor(self):
+        setting = read_setting((EXAMPLES / "revenue-floor.toml").read_bytes())
+        stored = (EXAMPLES / "revenue-floor-2-required.csv").read_bytes()
+        changed = [read_required(stored.replace(one, other), setting) for one, other in
+                   ((b"value,44", b"value,43"), (b"row,30,0,1\n", b""), (b"least", b"most"), (b"revenue", b"welfare"))]
+        for found in (*changed, found_under(setting, [])):
+            with self.assertRaisesRegex(ValueError, "no answer under a floor"):
+                floor_step("changed", setting, found)
+        steps = [step for step in gallery.floor_steps() if step.name]
+        with self.assertRaisesRegex(ValueError, "two rules have no line"):
+            corners_of([step for step in steps if step.name != "revenue-floor-3-required"])
+        # The lines of the first and the fifth cross beyond that of the two floors between them.
+        with self.assertRaisesRegex(ValueError, "two rules have no line"):
+            corners_of(with_corners(setting, [steps[0], steps[4]]))
+
+    def test_texts_of_the_pictures_are_apart(self):
+        for chart in (Chart(self.steps()), Chart(gallery.floor_steps(), "Floor", "right: a higher floor", number)):
+            lines, boxes = [[chart.at(point) for point in chart.points]], []
+            lines += [[(chart.at((floor, chart.low[1]))[0], end) for end in (0, chart.height - 36)] for floor in chart.unmet]
+            for x, y, words, anchor in chart.texts():
+                start = x - len(words) * CHAR if anchor else x
+                boxes.append((start, y - 10, start + len(words) * CHAR, y + 3))
+                self.assertTrue(0 <= start and boxes[-1][2] <= chart.width and 0 <= y - 10 and y + 3 <= chart.height, words)
+            for one, other in itertools.combinations(boxes, 2):
+                self.assertTrue(one[2] <= other[0] or other[2] <= one[0] or one[3] <= other[1] or other[3] <= one[1], (one, other))
+            for line, box, part in itertools.product(lines, boxes, [Fraction(step, 40) for step in range(41)]):
+                for one, other in zip(line, line[1:]):
+                    x, y = (start + part * (end - start) for start, end in zip(one, other))
+                    self.assertFalse(box[0] < x < box[2] and box[1] < y < box[3], (box, x, y))
+            self.assertLess(chart.width * Fraction(4, 5), 420 - 2 * 16)
 
 
 class Pages(unittest.TestCase):

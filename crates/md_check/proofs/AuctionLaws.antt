@@ -57,7 +57,7 @@ use Rattle.md_answer.specs.declared.supply.Supply.TheVariants.{Item, Units}
 use Rattle.md_claims.specs.AuctionCertificates.{auction_certificate, point_of}
 use Rattle.md_claims.specs.AuctionClaims.{mechanism_in}
 use Rattle.md_claims.proofs.AuctionPoints.{point-length, point-nonneg, point-within, interim-back}
-use Rattle.md_question_check.specs.declared.verdict.Reject.TheVariants.{Audit, Value, Pair, Column, FaceRight, MainRight, RayRow, RayGain, Masses as OtherMass, Reduced, Level}
+use Rattle.md_question_check.specs.declared.verdict.Reject.TheVariants.{Audit, Value, Pair, Column, FaceRight, MainRight, RayRow, RayGain, Masses as OtherMass, Reduced, Level, Unmet}
 use Rattle.md_question_check.specs.declared.verdict.Verdict.{Verdict}
 use Rattle.md_question_check.specs.declared.verdict.Verdict.TheVariants.{Valid, Undecided, Rejected}
 use Rattle.md_question_check.specs.Certificates.{IsBehindPoint, Judges}
@@ -148,6 +148,7 @@ rightly-verdict a units value interim masses cuts bound (Rejected (RayGain sum))
 rightly-verdict a units value interim masses cuts bound (Rejected (Level level)) r j = (r, j)
 rightly-verdict a units value interim masses cuts bound (Rejected (OtherMass kind sum demand)) r j = absurd (never a units cuts (λ p. ⊥) j (λ p h. h))
 rightly-verdict a units value interim masses cuts bound (Rejected (Reduced row left right)) r j = absurd (never a units cuts (λ p. ⊥) j (λ p h. h))
+rightly-verdict a units value interim masses cuts bound (Rejected (Unmet unmet)) r j = (r, j)
 
 pub told-row : (a : SymmetricAuction) (units : ℕ) (value : Frac) (interim : Interim) (masses : Masses) (cuts : List ℕ) (bound : Bound) (p : Program) (row : ℕ) (left right : ℤ) → IsReducedProgram a units cuts p
     → AddUp a interim masses → IsFirstFault p (auction_certificate interim bound) (fault.Point row left right) → IsAuctionOptimalVerdict a units value interim masses cuts bound (Rejected (Reduced row left right))
@@ -189,6 +190,7 @@ optimal-sound a units p value interim masses cuts bound (Rejected (MainRight lim
 optimal-sound a units p value interim masses cuts bound (Rejected (RayRow row sum)) v h = absurd (certified-no_fault p (auction_certificate interim bound) (RayRow row sum) h.certified (v.1.holds p h.is_program))
 optimal-sound a units p value interim masses cuts bound (Rejected (RayGain sum)) v h = absurd (certified-no_fault p (auction_certificate interim bound) (RayGain sum) h.certified (v.1.holds p h.is_program))
 optimal-sound a units p value interim masses cuts bound (Rejected (Level level)) v h = absurd (certified-no_fault p (auction_certificate interim bound) (Level level) h.certified (v.1.holds p h.is_program))
+optimal-sound a units p value interim masses cuts bound (Rejected (Unmet unmet)) v h = absurd (certified-no_fault p (auction_certificate interim bound) (Unmet unmet) h.certified (v.1.holds p h.is_program))
 
 sound : (supply : Supply) (a : SymmetricAuction) (p : Program) (answer : Answer) (v : Verdict) → IsVerdictFor supply a answer v → IsSoundFor supply a p answer → v ≡ Valid
 sound supply a p (AuctionOptimal value interim masses cuts bound) v is h = optimal-sound a (units_in supply) p value interim masses cuts bound v is h

@@ -17,7 +17,7 @@ use Rattle.md_answer.specs.declared.answer.Answer.TheVariants.{Table, Optimal, I
 use Rattle.md_claims.specs.Certificates.{optimal_certificate, unbounded_certificate}
 use Rattle.md_question.specs.Best.{best_question}
 use Rattle.md_question.specs.declared.finding.Finding.TheVariants as findings
-use Rattle.md_question_check.specs.declared.verdict.Reject.TheVariants.{Audit, Value, Level}
+use Rattle.md_question_check.specs.declared.verdict.Reject.TheVariants.{Audit, Value, Level, Unmet}
 use Rattle.md_question_check.specs.declared.verdict.Verdict.{Verdict}
 use Rattle.md_question_check.specs.declared.verdict.Verdict.TheVariants.{Valid, Undecided, Rejected}
 use Rattle.md_question_check.specs.Certificates.{IsJudged}
@@ -32,6 +32,7 @@ optimal-sound : (s : GeneralSetting) (p : Program) (value : Frac) (m : Mechanism
 optimal-sound s p value m bound Valid is v h = refl
 optimal-sound s p value m bound Undecided is v h = absurd (v.2.holds p is)
 optimal-sound s p value m bound (Rejected (Audit broken)) is v h = absurd (broken-not_admissible s m 0 broken v h.admissible)
+optimal-sound s p value m bound (Rejected (Unmet unmet)) is v h = absurd v.1
 optimal-sound s p value m bound (Rejected (Value right)) is v h = absurd (v.1.other h.value)
 optimal-sound s p value m bound (Rejected (Level level)) is v h = absurd (v.1.wide (IsWithin-zero number_limit))
 optimal-sound s p value m bound (Rejected reject) is v h = absurd (certified-no_fault p (optimal_certificate s m bound) reject h.certified (v.2.holds p is))
@@ -41,6 +42,7 @@ unbounded-sound : (s : GeneralSetting) (p : Program) (m : Mechanism) (ray : List
 unbounded-sound s p m ray Valid is v h = refl
 unbounded-sound s p m ray Undecided is v h = absurd (v.2.holds p is)
 unbounded-sound s p m ray (Rejected (Audit broken)) is v h = absurd (broken-not_admissible s m 0 broken v h.admissible)
+unbounded-sound s p m ray (Rejected (Unmet unmet)) is v h = absurd v.1
 unbounded-sound s p m ray (Rejected (Level level)) is v h = absurd (v.1.wide (IsWithin-zero number_limit))
 unbounded-sound s p m ray (Rejected reject) is v h = absurd (certified-no_fault p (unbounded_certificate s m ray) reject h.certified (v.2.holds p is))
 

@@ -41,7 +41,7 @@ module _ (s : GeneralSetting) where
   only-valid (Table m) v valid judged = absurd (let other = valid in cc)
   only-valid (Optimal value m bound) v valid judged =
       sound-valid s valid.2.program (Optimal value m bound) v valid.2.is_program judged
-      (record { admissible = valid.0.admissible; value = valid.0.value; certified = valid.2.holds valid.2.program valid.2.is_program })
+      (record { admissible = valid.0.admitted; value = valid.0.value; certified = valid.2.holds valid.2.program valid.2.is_program })
   only-valid (Infeasible face) v valid judged =
       sound-valid s valid.program (Infeasible face) v valid.is_program judged (valid.holds valid.program valid.is_program)
   only-valid (Unbounded m ray) v valid judged =

@@ -57,7 +57,7 @@ pub fair-valid : (s : GeneralSetting) (p : Program) (finding : Finding) → IsFa
     → WhereUnbounded (λ mechanism ray. IsAdmissible s mechanism) finding → HasNarrowLevelIn (fair_question s) finding → IsVerdictOn (fair_question s) finding Valid
 fair-valid s p (Optimal value m bound) is shown so admissible narrow =
     let best : IsOptimalFair s m = so.0 in
-    (record { admissible = best.admissible; value = so.1 }, narrow, record { program = p; is_program = is; holds = shown })
+    (record { admitted = best.admissible; value = so.1 }, narrow, record { program = p; is_program = is; holds = shown })
 fair-valid s p (Infeasible face) is shown so admissible narrow = record { program = p; is_program = is; holds = shown }
 fair-valid s p (Unbounded m ray) is shown so admissible narrow = (admissible, narrow, record { program = p; is_program = is; holds = shown })
 
@@ -76,12 +76,12 @@ end-status status (Unbounded m ray) is steps.Infeasible h = absurd h
 end-status status (Unbounded m ray) is (steps.Unbounded column) h = is
 end-status status (Unbounded m ray) is (steps.Pivot pivot) h = absurd h
 
--- it is 10 exactly where no mechanism is admissible
-pub none-status : (s : GeneralSetting) (status : ℕ) (answer : Finding) → status ≡ status_of_finding answer → ClaimsInfeasible answer ↔ IsInfeasible s
-    → (status ≡ 10) ↔ IsInfeasible s
-none-status s status (Optimal value m bound) is h = (λ other. absurd (omega (arith, is, other)), λ none. absurd (h.1 none))
-none-status s status (Infeasible face) is h = (λ _. h.0 tt, λ _. is)
-none-status s status (Unbounded m ray) is h = (λ other. absurd (omega (arith, is, other)), λ none. absurd (h.1 none))
+-- it is 10 exactly where there is none
+pub none-status : (None : Type 0) (status : ℕ) (answer : Finding) → status ≡ status_of_finding answer → ClaimsInfeasible answer ↔ None
+    → (status ≡ 10) ↔ None
+none-status None status (Optimal value m bound) is h = (λ other. absurd (omega (arith, is, other)), λ none. absurd (h.1 none))
+none-status None status (Infeasible face) is h = (λ _. h.0 tt, λ _. is)
+none-status None status (Unbounded m ray) is h = (λ other. absurd (omega (arith, is, other)), λ none. absurd (h.1 none))
 
 -- it is 11 exactly where the leasts have no bound
 no_bound-status : (s : GeneralSetting) (status : ℕ) (answer : Finding) → status ≡ status_of_finding answer → ClaimsUnbounded answer ↔ HasNoLeastBound s
@@ -109,7 +109,7 @@ of_answer s width saying answer h is text reads =
       });
       wide = λ p program forward backward. absurd (h.wide p program forward backward);
       taken = λ p order pivots step program way. end-status saying.status answer is step (h.taken p order pivots step program way);
-      none = λ _. none-status s saying.status answer is h.none;
+      none = λ _. none-status (IsInfeasible s) saying.status answer is h.none;
       no_bound = λ _. no_bound-status s saying.status answer is h.no_bound;
     }
 

@@ -5,12 +5,11 @@ use Rattle.md_num.specs.declared.frac.Frac.{Frac}
 use Rattle.md_setting.specs.Setting.{GeneralSetting}
 use Rattle.md_mech.specs.declared.mechanism.Mechanism.{Mechanism}
 use Rattle.md_mech.specs.Accepted.{number_limit}
-use Rattle.md_mech.specs.Optimal.{IsOptimal}
-use Rattle.md_mech.specs.Value.{IsValueOf}
+use Rattle.md_mech.specs.Optimal.{IsInfeasible}
 use Rattle.md_cert.specs.declared.bound.Bound.{Bound}
 use Rattle.md_question.specs.Best.{best_question}
 use Rattle.md_question.specs.Certified.{IsCertifiedFinding}
-use Rattle.md_question.specs.Question.{Question}
+use Rattle.md_question.specs.Question.{AdmitsNone, Question}
 use Rattle.md_question.specs.declared.finding.Finding.{Finding}
 use Rattle.md_question.specs.declared.finding.Finding.TheVariants.{Optimal, Infeasible, Unbounded}
 use Rattle.md_answer.specs.Answers.{answer_of}
@@ -34,8 +33,16 @@ module _ (q : Question) (text_of : Finding → List ℕ) (Reads : List ℕ → F
       → (HasNarrowLevelIn q finding → IsVerdictOn q finding Valid) → IsFindingBy q text_of Reads saying
   said-found finding h is text reads valid = record {
     told = inl (record { finding = finding; certified = h; valid = valid; status = is; text = text; read_back = reads });
-    none = λ _. none-status q.setting saying.status finding is h.none;
+    none = λ _. none-status (AdmitsNone q) saying.status finding is h.none;
   }
+
+-- by a question whose best mechanisms are admitted, and whose values in least terms are values
+module _ (q : Question) (admitted : (m : Mechanism) → q.is_optimal m → q.admits m) (value_of : (m : Mechanism) (value : Frac) → q.is_value m value → q.has_value m value) where
+  pub certified-valid : (finding : Finding) → HasNarrowLevelIn q finding → IsCertifiedFinding q finding → IsVerdictOn q finding Valid
+  certified-valid (Optimal value m bound) narrow h =
+      (record { admitted = admitted m h.so.0; value = value_of m value h.so.1 }, narrow, record { program = h.program; is_program = h.is_program; holds = h.shown })
+  certified-valid (Infeasible face) narrow h = record { program = h.program; is_program = h.is_program; holds = h.shown }
+  certified-valid (Unbounded m ray) narrow h = (h.admitted, narrow, record { program = h.program; is_program = h.is_program; holds = h.shown })
 
 pub find-status : (status : ℕ) (finding : Finding) → status ≡ status_of_finding finding → IsFindStatus status
 find-status status (Optimal value m bound) is = inl is
@@ -46,12 +53,12 @@ find-status status (Unbounded m ray) is = inr (inr (inl is))
 
 module _ (s : GeneralSetting) where
   pub best-valid : (finding : Finding) → IsCertifiedFinding (best_question s) finding → IsVerdictOn (best_question s) finding Valid
-  best-valid (Optimal value m bound) h =
-      let best : IsOptimal s m = h.so.0 in
-      let is_value : IsValueOf s m value = h.so.1 in
-      (record { admissible = best.admissible; value = is_value.is_value }, IsWithin-zero number_limit, record { program = h.program; is_program = h.is_program; holds = h.shown })
-  best-valid (Infeasible face) h = record { program = h.program; is_program = h.is_program; holds = h.shown }
-  best-valid (Unbounded m ray) h = (h.admissible, IsWithin-zero number_limit, record { program = h.program; is_program = h.is_program; holds = h.shown })
+  best-valid finding h = certified-valid (best_question s) (λ m best. best.admissible) (λ m value is. is.is_value) finding (narrow finding) h
+    where
+      narrow : (finding : Finding) → HasNarrowLevelIn (best_question s) finding
+      narrow (Optimal value m bound) = IsWithin-zero number_limit
+      narrow (Infeasible face) = tt
+      narrow (Unbounded m ray) = IsWithin-zero number_limit
 
   valid : (finding : Finding) → IsCertifiedFinding (best_question s) finding → IsVerdict s (solved.answer_of finding) Valid
   valid (Optimal value m bound) h = best-valid (Optimal value m bound) h
@@ -77,7 +84,7 @@ module _ (s : GeneralSetting) where
       infeasible = λ other. absurd (omega (arith, is, other));
       unbounded = λ other. absurd (omega (arith, is, other));
       one_of = find-status status (Optimal value m bound) is;
-      none = λ _. none-status s status (Optimal value m bound) is h.none;
+      none = λ _. none-status (IsInfeasible s) status (Optimal value m bound) is h.none;
       no_bound = λ _. (λ other. absurd (omega (arith, is, other)), λ none. absurd (unbounded.1 none));
     }
     headline-found status (Infeasible face) h unbounded is reads = record {
@@ -85,7 +92,7 @@ module _ (s : GeneralSetting) where
       infeasible = λ _. prints-infeasible face h reads;
       unbounded = λ other. absurd (omega (arith, is, other));
       one_of = find-status status (Infeasible face) is;
-      none = λ _. none-status s status (Infeasible face) is h.none;
+      none = λ _. none-status (IsInfeasible s) status (Infeasible face) is h.none;
       no_bound = λ _. (λ other. absurd (omega (arith, is, other)), λ none. absurd (unbounded.1 none));
     }
     headline-found status (Unbounded m ray) h unbounded is reads = record {
@@ -93,6 +100,6 @@ module _ (s : GeneralSetting) where
       infeasible = λ other. absurd (omega (arith, is, other));
       unbounded = λ _. prints-unbounded m ray h reads;
       one_of = find-status status (Unbounded m ray) is;
-      none = λ _. none-status s status (Unbounded m ray) is h.none;
+      none = λ _. none-status (IsInfeasible s) status (Unbounded m ray) is h.none;
       no_bound = λ _. (λ _. unbounded.0 tt, λ _. is);
     }

@@ -50,7 +50,7 @@ pub record IsShownBy (s : GeneralSetting) (width : ℕ) (answer : Answer) : Type
 valid : (s : GeneralSetting) (width : ℕ) (answer : Answer) → IsShownBy s width answer → ¬ IsTooWide answer → IsVerdict s answer Valid
 valid s width (Table m) h narrow = absurd (h.claims tt)
 valid s width (Optimal value m bound) h narrow = (
-  record { admissible = h.optimal.admissible; value = h.value.is_value },
+  record { admitted = h.optimal.admissible; value = h.value.is_value },
   IsWithin-zero number_limit,
   record { program = h.solved.program; is_program = h.solved.is_program; holds = h.certified },
 )

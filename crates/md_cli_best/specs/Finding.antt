@@ -6,7 +6,7 @@ use Rattle.md_setting.specs.declared.file.SettingFile.{SettingFile}
 use Rattle.md_mech.specs.Optimal.{IsInfeasible}
 use Rattle.md_question.specs.Best.{best_question}
 use Rattle.md_question.specs.Certified.{IsCertifiedFinding}
-use Rattle.md_question.specs.Question.{Question}
+use Rattle.md_question.specs.Question.{AdmitsNone, Question}
 use Rattle.md_question.specs.declared.finding.Finding.{Finding}
 use Rattle.md_question_check.specs.Verdicts.{IsVerdictOn}
 use Rattle.md_question_check.specs.declared.verdict.Verdict.TheVariants.{Valid}
@@ -41,10 +41,10 @@ pub record IsNotFound (saying : Saying) : Type 0 where
   pub status : saying.status ≡ 22
   pub text : saying.text ≡ undecided_text
 
--- One of these. Where it is not 22, the status tells exactly where no mechanism is admissible.
+-- One of these. Where it is not 22, the status tells exactly where no mechanism is admitted.
 pub record IsFindingBy (q : Question) (text_of : Finding → List ℕ) (Reads : List ℕ → Finding → Type 0) (saying : Saying) : Type 0 where
   pub told : IsFound q text_of Reads saying ⊎ IsNotFound saying
-  pub none : saying.status ≢ 22 → (saying.status ≡ 10) ↔ IsInfeasible q.setting
+  pub none : saying.status ≢ 22 → (saying.status ≡ 10) ↔ AdmitsNone q
 
 -- the statuses of what is answered
 abbrev pub IsFindStatus : ℕ → Type 0

@@ -103,8 +103,8 @@ fn fairest(alloc: Global, file: &SettingFile) -> Result<Answered, NoMemory>
     }
 }
 
-// That nothing was found.
-fn not_found(alloc: Global) -> Result<Answered, NoMemory>
+/// That nothing was found.
+pub(crate) fn not_found(alloc: Global) -> Result<Answered, NoMemory>
     ensures { IfOk result (λ answered. IsNotFound (said answered)) }
 {
     Ok(Answered {

@@ -6,6 +6,7 @@ mod drill;
 mod fair;
 mod find;
 mod make;
+mod require;
 mod solve;
 
 pub use determ::Determ;
@@ -13,4 +14,5 @@ pub use drill::Drill;
 pub use fair::Fair;
 pub use find::{Find, FindFair};
 pub use make::Make;
+pub use require::{Conditions, Require};
 pub use solve::Solve;

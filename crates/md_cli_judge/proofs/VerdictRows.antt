@@ -58,7 +58,7 @@ pub told-in : (file : SettingFile) (answer : Answer) (broken : Broken) → IsVer
 told-in (General s) answer broken h = told-in_general s answer broken h
 told-in (Auction a) answer broken h = told-in_auction Item a answer broken h
 
-told-in_question : (q : Question) (finding : Finding) (broken : Broken) → IsVerdictOnFinding q finding (Rejected (Audit broken)) → broken.row < length (conditions_of q.setting)
+pub told-in_question : (q : Question) (finding : Finding) (broken : Broken) → IsVerdictOnFinding q finding (Rejected (Audit broken)) → broken.row < length (conditions_of q.setting)
 told-in_question q (findings.Optimal value m bound) broken h = first-in q.setting m broken h
 told-in_question q (findings.Infeasible face) broken h = absurd (h.holds h.program h.is_program)
 told-in_question q (findings.Unbounded m ray) broken h = first-in q.setting m broken h

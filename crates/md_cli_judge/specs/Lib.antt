@@ -3,6 +3,7 @@ pub mod Checking
 pub mod DetermVerdicts
 pub mod DetermChecking
 pub mod FairChecking
+pub mod RequireChecking
 pub mod AsymChecking
 pub mod UnitChecking
 pub mod Auditing

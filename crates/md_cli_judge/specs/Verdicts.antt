@@ -8,7 +8,7 @@ use Rattle.md_mech.specs.declared.broken.Broken.{Broken}
 use Rattle.md_mech.specs.Rows.{Condition, conditions_of}
 use Rattle.md_mech.specs.RowName.{name_of}
 use Rattle.md_question_check.specs.declared.verdict.Reject.{Reject}
-use Rattle.md_question_check.specs.declared.verdict.Reject.TheVariants.{Audit, Value, Pair, Column, FaceRight, MainRight, RayRow, RayGain, Masses, Reduced, Level}
+use Rattle.md_question_check.specs.declared.verdict.Reject.TheVariants.{Audit, Value, Pair, Column, FaceRight, MainRight, RayRow, RayGain, Masses, Reduced, Level, Unmet}
 use Rattle.md_question_check.specs.declared.verdict.Verdict.{Verdict}
 use Rattle.md_question_check.specs.declared.verdict.Verdict.TheVariants.{Valid, Undecided, Rejected}
 use Rattle.md_cli_driver.specs.Saying.{Saying}
@@ -46,6 +46,7 @@ IsRejected file (RayGain sum) fields = fields ≡ rejected (codes "8") (text_of 
 IsRejected file (Masses kind sum demand) fields = fields ≡ rejected (codes "9") (text_of (pos kind) ∷ text_of sum ∷ text_of demand ∷ [])
 IsRejected file (Reduced row left right) fields = fields ≡ rejected (codes "10") (text_of (pos row) ∷ text_of left ∷ text_of right ∷ [])
 IsRejected file (Level level) fields = fields ≡ rejected (codes "11") (text_of level ∷ [])
+IsRejected file (Unmet unmet) fields = fields ≡ rejected (codes "17") (text_of (pos unmet.condition) ∷ text_of unmet.left ∷ text_of unmet.right ∷ [])
 
 -- an answer is rejected with the record of the first condition that fails
 pub record IsRejectedSaying (file : SettingFile) (reject : Reject) (saying : Saying) : Type 0 where

@@ -8,6 +8,7 @@ mod check;
 mod determ_check;
 mod fair_check;
 mod records;
+mod require_check;
 mod unit_check;
 mod verdict_text;
 
@@ -17,4 +18,5 @@ pub use audit::Audit;
 pub use check::Check;
 pub use determ_check::DetermCheck;
 pub use fair_check::FairCheck;
+pub use require_check::RequireCheck;
 pub use unit_check::UnitCheck;

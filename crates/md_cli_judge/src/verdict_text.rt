@@ -80,6 +80,10 @@ fn rejected_record(alloc: Global, file: &SettingFile, reject: Reject) -> Result<
             .with_number(left)?
             .with_number(right),
         Reject::Level { level } => rejected_by(alloc, b"11")?.with_number(level),
+        Reject::Unmet { unmet } => rejected_by(alloc, b"17")?
+            .with_number(i128::from(unmet.condition))?
+            .with_number(unmet.left)?
+            .with_number(unmet.right),
     }
 }
 

@@ -18,6 +18,11 @@ const REACH_TREE: &str = "answer,1,determ,infeasible\nleaf,infeasible\nrow,0,1\n
 /// As the first row shows.
 const REACH_FAIR: &str = "answer,1,fair,infeasible\nrow,0,1\nend\n";
 
+/// As the first row shows, whatever the designer asks for.
+const REACH_REQUIRED: &str = "answer,1,required,infeasible\nwelfare,least,1,1\nrow,0,1\nend\n";
+
+const WELFARE: &str = "require,1\nwelfare,least,1,1\nend\n";
+
 /// The first voter decides.
 pub(crate) const FIRST_VOTER: &str =
     "answer,1,general,table\ntable,1\nlottery,l,l,1,0\nlottery,l,r,1,0\nlottery,r,l,0,1\nlottery,r,r,0,1\nend\n";
@@ -36,7 +41,7 @@ const ALWAYS: &str = "interim,1\nodds,1,1\nend\n";
 const ONE_BUYER_SALE_ANSWER: &str =
     "answer,1,asym,optimal\nvalue,5,2\ninterim,1\nodds,buyer,0,1\npays,buyer,0,3\nmass,low,0\nmass,high,1\ncut,1\ncut,2\nbound,1\nrow,2,0,1\nrow,3,0,1\nrow,5,0,1\nend\n";
 
-static FILES: [(&str, &str); 19] = [
+static FILES: [(&str, &str); 21] = [
     ("one", ONE_TYPE),
     ("one-table", ONE_TYPE_TABLE),
     ("price", POSTED_PRICE),
@@ -48,6 +53,8 @@ static FILES: [(&str, &str); 19] = [
     ("reach", OUT_OF_REACH),
     ("reach-tree", REACH_TREE),
     ("reach-fair", REACH_FAIR),
+    ("reach-required", REACH_REQUIRED),
+    ("welfare", WELFARE),
     ("buyer", ONE_BUYER),
     ("buyer-answer", ONE_BUYER_ANSWER),
     ("bidders", TWO_BIDDERS),
@@ -59,7 +66,7 @@ static FILES: [(&str, &str); 19] = [
 ];
 
 /// The calls. The last ones are refused.
-pub(crate) static CALLS: [Call; 43] = [
+pub(crate) static CALLS: [Call; 45] = [
     (&["audit", "one", "one-table"], 2, 0, "admissible\n"),
     (
         &["audit", "price", "above"],
@@ -169,6 +176,18 @@ pub(crate) static CALLS: [Call; 43] = [
     ),
     (&["determcheck", "reach", "reach-tree"], 2, 0, "valid\n"),
     (&["faircheck", "reach", "reach-fair"], 2, 0, "valid\n"),
+    (
+        &["require", "reach", "welfare"],
+        2,
+        10,
+        "answer,1,required,infeasible\nwelfare,least,1,1\nrow,",
+    ),
+    (
+        &["requirecheck", "reach", "reach-required"],
+        2,
+        0,
+        "valid\n",
+    ),
     (&["asymcheck", "sale", "sale-answer"], 2, 0, "valid\n"),
     (&["make", "2"], 0, 0, "format = \"mechanism-setting\"\n"),
     (&["drill", "2"], 0, 0, "drill,2,general,optimal,"),

@@ -64,7 +64,7 @@ static NUMBERS: [(&[&str], u8, &str); 41] = [
 ];
 
 // The same of other commands, and words that begin with none.
-static WORDS: [(&[&str], u8, &str); 38] = [
+static WORDS: [(&[&str], u8, &str); 40] = [
     (&["run", "--", "a", "b", "-l", "-3", "-1"], 70, READ),
     (&["run", "a", "b", "", "0", "7"], 70, READ),
     (&["run", "a", "b", "l", "-3", "0"], 64, USAGE),
@@ -101,6 +101,8 @@ static WORDS: [(&[&str], u8, &str); 38] = [
     (&["determ", "a", "b"], 64, USAGE),
     (&["determcheck", "a"], 64, USAGE),
     (&["faircheck", "a"], 64, USAGE),
+    (&["require", "a"], 64, USAGE),
+    (&["requirecheck", "a"], 64, USAGE),
     (&["asymcheck", "a"], 64, USAGE),
     (&["solve"], 64, USAGE),
     (&["find"], 64, USAGE),
@@ -108,7 +110,7 @@ static WORDS: [(&[&str], u8, &str); 38] = [
 ];
 
 // Widths of 4 to 62 bits, once, where a path is taken.
-static WIDTHS: [(&[&str], u8, &str); 17] = [
+static WIDTHS: [(&[&str], u8, &str); 19] = [
     (&["solve", "--width=61", "a"], 70, READ),
     (&["replay", "a", "--width", "62", "b"], 70, READ),
     (&["fair", "a", "--width", "63"], 64, USAGE),
@@ -125,6 +127,8 @@ static WIDTHS: [(&[&str], u8, &str); 17] = [
     (&["report", "a", "b", "--width", "4"], 64, USAGE),
     (&["determcheck", "a", "b", "--width", "4"], 64, USAGE),
     (&["faircheck", "a", "b", "--width", "4"], 64, USAGE),
+    (&["require", "a", "b", "--width", "4"], 64, USAGE),
+    (&["requirecheck", "a", "b", "--width", "4"], 64, USAGE),
     (&["asymcheck", "a", "b", "--width", "4"], 64, USAGE),
 ];
 

@@ -10,6 +10,8 @@
 --   find SETTING
 --   findfair SETTING
 --   faircheck SETTING ANSWER
+--   require SETTING CONDITIONS
+--   requirecheck SETTING ANSWER
 --   asym SETTING [--width W]
 --   asymcheck SETTING ANSWER
 --   units SETTING NUMBER [--width W]
@@ -28,7 +30,7 @@ use Rattle.std.specs.Prelude.{List, [], ◌∷◌, Option, Some, None, codes, if
 use Rattle.std.specs.Str.{bytes_eq}
 use Rattle.clap.specs.Words.{Text}
 use Rattle.md_cli_words.specs.declared.command.Command.{Command}
-use Rattle.md_cli_words.specs.declared.command.Command.TheVariants.{Audit, Rows, Check, Solve, Replay, Realise, Fair, Find, FindFair, FairCheck, Asym, AsymCheck, Units, UnitCheck, Threshold, Award, Determ, DetermCheck, Run, Report, Iron, IronUnits, Make, Drill}
+use Rattle.md_cli_words.specs.declared.command.Command.TheVariants.{Audit, Rows, Check, Solve, Replay, Realise, Fair, Find, FindFair, FairCheck, Require, RequireCheck, Asym, AsymCheck, Units, UnitCheck, Threshold, Award, Determ, DetermCheck, Run, Report, Iron, IronUnits, Make, Drill}
 use Rattle.md_cli_words.specs.declared.form.Form.{Form}
 use Rattle.md_cli_words.specs.declared.form.Form.TheVariants.{One, OneWidth, Two, TwoWidth, NumberWidth, OneNumber, TwoNumber, NumberDraw, Draws, Number}
 
@@ -46,6 +48,8 @@ command_named word =
     else (if bytes_eq word (codes "find") then Some Find
     else (if bytes_eq word (codes "findfair") then Some FindFair
     else (if bytes_eq word (codes "faircheck") then Some FairCheck
+    else (if bytes_eq word (codes "require") then Some Require
+    else (if bytes_eq word (codes "requirecheck") then Some RequireCheck
     else (if bytes_eq word (codes "asym") then Some Asym
     else (if bytes_eq word (codes "asymcheck") then Some AsymCheck
     else (if bytes_eq word (codes "units") then Some Units
@@ -60,7 +64,7 @@ command_named word =
     else (if bytes_eq word (codes "ironunits") then Some IronUnits
     else (if bytes_eq word (codes "make") then Some Make
     else (if bytes_eq word (codes "drill") then Some Drill
-    else None)))))))))))))))))))))))
+    else None)))))))))))))))))))))))))
 
 -- the command that the first word names; none where there is no word, or it is no name
 abbrev pub command_in : List Text → Option Command
@@ -79,6 +83,8 @@ form_of Fair = OneWidth
 form_of Find = One
 form_of FindFair = One
 form_of FairCheck = Two
+form_of Require = Two
+form_of RequireCheck = Two
 form_of Asym = OneWidth
 form_of AsymCheck = Two
 form_of Units = NumberWidth

@@ -27,6 +27,10 @@ pub enum Command {
     FindFair,
     /// `faircheck SETTING ANSWER` checks an answer about the fairest mechanism of a setting.
     FairCheck,
+    /// `require SETTING CONDITIONS` finds the best mechanism of a setting that meets conditions of the designer.
+    Require,
+    /// `requirecheck SETTING ANSWER` checks an answer about the best mechanism under such conditions.
+    RequireCheck,
     /// `asym SETTING [--width W]` solves the sale of one item to bidders who differ within a width.
     Asym,
     /// `asymcheck SETTING ANSWER` checks an answer about the best mechanism of such a sale.
@@ -79,6 +83,8 @@ fn named(word: &str) -> Option<Command>
         "find" => Some(Command::Find),
         "findfair" => Some(Command::FindFair),
         "faircheck" => Some(Command::FairCheck),
+        "require" => Some(Command::Require),
+        "requirecheck" => Some(Command::RequireCheck),
         "asym" => Some(Command::Asym),
         "asymcheck" => Some(Command::AsymCheck),
         "units" => Some(Command::Units),
@@ -108,6 +114,8 @@ pub(crate) fn form(command: Command) -> Form
         | Command::Check
         | Command::Realise
         | Command::FairCheck
+        | Command::Require
+        | Command::RequireCheck
         | Command::AsymCheck
         | Command::DetermCheck
         | Command::Report => Form::Two,

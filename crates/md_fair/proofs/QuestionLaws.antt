@@ -66,8 +66,11 @@ IsQuestion-fair s shaped = record {
   fits_point = λ p m is h narrow. point-fits_fair s p is m h narrow;
   fits_ray = λ p m pays is h r. ray-fits_fair s p is m h pays r;
   one_value = λ m v w admissible a b. one-value s m v w (above-whole s m shaped admissible) a b;
-  admissible = λ m h. h.admissible;
+  admitted = λ m h. h.admissible;
   stays = λ m pays k h. (h k).0;
+  admissible = λ m h. h;
+  met = λ m unmet h. absurd h;
+  one_unmet = λ m unmet other h. absurd h;
 }
   where
     some : 0 < agent_count s

@@ -15,7 +15,7 @@ use md_claims::{optimal_certificate, unbounded_certificate};
 use md_lp::Lp;
 use md_mech::Mechanism;
 use md_num::{Frac, NoMemory, Nums};
-use md_question::Asks;
+use md_question::{Asks, Unmet};
 use md_question_check::Checks;
 use md_setting::Setting;
 use std::alloc::Global;
@@ -52,6 +52,10 @@ impl<'a> Asks for Fairest<'a> {
 }
 
 impl<'a> Checks for Fairest<'a> {
+    fn unmet(&self, _: &Mechanism) -> Option<Unmet> {
+        None
+    }
+
     fn other_value(&self, mechanism: &Mechanism, printed: &Frac) -> Option<Frac> {
         other_least(self.setting, mechanism, printed)
     }

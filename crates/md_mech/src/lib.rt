@@ -19,4 +19,4 @@ pub use gains::worth;
 pub use mechanism::Mechanism;
 pub use names::row_name;
 pub use refusal::MechRefusal;
-pub use utilities::utility;
+pub use utilities::{chance, payment, utility};

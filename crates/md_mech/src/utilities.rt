@@ -49,9 +49,9 @@ fn expected_value(
     sum
 }
 
-/// The chance of an outcome at the reports of a rank.
+/// The chance of an outcome at the reports of a rank, in units of one over the denominator.
 #[tactic(auto, using(crate::proofs::UtilityLaws::by_rank))]
-pub(crate) fn chance(setting: &Setting, mechanism: &Mechanism, rank: u32, outcome: u32) -> i128
+pub fn chance(setting: &Setting, mechanism: &Mechanism, rank: u32, outcome: u32) -> i128
     requires accepted { IsAccepted setting.now mechanism.now }
     requires rank_in { rank < profile_count (sizes_of setting.now) }
     requires outcome_in { outcome < outcome_count setting.now }
@@ -61,9 +61,9 @@ pub(crate) fn chance(setting: &Setting, mechanism: &Mechanism, rank: u32, outcom
     mechanism.chances.get(rank as usize * setting.outcomes() as usize + outcome as usize)
 }
 
-/// What an agent pays at the reports of a rank.
+/// What an agent pays at the reports of a rank, in units of one over the denominator.
 #[tactic(auto, using(crate::proofs::UtilityLaws::by_rank))]
-pub(crate) fn payment(setting: &Setting, mechanism: &Mechanism, agent: u8, rank: u32) -> i128
+pub fn payment(setting: &Setting, mechanism: &Mechanism, agent: u8, rank: u32) -> i128
     requires accepted { IsAccepted setting.now mechanism.now }
     requires agent_in { agent < agent_count setting.now }
     requires rank_in { rank < profile_count (sizes_of setting.now) }

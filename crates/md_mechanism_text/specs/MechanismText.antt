@@ -1,4 +1,5 @@
--- The mechanism that a text says of a general setting, as an answer about the best one or about the fairest one.
+-- The mechanism that a text says of a general setting, as an answer about the best one, about the fairest one, or about the best one
+-- under conditions of the designer.
 use Rattle.std.specs.Prelude.{◌==◌, ℕ, Bool, false, List, Option, None, Some, Result, Ok, Err, if◌then◌else◌}
 use Rattle.md_setting.specs.Setting.{GeneralSetting}
 use Rattle.md_mech.specs.declared.mechanism.Mechanism.{Mechanism}
@@ -12,6 +13,8 @@ use Rattle.md_question.specs.declared.finding.Finding.TheVariants as findings
 use Rattle.md_fair.specs.declared.answer.FairAnswer.{FairAnswer}
 use Rattle.md_fair.specs.declared.answer.FairAnswer.TheVariants as fairest
 use Rattle.md_fair.specs.FairText.{fair_answer_of}
+use Rattle.md_require_text.specs.RequiredText.{required_answer_of}
+use Rattle.md_require_text.specs.Told.{Told}
 
 -- the mechanism of an answer about the best one, where it has one
 abbrev pub mechanism_of : Answer → Option Mechanism
@@ -40,20 +43,29 @@ names_another_kind (Sum line) = false
 names_another_kind (End line) = false
 names_another_kind Memory = false
 
--- what it says as an answer about the fairest mechanism
-abbrev pub fairest_or_refusal : Result FairAnswer AnswerRefusal → Result (Option Mechanism) AnswerRefusal
-fairest_or_refusal (Ok answer) = Ok (mechanism_of_fairest answer)
-fairest_or_refusal (Err e) = Err e
+-- what it says as an answer about the best mechanism under conditions
+abbrev pub required_or_refusal : Result Told AnswerRefusal → Result (Option Mechanism) AnswerRefusal
+required_or_refusal (Ok answer) = Ok (mechanism_found answer.finding)
+required_or_refusal (Err e) = Err e
 
-abbrev pub fairest_in : GeneralSetting → List ℕ → Result (Option Mechanism) AnswerRefusal
-fairest_in s bytes = fairest_or_refusal (fair_answer_of s bytes)
+abbrev pub required_in : GeneralSetting → List ℕ → Result (Option Mechanism) AnswerRefusal
+required_in s bytes = required_or_refusal (required_answer_of s bytes)
 
--- what it says as an answer about the best one, or else as one about the fairest
-abbrev pub mechanism_or_fairest : Result Answer AnswerRefusal → Result (Option Mechanism) AnswerRefusal → Result (Option Mechanism) AnswerRefusal
-mechanism_or_fairest (Ok answer) other = Ok (mechanism_of answer)
-mechanism_or_fairest (Err e) other = if names_another_kind e then other else Err e
+-- what it says as an answer about the fairest one, or else as another
+abbrev pub fairest_or_other : Result FairAnswer AnswerRefusal → Result (Option Mechanism) AnswerRefusal → Result (Option Mechanism) AnswerRefusal
+fairest_or_other (Ok answer) other = Ok (mechanism_of_fairest answer)
+fairest_or_other (Err e) other = if names_another_kind e then other else Err e
+
+abbrev pub other_kind_in : GeneralSetting → List ℕ → Result (Option Mechanism) AnswerRefusal
+other_kind_in s bytes = fairest_or_other (fair_answer_of s bytes) (required_in s bytes)
+
+-- what it says as an answer about the best one, or else as another
+abbrev pub best_or_other : Result Answer AnswerRefusal → Result (Option Mechanism) AnswerRefusal → Result (Option Mechanism) AnswerRefusal
+best_or_other (Ok answer) other = Ok (mechanism_of answer)
+best_or_other (Err e) other = if names_another_kind e then other else Err e
 
 -- The mechanism of the answer that a text says, if that has one, or the first reason to refuse the text. A text whose first record
--- names another kind than that of answers about the best mechanism is read as one about the fairest.
+-- names another kind than that of answers about the best mechanism is read as one about the fairest, and else as one about the best
+-- under conditions.
 abbrev pub mechanism_text_of : GeneralSetting → List ℕ → Result (Option Mechanism) AnswerRefusal
-mechanism_text_of s bytes = mechanism_or_fairest (answer_of s bytes) (fairest_in s bytes)
+mechanism_text_of s bytes = best_or_other (answer_of s bytes) (other_kind_in s bytes)

@@ -1,5 +1,5 @@
 //! Reading the mechanism of an answer.
-ghost use Rattle.std.specs.Prelude.{◌≡◌, ◌≢◌, Ok, Err, IfOk, IfSome, MatchResult};
+ghost use Rattle.std.specs.Prelude.{◌≡◌, ◌≢◌, Ok, Err, List, IfOk, IfSome, MatchResult};
 ghost use Rattle.md_setting.specs.Setting.{GeneralSetting};
 ghost use Rattle.md_setting.specs.ByKind.{IsGeneral, WhereGeneral};
 ghost use Rattle.md_mech.specs.Accepted.{IsAccepted};
@@ -7,18 +7,21 @@ ghost use Rattle.md_answer.specs.AnswerTo.{IsAnswerTo};
 ghost use Rattle.md_question.specs.Shown.{IsFindingTo};
 ghost use Rattle.md_fair.specs.FairQuestion.{fair_question};
 ghost use Rattle.md_fair.specs.FairRows.{IsFairAnswer};
-ghost use Rattle.md_mechanism_text.specs.MechanismText.{fairest_in, mechanism_found, mechanism_of, mechanism_of_fairest, mechanism_text_of, names_another_kind};
+ghost use Rattle.md_require.specs.declared.condition.Condition.{Condition};
+ghost use Rattle.md_require.specs.RequireQuestion.{require_question};
+ghost use Rattle.md_mechanism_text.specs.MechanismText.{mechanism_found, mechanism_of, mechanism_of_fairest, mechanism_text_of, names_another_kind, other_kind_in, required_in};
 
 use md_answer::{Answer, read_answer};
 use md_fair::{FairAnswer, read_fair};
 use md_mech::Mechanism;
 use md_parts::AnswerRefusal;
 use md_question::Finding;
+use md_require_text::read_required;
 use md_setting::{Setting, SettingFile};
 use std::alloc::Global;
 
-/// Reads the mechanism of an answer about the general setting of a file, if the answer has one: it is about the best mechanism, or
-/// about the fairest one.
+/// Reads the mechanism of an answer about the general setting of a file, if the answer has one: it is about the best mechanism, about
+/// the fairest one, or about the best one under conditions of the designer.
 ///
 /// # Errors
 /// The first record that may not stand there, has a wrong field or does not add to what it must, that no end stands
@@ -39,7 +42,7 @@ pub fn read_mechanism_text(
     match file {
         SettingFile::General(setting) => match read_answer(alloc, bytes, file) {
             Ok(answer) => Ok(mechanism_of(answer)),
-            Err(refusal) if names_another_kind(refusal) => read_fairest(alloc, bytes, setting),
+            Err(refusal) if names_another_kind(refusal) => read_other_kind(alloc, bytes, setting),
             Err(refusal) => Err(refusal),
         },
         SettingFile::Auction(_) => unreachable!(),
@@ -53,18 +56,37 @@ fn names_another_kind(refusal: AnswerRefusal) -> bool
     matches!(refusal, AnswerRefusal::Cell(1, 3))
 }
 
-// The mechanism of an answer about the fairest one.
-fn read_fairest(
+// The mechanism of an answer about the fairest one, or about the best one under conditions.
+fn read_other_kind(
     alloc: Global,
     bytes: &[u8],
     setting: &Setting,
 ) -> Result<Option<Mechanism>, AnswerRefusal>
     ensures reads { MatchResult result
-        (λ found. fairest_in setting.now bytes.now ≡ Ok found)
-        (λ refusal. refusal ≢ AnswerRefusal.Memory → fairest_in setting.now bytes.now ≡ Err refusal) }
+        (λ found. other_kind_in setting.now bytes.now ≡ Ok found)
+        (λ refusal. refusal ≢ AnswerRefusal.Memory → other_kind_in setting.now bytes.now ≡ Err refusal) }
     ensures accepted { IfOk result (λ found. IfSome found (IsAccepted setting.now)) }
 {
-    Ok(mechanism_of_fairest(read_fair(alloc, bytes, setting)?))
+    match read_fair(alloc, bytes, setting) {
+        Ok(answer) => Ok(mechanism_of_fairest(answer)),
+        Err(refusal) if names_another_kind(refusal) => read_best_required(alloc, bytes, setting),
+        Err(refusal) => Err(refusal),
+    }
+}
+
+// The mechanism of an answer about the best one under conditions.
+fn read_best_required(
+    alloc: Global,
+    bytes: &[u8],
+    setting: &Setting,
+) -> Result<Option<Mechanism>, AnswerRefusal>
+    ensures reads { MatchResult result
+        (λ found. required_in setting.now bytes.now ≡ Ok found)
+        (λ refusal. refusal ≢ AnswerRefusal.Memory → required_in setting.now bytes.now ≡ Err refusal) }
+    ensures accepted { IfOk result (λ found. IfSome found (IsAccepted setting.now)) }
+{
+    let answer = read_required(alloc, bytes, setting)?;
+    Ok(mechanism_found(answer.into_finding()))
 }
 
 // The mechanism of an answer about the best one, where it has one.
@@ -114,6 +136,7 @@ fn mechanism_of_fairest(answer: FairAnswer) -> Option<Mechanism>
 fn mechanism_found(finding: Finding) -> Option<Mechanism>
     ensures given { result ≡ mechanism_found finding }
     ensures accepted { (s : GeneralSetting) → IsFindingTo (fair_question s) finding → IfSome result (IsAccepted s) }
+    ensures required { (s : GeneralSetting) (conditions : List Condition) → IsFindingTo (require_question s conditions) finding → IfSome result (IsAccepted s) }
 {
     match finding {
         Finding::Optimal {

@@ -62,6 +62,9 @@ IsQuestion-best s shaped = record {
   fits_point = λ p m is h narrow. point-fits s p m is.columns h;
   fits_ray = λ p m pays is h r. (fits-unbounded s p m pays is.columns h r).2;
   one_value = λ m v w admissible a b. one-value s m v w (total-positive s shaped) admissible a b;
-  admissible = λ m h. h.admissible;
+  admitted = λ m h. h.admissible;
   stays = λ m pays k h. (h k).0;
+  admissible = λ m h. h;
+  met = λ m unmet h. absurd h;
+  one_unmet = λ m unmet other h. absurd h;
 }

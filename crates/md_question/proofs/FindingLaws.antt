@@ -4,15 +4,14 @@ use Rattle.md_math.specs.Lists.{number_at}
 use Rattle.md_math.proofs.Builders.{list_to-same, list_to-get_or}
 use Rattle.md_math.proofs.Ring.{linear, zero-*ℤ}
 use Rattle.md_mech.specs.declared.mechanism.Mechanism.{Mechanism}
-use Rattle.md_mech.specs.Admissible.{IsAdmissible}
-use Rattle.md_mech.specs.Optimal.{IsInfeasible, raised}
+use Rattle.md_mech.specs.Optimal.{raised}
 use Rattle.md_lp.specs.Program.{Program, row_count}
 use Rattle.md_cert.proofs.SameCertificates.{certified-same}
 use Rattle.md_forms.proofs.BuiltLaws.{rows-count}
 use Rattle.md_forms.proofs.OneProgram as forms
 use Rattle.md_lp.proofs.SamePrograms.{IsSameProgram}
 use Rattle.md_question.specs.Findings.{ClaimsInfeasible, WhereInfeasible, WhereOptimal, WhereUnbounded}
-use Rattle.md_question.specs.Question.{IsProgramFor, IsQuestion, Question}
+use Rattle.md_question.specs.Question.{AdmitsNone, IsProgramFor, IsQuestion, Question}
 use Rattle.md_question.specs.Shown.{IsShown, IsSo, certificate_of}
 use Rattle.md_question.specs.declared.finding.Finding.{Finding}
 use Rattle.md_question.specs.declared.finding.Finding.TheVariants.{Optimal, Infeasible, Unbounded}
@@ -48,7 +47,7 @@ module _ (q : Question) where
   so-value (Infeasible face) h = tt
   so-value (Unbounded m ray) h = tt
 
-  pub so-infeasible : (finding : Finding) → IsSo q finding → WhereInfeasible (λ face. IsInfeasible q.setting) finding
+  pub so-infeasible : (finding : Finding) → IsSo q finding → WhereInfeasible (λ face. AdmitsNone q) finding
   so-infeasible (Optimal value m bound) h = tt
   so-infeasible (Infeasible face) h = h
   so-infeasible (Unbounded m ray) h = tt
@@ -59,14 +58,14 @@ module _ (q : Question) where
   so-unbounded (Unbounded m ray) h = h
 
   module _ (laws : IsQuestion q) where
-    pub so-admissible : (finding : Finding) → IsSo q finding → WhereUnbounded (λ m ray. IsAdmissible q.setting m) finding
-    so-admissible (Optimal value m bound) h = tt
-    so-admissible (Infeasible face) h = tt
-    so-admissible (Unbounded m ray) h = subst (IsAdmissible q.setting) (none-raised m ray) (laws.stays m ray 0 h)
+    pub so-admitted : (finding : Finding) → IsSo q finding → WhereUnbounded (λ m ray. q.admits m) finding
+    so-admitted (Optimal value m bound) h = tt
+    so-admitted (Infeasible face) h = tt
+    so-admitted (Unbounded m ray) h = subst q.admits (none-raised m ray) (laws.stays m ray 0 h)
 
     -- infeasibility is claimed wherever it is so
-    pub exactly_infeasible : (finding : Finding) → IsSo q finding → ClaimsInfeasible finding ↔ IsInfeasible q.setting
-    exactly_infeasible (Optimal value m bound) h = (λ none. absurd none, λ none. none m (laws.admissible m h.0))
+    pub exactly_infeasible : (finding : Finding) → IsSo q finding → ClaimsInfeasible finding ↔ AdmitsNone q
+    exactly_infeasible (Optimal value m bound) h = (λ none. absurd none, λ none. none m (laws.admitted m h.0))
     exactly_infeasible (Infeasible face) h = (λ _. h, λ _. tt)
     exactly_infeasible (Unbounded m ray) h = (λ none. absurd none, λ none. none (raised m 0 ray) (laws.stays m ray 0 h))
 

@@ -1,19 +1,18 @@
 -- What a finding claims, what shows it, and what it must be to be written.
 use Rattle.md_mech.specs.Accepted.{IsAccepted}
-use Rattle.md_mech.specs.Optimal.{IsInfeasible}
 use Rattle.md_lp.specs.Program.{Program}
 use Rattle.md_cert.specs.Certified.{Certified}
 use Rattle.md_cert.specs.declared.certificate.Certificate.{Certificate}
 use Rattle.md_cert.specs.declared.certificate.Certificate.TheVariants as certificates
 use Rattle.md_parts.specs.Fitting.{AreMultipliers, IsBoundOver, IsFraction, IsRayFor}
-use Rattle.md_question.specs.Question.{Question, optimal_certificate, unbounded_certificate}
+use Rattle.md_question.specs.Question.{AdmitsNone, Question, optimal_certificate, unbounded_certificate}
 use Rattle.md_question.specs.declared.finding.Finding.{Finding}
 use Rattle.md_question.specs.declared.finding.Finding.TheVariants.{Optimal, Infeasible, Unbounded}
 
 -- what it claims is so, over mechanisms of any denominator
 abbrev pub IsSo : Question → Finding → Type 0
 IsSo q (Optimal value m bound) = q.is_optimal m × q.is_value m value
-IsSo q (Infeasible face) = IsInfeasible q.setting
+IsSo q (Infeasible face) = AdmitsNone q
 IsSo q (Unbounded m ray) = q.grows m ray
 
 -- what its numbers say as a certificate of the question's program

@@ -12,7 +12,7 @@ pub enum Finding {
         mechanism: Mechanism,
         bound: Bound,
     },
-    /// Multipliers of the rows of the question's program that show that no mechanism is admissible.
+    /// Multipliers of the rows of the question's program that show that no mechanism is admitted.
     Infeasible {
         face: Nums,
     },

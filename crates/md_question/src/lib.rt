@@ -7,6 +7,8 @@
 
 mod asks;
 mod finding;
+mod unmet;
 
 pub use asks::Asks;
 pub use finding::Finding;
+pub use unmet::Unmet;

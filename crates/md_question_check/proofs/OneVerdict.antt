@@ -23,12 +23,12 @@ use Rattle.md_parts.specs.Fitting.{IsBoundOver}
 use Rattle.md_question.specs.Question.{IsProgramFor, IsQuestion, Question, optimal_certificate, unbounded_certificate}
 use Rattle.md_question.proofs.OneFraction.{one_fraction}
 use Rattle.md_question_check.specs.declared.verdict.Reject.{Reject}
-use Rattle.md_question_check.specs.declared.verdict.Reject.TheVariants.{Audit, Value, Pair, Column, FaceRight, MainRight, RayRow, RayGain, Masses, Reduced, Level}
+use Rattle.md_question_check.specs.declared.verdict.Reject.TheVariants.{Audit, Value, Pair, Column, FaceRight, MainRight, RayRow, RayGain, Masses, Reduced, Level, Unmet}
 use Rattle.md_question_check.specs.declared.verdict.Verdict.{Verdict}
 use Rattle.md_question_check.specs.declared.verdict.Verdict.TheVariants.{Valid, Undecided, Rejected}
 use Rattle.md_question_check.specs.Programs.{OfProgram}
 use Rattle.md_question_check.specs.Certificates.{TellsFault, Judges}
-use Rattle.md_question_check.specs.Verdicts.{IsOptimalVerdict, IsUnboundedVerdict}
+use Rattle.md_question_check.specs.Verdicts.{IsOptimalVerdict, IsUnboundedVerdict, TellsNotAdmitted}
 use Rattle.md_question_check.proofs.VerdictLaws.{certified-no_fault}
 
 -- ---- numbers that are told
@@ -96,11 +96,13 @@ one-told p c (Value right) b d h k = absurd h
 one-told p c (Masses kind sum demand) b d h k = absurd h
 one-told p c (Reduced row left right) b d h k = absurd h
 one-told p c (Level level) b d h k = absurd h
+one-told p c (Unmet unmet) b d h k = absurd h
 one-told p c a (Audit broken) d h k = absurd k
 one-told p c a (Value right) d h k = absurd k
 one-told p c a (Masses kind sum demand) d h k = absurd k
 one-told p c a (Reduced row left right) d h k = absurd k
 one-told p c a (Level level) d h k = absurd k
+one-told p c a (Unmet unmet) d h k = absurd k
 one-told p (certificate.Optimal den point bound) (Pair r f m) (Pair q g n) d h k = pair-one p (number_at bound.face) (number_at bound.main) r q f g m n h.1 k.1
 one-told p (certificate.Optimal den point bound) (Pair r f m) b d h k = absurd (pair-none p (number_at bound.face) (number_at bound.main) r f m h.1 k.1)
 one-told p (certificate.Optimal den point bound) a (Pair q g n) d h k = absurd (pair-none p (number_at bound.face) (number_at bound.main) q g n k.1 h.1)
@@ -170,7 +172,7 @@ same_tail : {X : Type 0} (x y : X) (xs ys : List X) → x ∷ xs ≡ y ∷ ys �
 same_tail x y xs ys e = cc
 
 -- what is not so comes first behind as many, and is the same
-one-split : {X : Type 0} (P : X → Type 0) (before front : List X) (x y : X) (after behind : List X) → before ++ x ∷ after ≡ front ++ y ∷ behind → All P before → All P front → ¬ P x → ¬ P y
+pub one-split : {X : Type 0} (P : X → Type 0) (before front : List X) (x y : X) (after behind : List X) → before ++ x ∷ after ≡ front ++ y ∷ behind → All P before → All P front → ¬ P x → ¬ P y
     → (length before ≡ length front) × (x ≡ y)
 one-split P [] [] x y after behind e h k not_x not_y = (refl, same_head x y after behind e)
 one-split P [] (b ∷ front) x y after behind e h k not_x not_y =
@@ -199,30 +201,54 @@ one-broken s m rows start a b h k =
 
 -- ---- the verdict on a mechanism
 
-module _ (q : Question) (m : Mechanism) where
-  both-broken : (a b : Broken) → IsFirstBroken q.setting m (conditions_of q.setting) 0 a → IsFirstBroken q.setting m (conditions_of q.setting) 0 b → Rejected (Audit a) ≡ Rejected (Audit b)
-  both-broken a b h k = ap (λ x. Rejected (Audit x)) (one-broken q.setting m (conditions_of q.setting) 0 a b h k)
+module _ (q : Question) (m : Mechanism) (laws : IsQuestion q) where
+  -- where a condition on it fails, it is not admitted
+  not-admitted : (a : Reject) → TellsNotAdmitted q m a → ¬ q.admits m
+  not-admitted (Audit broken) h admitted = broken-not_admissible q.setting m 0 broken h (laws.admissible m admitted)
+  not-admitted (Unmet unmet) h admitted = laws.met m unmet h.1 admitted
+  not-admitted _ h admitted = h
+
+  one-not_admitted : (a b : Reject) → TellsNotAdmitted q m a → TellsNotAdmitted q m b → Rejected a ≡ Rejected b
+  one-not_admitted (Audit a) (Audit b) h k = ap (λ x. Rejected (Audit x)) (one-broken q.setting m (conditions_of q.setting) 0 a b h k)
+  one-not_admitted (Audit a) (Unmet b) h k = absurd (broken-not_admissible q.setting m 0 a h k.0)
+  one-not_admitted (Unmet a) (Audit b) h k = absurd (broken-not_admissible q.setting m 0 b k h.0)
+  one-not_admitted (Unmet a) (Unmet b) h k = ap (λ x. Rejected (Unmet x)) (laws.one_unmet m a b h.1 k.1)
+  one-not_admitted (Audit a) _ h k = absurd k
+  one-not_admitted (Unmet a) _ h k = absurd k
+  one-not_admitted _ b h k = absurd h
 
   -- with its value and multipliers
-  pub one-optimal : IsQuestion q → IsAccepted q.setting m → (value : Frac) (bound : Bound) → IsBoundOver q.rows bound → (v w : Verdict) → IsOptimalVerdict q value m bound v → IsOptimalVerdict q value m bound w → v ≡ w
-  one-optimal laws fits value bound over (Rejected (Audit a)) (Rejected (Audit b)) h k = both-broken a b h k
-  one-optimal laws fits value bound over (Rejected (Audit a)) (Rejected (Value b)) h k = absurd (broken-not_admissible q.setting m 0 a h k.0)
-  one-optimal laws fits value bound over (Rejected (Audit a)) w h k = absurd (broken-not_admissible q.setting m 0 a h k.0.admissible)
-  one-optimal laws fits value bound over (Rejected (Value a)) (Rejected (Audit b)) h k = absurd (broken-not_admissible q.setting m 0 b k h.0)
-  one-optimal laws fits value bound over (Rejected (Value a)) (Rejected (Value b)) h k = ap (λ x. Rejected (Value x)) (laws.one_value m a b h.0 h.1.right k.1.right)
-  one-optimal laws fits value bound over (Rejected (Value a)) w h k = absurd (h.1.other k.0.value)
-  one-optimal laws fits value bound over v (Rejected (Audit b)) h k = absurd (broken-not_admissible q.setting m 0 b k h.0.admissible)
-  one-optimal laws fits value bound over v (Rejected (Value b)) h k = absurd (k.1.other h.0.value)
-  one-optimal laws fits value bound over (Rejected (Level a)) (Rejected (Level b)) h k = ap (λ x. Rejected (Level x)) (h.1.is ∙ sym k.1.is)
-  one-optimal laws fits value bound over (Rejected (Level a)) w h k = absurd (h.1.wide k.1)
-  one-optimal laws fits value bound over v (Rejected (Level b)) h k = absurd (k.1.wide h.1)
-  one-optimal laws fits value bound over v w h k = one-judged (IsProgramFor q) (optimal_certificate q m bound) v w ((let one : pos 1 ≤ℤ m.den = fits.mechanism.den in omega (arith, ints)), over.den.positive) h.2 k.2
+  pub one-optimal : IsAccepted q.setting m → (value : Frac) (bound : Bound) → IsBoundOver q.rows bound → (v w : Verdict) → IsOptimalVerdict q value m bound v → IsOptimalVerdict q value m bound w → v ≡ w
+  one-optimal fits value bound over (Rejected (Audit a)) (Rejected (Audit b)) h k = one-not_admitted (Audit a) (Audit b) h k
+  one-optimal fits value bound over (Rejected (Audit a)) (Rejected (Unmet b)) h k = one-not_admitted (Audit a) (Unmet b) h k
+  one-optimal fits value bound over (Rejected (Audit a)) (Rejected (Value b)) h k = absurd (not-admitted (Audit a) h k.0)
+  one-optimal fits value bound over (Rejected (Audit a)) w h k = absurd (not-admitted (Audit a) h k.0.admitted)
+  one-optimal fits value bound over (Rejected (Unmet a)) (Rejected (Audit b)) h k = one-not_admitted (Unmet a) (Audit b) h k
+  one-optimal fits value bound over (Rejected (Unmet a)) (Rejected (Unmet b)) h k = one-not_admitted (Unmet a) (Unmet b) h k
+  one-optimal fits value bound over (Rejected (Unmet a)) (Rejected (Value b)) h k = absurd (not-admitted (Unmet a) h k.0)
+  one-optimal fits value bound over (Rejected (Unmet a)) w h k = absurd (not-admitted (Unmet a) h k.0.admitted)
+  one-optimal fits value bound over (Rejected (Value a)) (Rejected (Audit b)) h k = absurd (not-admitted (Audit b) k h.0)
+  one-optimal fits value bound over (Rejected (Value a)) (Rejected (Unmet b)) h k = absurd (not-admitted (Unmet b) k h.0)
+  one-optimal fits value bound over (Rejected (Value a)) (Rejected (Value b)) h k = ap (λ x. Rejected (Value x)) (laws.one_value m a b h.0 h.1.right k.1.right)
+  one-optimal fits value bound over (Rejected (Value a)) w h k = absurd (h.1.other k.0.value)
+  one-optimal fits value bound over v (Rejected (Audit b)) h k = absurd (not-admitted (Audit b) k h.0.admitted)
+  one-optimal fits value bound over v (Rejected (Unmet b)) h k = absurd (not-admitted (Unmet b) k h.0.admitted)
+  one-optimal fits value bound over v (Rejected (Value b)) h k = absurd (k.1.other h.0.value)
+  one-optimal fits value bound over (Rejected (Level a)) (Rejected (Level b)) h k = ap (λ x. Rejected (Level x)) (h.1.is ∙ sym k.1.is)
+  one-optimal fits value bound over (Rejected (Level a)) w h k = absurd (h.1.wide k.1)
+  one-optimal fits value bound over v (Rejected (Level b)) h k = absurd (k.1.wide h.1)
+  one-optimal fits value bound over v w h k = one-judged (IsProgramFor q) (optimal_certificate q m bound) v w ((let one : pos 1 ≤ℤ m.den = fits.mechanism.den in omega (arith, ints)), over.den.positive) h.2 k.2
 
   -- with payments that are added
   pub one-unbounded : (ray : List ℤ) (v w : Verdict) → IsUnboundedVerdict q m ray v → IsUnboundedVerdict q m ray w → v ≡ w
-  one-unbounded ray (Rejected (Audit a)) (Rejected (Audit b)) h k = both-broken a b h k
-  one-unbounded ray (Rejected (Audit a)) w h k = absurd (broken-not_admissible q.setting m 0 a h k.0)
-  one-unbounded ray v (Rejected (Audit b)) h k = absurd (broken-not_admissible q.setting m 0 b k h.0)
+  one-unbounded ray (Rejected (Audit a)) (Rejected (Audit b)) h k = one-not_admitted (Audit a) (Audit b) h k
+  one-unbounded ray (Rejected (Audit a)) (Rejected (Unmet b)) h k = one-not_admitted (Audit a) (Unmet b) h k
+  one-unbounded ray (Rejected (Audit a)) w h k = absurd (not-admitted (Audit a) h k.0)
+  one-unbounded ray (Rejected (Unmet a)) (Rejected (Audit b)) h k = one-not_admitted (Unmet a) (Audit b) h k
+  one-unbounded ray (Rejected (Unmet a)) (Rejected (Unmet b)) h k = one-not_admitted (Unmet a) (Unmet b) h k
+  one-unbounded ray (Rejected (Unmet a)) w h k = absurd (not-admitted (Unmet a) h k.0)
+  one-unbounded ray v (Rejected (Audit b)) h k = absurd (not-admitted (Audit b) k h.0)
+  one-unbounded ray v (Rejected (Unmet b)) h k = absurd (not-admitted (Unmet b) k h.0)
   one-unbounded ray (Rejected (Level a)) (Rejected (Level b)) h k = ap (λ x. Rejected (Level x)) (h.1.is ∙ sym k.1.is)
   one-unbounded ray (Rejected (Level a)) w h k = absurd (h.1.wide k.1)
   one-unbounded ray v (Rejected (Level b)) h k = absurd (k.1.wide h.1)

@@ -11,7 +11,7 @@ use Rattle.md_cert.specs.Certified.{PairHolds, ColumnHolds, FaceHolds, FaceSumHo
 use Rattle.md_cert.specs.Fault.{BreaksRow, BreaksPair, BreaksFace, BreaksColumn, BreaksFaceSum, BreaksRay, MeetsRows, HasPairs, HasColumns, HasFaces, HasFaceSums, HasRays}
 use Rattle.md_cert.proofs.SameCertificates.{certified-same}
 use Rattle.md_question_check.specs.declared.verdict.Reject.{Reject}
-use Rattle.md_question_check.specs.declared.verdict.Reject.TheVariants.{Audit, Value, Pair, Column, FaceRight, MainRight, RayRow, RayGain, Masses, Reduced, Level}
+use Rattle.md_question_check.specs.declared.verdict.Reject.TheVariants.{Audit, Value, Pair, Column, FaceRight, MainRight, RayRow, RayGain, Masses, Reduced, Level, Unmet}
 use Rattle.md_question_check.specs.declared.verdict.Verdict.{Verdict}
 use Rattle.md_question_check.specs.declared.verdict.Verdict.TheVariants.{Valid, Undecided, Rejected}
 use Rattle.md_question_check.specs.Certificates.{TellsFault, Judges}
@@ -191,6 +191,7 @@ told-to p q c (Value right) h t = absurd t
 told-to p q c (Masses kind sum demand) h t = absurd t
 told-to p q c (Reduced row left right) h t = absurd t
 told-to p q c (Level level) h t = absurd t
+told-to p q c (Unmet unmet) h t = absurd t
 
 pub judges-to : (p q : Program) (c : Certificate) (v : Verdict) → IsSameProgram q p → Judges p c v → Judges q c v
 judges-to p q c Valid h j = certified-same p q (IsSameProgram-sym q p h) c j

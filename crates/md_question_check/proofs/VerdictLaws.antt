@@ -8,9 +8,7 @@ use Rattle.md_num.specs.declared.frac.Frac.{Frac}
 use Rattle.md_setting.specs.Setting.{GeneralSetting}
 use Rattle.md_mech.specs.declared.mechanism.Mechanism.{Mechanism}
 use Rattle.md_mech.specs.Accepted.{IsAccepted}
-use Rattle.md_mech.specs.Admissible.{IsAdmissible}
 use Rattle.md_mech.specs.Mechanism.{IsMechanism}
-use Rattle.md_mech.specs.Optimal.{IsInfeasible}
 use Rattle.md_mech.specs.Value.{HasValue}
 use Rattle.md_lp.specs.Program.{Program, row_count}
 use Rattle.md_cert.specs.declared.bound.Bound.{Bound}
@@ -24,16 +22,16 @@ use Rattle.md_rows.specs.Points.{mechanism_of}
 use Rattle.md_claims.specs.Values as values
 use Rattle.md_claims.proofs.FitLaws.{fits-rows}
 use Rattle.md_question.specs.Best.{best_question}
-use Rattle.md_question.specs.Question.{IsProgramFor, IsQuestion, Question, optimal_certificate, unbounded_certificate}
+use Rattle.md_question.specs.Question.{AdmitsNone, IsProgramFor, IsQuestion, Question, optimal_certificate, unbounded_certificate}
 use Rattle.md_question.specs.declared.finding.Finding.{Finding}
 use Rattle.md_question.specs.declared.finding.Finding.TheVariants.{Optimal, Infeasible, Unbounded}
 use Rattle.md_question.proofs.FindingLaws.{program-rows, same_program}
 use Rattle.md_question_check.specs.declared.verdict.Reject.{Reject}
-use Rattle.md_question_check.specs.declared.verdict.Reject.TheVariants.{Audit, Value, Pair, Column, FaceRight, MainRight, RayRow, RayGain, Masses, Reduced, Level}
+use Rattle.md_question_check.specs.declared.verdict.Reject.TheVariants.{Audit, Value, Pair, Column, FaceRight, MainRight, RayRow, RayGain, Masses, Reduced, Level, Unmet}
 use Rattle.md_question_check.specs.declared.verdict.Verdict.{Verdict}
 use Rattle.md_question_check.specs.declared.verdict.Verdict.TheVariants.{Valid, Undecided, Rejected}
 use Rattle.md_question_check.specs.Certificates.{IsJudged, Judges, TellsFault}
-use Rattle.md_question_check.specs.Verdicts.{HasNarrowLevel, IsOptimalVerdict, IsOtherValue, IsRightly, IsUnboundedVerdict, IsVerdictOn}
+use Rattle.md_question_check.specs.Verdicts.{HasNarrowLevel, IsOptimalVerdict, IsOtherValue, IsRightly, IsUnboundedVerdict, IsVerdictOn, TellsNotAdmitted}
 use Rattle.md_question_check.proofs.SameVerdict.{judges-to}
 
 -- ---- what is certified has no fault
@@ -50,6 +48,7 @@ certified-no_fault p c (Value right) h t = t
 certified-no_fault p c (Masses kind sum demand) h t = t
 certified-no_fault p c (Reduced row left right) h t = t
 certified-no_fault p c (Level level) h t = t
+certified-no_fault p c (Unmet unmet) h t = t
 certified-no_fault p (certificates.Optimal den point bound) (Pair row f m) h t =
     HoldsBelow-no_failure (PairHolds p (number_at bound.face) (number_at bound.main)) (row_count p) row h.pairs t.1.first
 certified-no_fault p (certificates.Optimal den point bound) (Column column f m) h t =
@@ -95,12 +94,25 @@ module _ (q : Question) where
   optimal-verdict value m bound (Rejected (Audit broken)) r n j = absurd (never (optimal_certificate q m bound) (Rejected (Audit broken)) j (λ p h. h))
   optimal-verdict value m bound (Rejected (Value right)) r n j = absurd (never (optimal_certificate q m bound) (Rejected (Value right)) j (λ p h. h))
   optimal-verdict value m bound (Rejected (Level level)) r n j = absurd (never (optimal_certificate q m bound) (Rejected (Level level)) j (λ p h. h))
+  optimal-verdict value m bound (Rejected (Unmet unmet)) r n j = absurd (never (optimal_certificate q m bound) (Rejected (Unmet unmet)) j (λ p h. h))
   optimal-verdict value m bound _ r n j = (r, n, j)
 
-  pub unbounded-verdict : (m : Mechanism) (ray : List ℤ) (v : Verdict) → IsAdmissible q.setting m → HasNarrowLevel q m → IsJudged q (unbounded_certificate q m ray) v → IsUnboundedVerdict q m ray v
+  pub unbounded-verdict : (m : Mechanism) (ray : List ℤ) (v : Verdict) → q.admits m → HasNarrowLevel q m → IsJudged q (unbounded_certificate q m ray) v → IsUnboundedVerdict q m ray v
   unbounded-verdict m ray (Rejected (Audit broken)) a n j = absurd (never (unbounded_certificate q m ray) (Rejected (Audit broken)) j (λ p h. h))
   unbounded-verdict m ray (Rejected (Level level)) a n j = absurd (never (unbounded_certificate q m ray) (Rejected (Level level)) j (λ p h. h))
+  unbounded-verdict m ray (Rejected (Unmet unmet)) a n j = absurd (never (unbounded_certificate q m ray) (Rejected (Unmet unmet)) j (λ p h. h))
   unbounded-verdict m ray _ a n j = (a, n, j)
+
+  -- the verdict on a mechanism that is not admitted
+  pub not-admitted_optimal : (value : Frac) (m : Mechanism) (bound : Bound) (reject : Reject) → TellsNotAdmitted q m reject → IsOptimalVerdict q value m bound (Rejected reject)
+  not-admitted_optimal value m bound (Audit broken) h = h
+  not-admitted_optimal value m bound (Unmet unmet) h = h
+  not-admitted_optimal value m bound _ h = absurd h
+
+  pub not-admitted_unbounded : (m : Mechanism) (ray : List ℤ) (reject : Reject) → TellsNotAdmitted q m reject → IsUnboundedVerdict q m ray (Rejected reject)
+  not-admitted_unbounded m ray (Audit broken) h = h
+  not-admitted_unbounded m ray (Unmet unmet) h = h
+  not-admitted_unbounded m ray _ h = absurd h
 
   -- ---- something is decided
 
@@ -150,7 +162,7 @@ module _ (q : Question) where
         subst q.is_optimal (laws.same_mechanism m mechanism)
         (laws.optimal p m.den (number_at (q.point m)) j.is_program (optimal-claim p m.den bound.den (number_at (q.point m)) (number_at bound.main) (number_at bound.face) (j.holds p j.is_program)))
 
-    pub infeasible-claimed : (face : List ℤ) (v : Verdict) → IsJudged q (certificates.Infeasible face) v → v ≡ Valid → IsInfeasible q.setting
+    pub infeasible-claimed : (face : List ℤ) (v : Verdict) → IsJudged q (certificates.Infeasible face) v → v ≡ Valid → AdmitsNone q
     infeasible-claimed face v judged valid =
         let j = subst (IsJudged q (certificates.Infeasible face)) valid judged in
         laws.none j.program j.is_program (infeasible-claim j.program (number_at face) (j.holds j.program j.is_program))

@@ -10,7 +10,7 @@ use Rattle.md_cert.specs.Certified.{Certified}
 use Rattle.md_cert.specs.Fault.{IsFirstFault}
 use Rattle.md_question.specs.Question.{IsProgramFor, Question}
 use Rattle.md_question_check.specs.declared.verdict.Reject.{Reject}
-use Rattle.md_question_check.specs.declared.verdict.Reject.TheVariants.{Audit, Value, Pair, Column, FaceRight, MainRight, RayRow, RayGain, Masses, Reduced, Level}
+use Rattle.md_question_check.specs.declared.verdict.Reject.TheVariants.{Audit, Value, Pair, Column, FaceRight, MainRight, RayRow, RayGain, Masses, Reduced, Level, Unmet}
 use Rattle.md_question_check.specs.declared.verdict.Verdict.{Verdict}
 use Rattle.md_question_check.specs.declared.verdict.Verdict.TheVariants.{Valid, Undecided, Rejected}
 use Rattle.md_question_check.specs.Programs.{OfProgram}
@@ -39,6 +39,7 @@ TellsFault p c (RayGain sum) = IsFirstFault p c (fault.RayGain sum)
 TellsFault p c (Masses kind sum demand) = ⊥
 TellsFault p c (Reduced row left right) = ⊥
 TellsFault p c (Level level) = ⊥
+TellsFault p c (Unmet unmet) = ⊥
 
 -- valid where the certificate is certified, else rejected with the first condition that fails
 abbrev pub Judges : Program → Certificate → Verdict → Type 0

@@ -3,16 +3,15 @@ ghost use Rattle.std.specs.Prelude.{◌≡◌, ◌↔◌, IfOk, IfSome, IsNone, 
 ghost use Rattle.md_lp.specs.Program.{Program};
 ghost use Rattle.md_mech.specs.Accepted.{IsAccepted};
 ghost use Rattle.md_mech.specs.Admissible.{IsAdmissible};
-ghost use Rattle.md_mech.specs.Optimal.{IsInfeasible};
 ghost use Rattle.md_mech.specs.Rows.{IsFirstBroken, conditions_of};
 ghost use Rattle.md_cert.specs.declared.certificate.Certificate.TheVariants as certificates;
 ghost use Rattle.md_cert.specs.Fitting.{Fits};
 ghost use Rattle.md_parts.specs.Fitting.{AreMultipliers, IsBoundOver, IsFraction, IsRayFor};
-ghost use Rattle.md_question.specs.Question.{IsProgramFor, IsQuestion};
+ghost use Rattle.md_question.specs.Question.{AdmitsNone, IsProgramFor, IsQuestion};
 ghost use Rattle.md_question_check.specs.declared.verdict.Verdict.{Verdict};
 ghost use Rattle.md_question_check.specs.declared.verdict.Verdict.TheVariants.{Valid};
 ghost use Rattle.md_question_check.specs.Certificates.{HasMetPoint, IsJudged, Judges};
-ghost use Rattle.md_question_check.specs.Verdicts.{HasNarrowLevel, IsOptimalVerdict, IsUnboundedVerdict, IsWideLevel};
+ghost use Rattle.md_question_check.specs.Verdicts.{HasNarrowLevel, IsOptimalVerdict, IsUnboundedVerdict, IsWideLevel, TellsNotAdmitted};
 
 use crate::checks::Checks;
 use crate::faults::verdict_by;
@@ -44,8 +43,8 @@ pub fn check_optimal<Q: Checks>(
     ensures only { IfOk result (λ verdict. (other : Verdict) → IsOptimalVerdict (Q.asked question.now) value.now mechanism.now bound.now other → other ≡ verdict) }
     ensures claim { IfOk result (λ verdict. verdict ≡ Valid → (Q.asked question.now).is_optimal mechanism.now × (Q.asked question.now).has_value mechanism.now value.now) }
 {
-    if let Some(broken) = broken(question, mechanism) {
-        return Ok(Verdict::Rejected(Reject::Audit { broken }));
+    if let Some(reject) = not_admitted(question, mechanism) {
+        return Ok(Verdict::Rejected(reject));
     }
     if let Some(right) = question.other_value(mechanism, value) {
         return Ok(Verdict::Rejected(Reject::Value { right }));
@@ -57,7 +56,7 @@ pub fn check_optimal<Q: Checks>(
     judge_by(alloc, question, &certificate)
 }
 
-/// The one verdict on multipliers that leave no mechanism. Where it is valid none is admissible.
+/// The one verdict on multipliers that leave no mechanism. Where it is valid none is admitted.
 ///
 /// # Errors
 /// Nothing but want of memory.
@@ -69,7 +68,7 @@ pub fn check_infeasible<Q: Checks>(
     requires { AreMultipliers (Q.asked question.now).rows face.now }
     ensures verdict { IfOk result (IsJudged (Q.asked question.now) (certificates.Infeasible face.now)) }
     ensures only { IfOk result (λ verdict. (other : Verdict) → IsJudged (Q.asked question.now) (certificates.Infeasible face.now) other → other ≡ verdict) }
-    ensures claim { IfOk result (λ verdict. verdict ≡ Valid → IsInfeasible (Q.asked question.now).setting) }
+    ensures claim { IfOk result (λ verdict. verdict ≡ Valid → AdmitsNone (Q.asked question.now)) }
 {
     let _laws = question.setting();
     let certificate = infeasible_certificate(alloc, face)?;
@@ -93,14 +92,29 @@ pub fn check_unbounded<Q: Checks>(
     ensures only { IfOk result (λ verdict. (other : Verdict) → IsUnboundedVerdict (Q.asked question.now) mechanism.now ray.now other → other ≡ verdict) }
     ensures claim { IfOk result (λ verdict. verdict ≡ Valid → (Q.asked question.now).grows mechanism.now ray.now) }
 {
-    if let Some(broken) = broken(question, mechanism) {
-        return Ok(Verdict::Rejected(Reject::Audit { broken }));
+    if let Some(reject) = not_admitted(question, mechanism) {
+        return Ok(Verdict::Rejected(reject));
     }
     if let Some(level) = wide_level(question, mechanism) {
         return Ok(Verdict::Rejected(Reject::Level { level }));
     }
     let certificate = question.unbounded(alloc, mechanism, ray)?;
     judge_by(alloc, question, &certificate)
+}
+
+// The first condition of the setting that a mechanism breaks, or else the first one of the question that it does not meet.
+fn not_admitted<Q: Checks>(question: &Q, mechanism: &Mechanism) -> Option<Reject>
+    requires { IsAccepted (Q.asked question.now).setting mechanism.now }
+    ensures admitted { MatchOption result ((Q.asked question.now).admits mechanism.now) (TellsNotAdmitted (Q.asked question.now) mechanism.now) }
+    ensures laws { IsQuestion (Q.asked question.now) }
+{
+    if let Some(broken) = broken(question, mechanism) {
+        return Some(Reject::Audit { broken });
+    }
+    match question.unmet(mechanism) {
+        Some(unmet) => Some(Reject::Unmet { unmet }),
+        None => None,
+    }
 }
 
 // The first condition of the setting that a mechanism breaks.

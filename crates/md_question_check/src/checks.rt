@@ -1,6 +1,7 @@
 //! What asks a question whose answers are checked.
 ghost use Rattle.std.specs.Prelude.{◌≡◌, IfOk, MatchOption};
 ghost use Rattle.md_mech.specs.Accepted.{IsAccepted};
+ghost use Rattle.md_mech.specs.Admissible.{IsAdmissible};
 ghost use Rattle.md_parts.specs.Fitting.{IsFraction, IsRayFor};
 ghost use Rattle.md_question.specs.Question.{optimal_certificate, unbounded_certificate};
 ghost use Rattle.md_question_check.specs.Verdicts.{HasNarrowLevel, IsOtherValue};
@@ -9,12 +10,18 @@ use md_cert::{Bound, Certificate};
 use md_claims::{optimal_certificate, other_value, unbounded_certificate};
 use md_mech::Mechanism;
 use md_num::{Frac, NoMemory, Nums};
-use md_question::Asks;
+use md_question::{Asks, Unmet};
 use md_setting::Setting;
 use std::alloc::Global;
 
 /// What asks a question about a setting, with what a check of an answer needs of it.
 pub trait Checks: Asks {
+    /// The first condition of the question that an admissible mechanism does not meet.
+    fn unmet(&self, mechanism: &Mechanism) -> Option<Unmet>
+        requires accepted { IsAccepted (Self.asked self.now).setting mechanism.now }
+        requires admissible { IsAdmissible (Self.asked self.now).setting mechanism.now }
+        ensures { MatchOption result ((Self.asked self.now).admits mechanism.now) ((Self.asked self.now).is_unmet mechanism.now) };
+
     /// The value of a mechanism in least terms, where the printed one is another.
     fn other_value(&self, mechanism: &Mechanism, printed: &Frac) -> Option<Frac>
         requires accepted { IsAccepted (Self.asked self.now).setting mechanism.now }
@@ -52,6 +59,10 @@ pub trait Checks: Asks {
 
 /// An answer to the question that a setting asks by itself.
 impl Checks for Setting {
+    fn unmet(&self, _: &Mechanism) -> Option<Unmet> {
+        None
+    }
+
     fn other_value(&self, mechanism: &Mechanism, printed: &Frac) -> Option<Frac> {
         other_value(self, mechanism, printed)
     }

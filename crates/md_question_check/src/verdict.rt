@@ -1,6 +1,7 @@
 //! What a check finds.
 use md_mech::Broken;
 use md_num::Frac;
+use md_question::Unmet;
 
 /// The verdict on an answer.
 #[derive(Clone, Copy)]
@@ -42,4 +43,6 @@ pub enum Reject {
     Reduced { row: u32, left: i128, right: i128 },
     /// The level of the mechanism has more than 62 bits: this one.
     Level { level: i128 },
+    /// The mechanism does not meet this condition of the question.
+    Unmet { unmet: Unmet },
 }

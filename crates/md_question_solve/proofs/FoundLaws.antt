@@ -34,7 +34,7 @@ use Rattle.md_question.specs.Question.{IsProgramFor, IsQuestion, Question, optim
 use Rattle.md_question.specs.Shown.{IsFindingTo, IsShown, IsSo}
 use Rattle.md_question.specs.declared.finding.Finding.{Finding}
 use Rattle.md_question.specs.declared.finding.Finding.TheVariants.{Optimal, Infeasible, Unbounded}
-use Rattle.md_question.proofs.FindingLaws.{exactly_infeasible, program-rows, same_program, shown-every, so-admissible}
+use Rattle.md_question.proofs.FindingLaws.{exactly_infeasible, program-rows, same_program, shown-every, so-admitted}
 use Rattle.md_question_solve.specs.Found.{ClaimsEnd, HasValueIn, IsFoundBy, IsLeftFor, reading_in}
 use Rattle.md_question_solve.specs.Readings.{FitsReading, HasOwnPoints, TellsCertificate, WhereBest}
 use Rattle.md_question_solve.specs.declared.reading.Reading.{Reading}
@@ -158,7 +158,7 @@ module _ (q : Question) where
           is_program = is;
           shown = λ r there. shown-every q p r finding is there (shown-told p c finding is certified tells);
           so = claim;
-          admissible = so-admissible q laws finding claim;
+          admitted = so-admitted q laws finding claim;
           none = exactly_infeasible q laws finding claim;
           writable = fits;
         }
@@ -168,7 +168,7 @@ module _ (q : Question) where
     tells-one : (c : Certificate) (a b : Finding) → IsSo q a → TellsCertificate q.setting c (reading_in a) → TellsCertificate q.setting c (reading_in b) → HasValueIn q b → a ≡ b
     tells-one (certificates.Optimal den point bound) (Optimal v m t) (Optimal w n u) so h k value =
         let same : m ≡ n = h.0 ∙ sym k.0 in
-        let one : v ≡ w = laws.one_value m v w (laws.admissible m so.0) so.1 (subst (λ x. q.is_value x w) (sym same) value) in
+        let one : v ≡ w = laws.one_value m v w (laws.admitted m so.0) so.1 (subst (λ x. q.is_value x w) (sym same) value) in
         ap (λ x. Optimal x m t) one ∙ ap (λ x. Optimal w x t) same ∙ ap (λ x. Optimal w n x) (h.1 ∙ sym k.1)
     tells-one (certificates.Infeasible face) (Infeasible t) (Infeasible u) so h k value = ap Infeasible (h ∙ sym k)
     tells-one (certificates.Unbounded den point ray) (Unbounded m t) (Unbounded n u) so h k value = ap (λ x. Unbounded x t) (h.0 ∙ sym k.0) ∙ ap (λ x. Unbounded n x) (h.1 ∙ sym k.1)

@@ -4,15 +4,13 @@ ghost use Rattle.md_lp.specs.Program.{Program};
 ghost use Rattle.md_lp.specs.declared.pivot.Pivot.{Pivot};
 ghost use Rattle.md_lp.specs.declared.wide.Wide.{Wide};
 ghost use Rattle.md_mech.specs.Accepted.{IsAccepted};
-ghost use Rattle.md_mech.specs.Admissible.{IsAdmissible};
-ghost use Rattle.md_mech.specs.Optimal.{IsInfeasible};
 ghost use Rattle.md_parts.specs.Fitting.{IsFraction};
 ghost use Rattle.md_simplex.specs.declared.order.Order.{Order};
 ghost use Rattle.md_simplex.specs.declared.simplex_error.SimplexError.{SimplexError};
 ghost use Rattle.md_simplex.specs.declared.step.Step.{Step};
 ghost use Rattle.md_simplex.specs.Runs.{IsFirstWideOf, IsLeft, IsTaken, MeetsWideBasis, TellsOf};
 ghost use Rattle.md_question.specs.Findings.{ClaimsInfeasible, WhereOptimal, WhereUnbounded};
-ghost use Rattle.md_question.specs.Question.{IsProgramFor, IsQuestion};
+ghost use Rattle.md_question.specs.Question.{AdmitsNone, IsProgramFor, IsQuestion};
 ghost use Rattle.md_question.specs.Shown.{IsFindingTo, IsShown, IsSo};
 ghost use Rattle.md_question.specs.declared.finding.Finding.{Finding};
 ghost use Rattle.md_question_solve.specs.Found.{ClaimsEnd, HasValueIn, IsFound, IsFoundBy, IsLeftFor, reading_in};
@@ -27,7 +25,7 @@ use md_simplex::SimplexError;
 use std::alloc::Global;
 
 /// Finds what a question asks for: a path of its program is followed to its end, and what is read off there is told. That is a
-/// best mechanism, with multipliers that show that none is better; or multipliers that show that no mechanism is admissible; or a
+/// best mechanism, with multipliers that show that none is better; or multipliers that show that no mechanism is admitted; or a
 /// mechanism with payments that may be added to it again and again, with a gain each time.
 ///
 /// # Errors
@@ -45,11 +43,11 @@ pub fn solve_question<Q: Asks>(
 
     // What is claimed is so, over mechanisms of any denominator, with numbers of any size.
     ensures so { IfOk result (IsSo (Q.asked question.now)) }
-    ensures admissible { IfOk result (WhereUnbounded (λ mechanism ray. IsAdmissible (Q.asked question.now).setting mechanism)) }
+    ensures admitted { IfOk result (WhereUnbounded (λ mechanism ray. (Q.asked question.now).admits mechanism)) }
 
     // Where a path is taken, the claim is that of its end.
     ensures taken { (p : Program) (order : Order) (pivots : List Pivot) (step : Step) → IsProgramFor (Q.asked question.now) p → IsTaken order p width pivots step → MatchResult result (ClaimsEnd step) (λ error. error ≡ SimplexError.Memory) }
-    ensures none { IfOk result (λ finding. ClaimsInfeasible finding ↔ IsInfeasible (Q.asked question.now).setting) }
+    ensures none { IfOk result (λ finding. ClaimsInfeasible finding ↔ AdmitsNone (Q.asked question.now)) }
 
     // Where a basis of each path is wide nothing is found. The first one of each is told, and nothing else, and it is told
     // nowhere else.

@@ -3,7 +3,7 @@ use Rattle.std.specs.Prelude.{◌≡◌, ◌≢◌, ◌++◌, ◌<◌, ◌≤◌
 use Rattle.std.specs.Option.{ForSome}
 use Rattle.md_ports.specs.Faults.{Rose}
 use Rattle.md_cli_words.specs.declared.command.Command.{Command}
-use Rattle.md_cli_words.specs.declared.command.Command.TheVariants.{Audit, Rows, Check, Solve, Replay, Realise, Fair, Find, FindFair, FairCheck, Asym, AsymCheck, Units, UnitCheck, Threshold, Award, Determ, DetermCheck, Run, Report, Iron, IronUnits, Make, Drill}
+use Rattle.md_cli_words.specs.declared.command.Command.TheVariants.{Audit, Rows, Check, Solve, Replay, Realise, Fair, Find, FindFair, FairCheck, Require, RequireCheck, Asym, AsymCheck, Units, UnitCheck, Threshold, Award, Determ, DetermCheck, Run, Report, Iron, IronUnits, Make, Drill}
 use Rattle.md_cli_words.specs.Words.{Order}
 use Rattle.md_setting.specs.declared.file.SettingFile.{SettingFile}
 use Rattle.md_cli_driver.specs.Reading.{is_any, is_general, setting_in}
@@ -39,6 +39,8 @@ IsHeadlineBy Realise setting width content status out = Unit {0}
 IsHeadlineBy Fair setting width content status out = Unit {0}
 IsHeadlineBy FindFair setting width content status out = Unit {0}
 IsHeadlineBy FairCheck setting width content status out = Unit {0}
+IsHeadlineBy Require setting width content status out = Unit {0}
+IsHeadlineBy RequireCheck setting width content status out = Unit {0}
 IsHeadlineBy AsymCheck setting width content status out = Unit {0}
 IsHeadlineBy Asym setting width content status out = Unit {0}
 IsHeadlineBy Units setting width content status out = Unit {0}

@@ -2,7 +2,7 @@
 use Rattle.std.specs.Prelude.{◌≡◌, ◌⊎◌, ℕ, ℤ, unsigned_abs, Bool, true, false, List, Option, None, Some, IsSome}
 use Rattle.md_cli_words.specs.Commands.{command_in}
 use Rattle.md_cli_words.specs.declared.command.Command.{Command}
-use Rattle.md_cli_words.specs.declared.command.Command.TheVariants.{Audit, Rows, Check, Solve, Replay, Realise, Fair, Find, FindFair, FairCheck, Asym, AsymCheck, Units, UnitCheck, Threshold, Award, Determ, DetermCheck, Run, Report, Iron, IronUnits, Make, Drill}
+use Rattle.md_cli_words.specs.declared.command.Command.TheVariants.{Audit, Rows, Check, Solve, Replay, Realise, Fair, Find, FindFair, FairCheck, Require, RequireCheck, Asym, AsymCheck, Units, UnitCheck, Threshold, Award, Determ, DetermCheck, Run, Report, Iron, IronUnits, Make, Drill}
 use Rattle.md_cli_words.specs.Words.{Order, command_of}
 use Rattle.md_mech.specs.declared.mechanism.Mechanism.{Mechanism}
 use Rattle.md_border.specs.declared.interim.Interim.{Interim}
@@ -10,6 +10,8 @@ use Rattle.md_answer.specs.declared.answer.Answer.{Answer}
 use Rattle.md_answer.specs.declared.pivots_file.Pivots.{Pivots}
 use Rattle.md_asym.specs.declared.sale_answer.SaleAnswer.{SaleAnswer}
 use Rattle.md_fair.specs.declared.answer.FairAnswer.{FairAnswer}
+use Rattle.md_require.specs.declared.condition.Condition.{Condition}
+use Rattle.md_require_text.specs.Told.{Told}
 use Rattle.md_cli_driver.specs.declared.refusal.Refusal.TheVariants as refusal
 use Rattle.md_cli_driver.specs.Saying.{Saying}
 use Rattle.md_cli_driver.specs.Reading.{answer_in, is_any, is_auction, is_general}
@@ -21,6 +23,7 @@ use Rattle.md_cli_tell.specs.Listing.{IsRows, IsRowsStatus}
 use Rattle.md_cli_judge.specs.Checking.{IsCheck}
 use Rattle.md_cli_judge.specs.AsymChecking.{IsAsymCheck, IsSaleFile, sale_answer_in}
 use Rattle.md_cli_judge.specs.FairChecking.{fair_answer_in, IsFairCheck}
+use Rattle.md_cli_judge.specs.RequireChecking.{required_answer_in, IsRequireCheck}
 use Rattle.md_cli_judge.specs.UnitChecking.{unit_answer_in, IsUnitCheck}
 use Rattle.md_cli_judge.specs.Verdicts.{IsCheckStatus}
 use Rattle.md_cli_best.specs.Solving.{IsSolve}
@@ -28,6 +31,7 @@ use Rattle.md_cli_tell.specs.Replaying.{pivots_in, IsReplay, IsReplayStatus}
 use Rattle.md_cli_tell.specs.Realising.{odds_in, IsRealise, IsRealiseStatus}
 use Rattle.md_cli_best.specs.Fair.{IsFair}
 use Rattle.md_cli_best.specs.Finding.{IsFind, IsFindFair, IsFindStatus}
+use Rattle.md_cli_best.specs.Requiring.{conditions_in, IsRequire}
 use Rattle.md_cli_tell.specs.Drawing.{drawable_in, IsRun, IsRunStatus}
 use Rattle.md_cli_tell.specs.Reported.{reported_in}
 use Rattle.md_cli_tell.specs.Reporting.{IsReporting, IsReportStatus}
@@ -85,6 +89,8 @@ work_by Fair order = one_file is_general (IsFair order.width) IsSolveStatus
 work_by Find order = one_file is_general IsFind IsFindStatus
 work_by FindFair order = one_file is_general IsFindFair IsFindStatus
 work_by FairCheck order = two_files FairAnswer is_general fair_answer_in IsFairCheck IsCheckStatus
+work_by Require order = two_files (List Condition) is_general conditions_in IsRequire IsFindStatus
+work_by RequireCheck order = two_files Told is_general required_answer_in IsRequireCheck IsCheckStatus
 work_by Asym order = one_file is_general (IsAsym order.width) IsAsymStatus
 work_by AsymCheck order = sale_files SaleAnswer IsSaleFile sale_answer_in IsAsymCheck IsCheckStatus
 work_by Units order = units_work order.number order.width

@@ -4,9 +4,9 @@ ghost use Rattle.md_cli_words.specs.Orders.{asked};
 ghost use Rattle.md_top.specs.Reply.{award_work, draw_work, iron_units_work, threshold_work, unit_check_work, units_work, work_of};
 ghost use Rattle.md_cli_driver.specs.Works.{IsCarriedOut};
 
-use md_cli_best::{Determ, Drill, Fair, Find, FindFair, Make, Solve};
+use md_cli_best::{Determ, Drill, Fair, Find, FindFair, Make, Require, Solve};
 use md_cli_driver::{Answered, NumberRefused, Refusal, of_none, of_one, of_sale, of_two};
-use md_cli_judge::{AsymCheck, Audit, Check, DetermCheck, FairCheck, UnitCheck};
+use md_cli_judge::{AsymCheck, Audit, Check, DetermCheck, FairCheck, RequireCheck, UnitCheck};
 use md_cli_sell::{Asym, Iron, IronUnits, ThresholdSale, Units};
 use md_cli_tell::{Awarding, Draw, Realise, Replay, Rows, Tell};
 use md_cli_words::{Command, Order};
@@ -44,6 +44,8 @@ pub(crate) fn run<F: Shelf>(
         Command::Find => of_one(alloc, &Find, setting, shelf),
         Command::FindFair => of_one(alloc, &FindFair, setting, shelf),
         Command::FairCheck => of_two(alloc, &FairCheck, setting, second, shelf),
+        Command::Require => of_two(alloc, &Require, setting, second, shelf),
+        Command::RequireCheck => of_two(alloc, &RequireCheck, setting, second, shelf),
         Command::Asym => of_one(alloc, &Asym { width }, setting, shelf),
         Command::AsymCheck => of_sale(alloc, &AsymCheck, setting, second, shelf),
         Command::Units => sell_units(alloc, number, width, setting, shelf),

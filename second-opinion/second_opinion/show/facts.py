@@ -5,12 +5,14 @@ A profile is a tuple of type numbers, as in `setting.py`.
 """
 
 import math
-from collections.abc import Callable
+from collections.abc import Callable, Sequence
 from dataclasses import dataclass
 from fractions import Fraction
 from typing import Any
 
 from second_opinion.answer import Mechanism
+from second_opinion.conditions import DesignerCondition, amount_at, measured, places_of, scale_of, undivided_rows
+from second_opinion.program import chance_column, payment_columns
 from second_opinion.setting import GeneralSetting, Profile
 
 # A place of the linear program: a profile with an outcome, `(profile, outcome)`, or a payment, `(profile, "pay", agent)`.
@@ -19,9 +21,9 @@ Place = tuple[Profile, int] | tuple[Profile, str, int]
 
 @dataclass(frozen=True)
 class Condition:
-    """One row of the linear program of a setting. `kind` is `truth`, `rational`, `deficit` or `profile`; of the other
+    """One row of the linear program of a setting. `kind` is `truth`, `rational`, `deficit`, `profile` or `require`; of the other
     fields those are None that do not belong to the row (`profile` is None in a row that is an average), and `own`, the
-    true type, is 0 there."""
+    true type, is 0 there. A row of the designer's conditions has the number of its condition as `own`."""
 
     index: int
     kind: str
@@ -29,10 +31,12 @@ class Condition:
     own: int = 0
     report: int | None = None
     profile: Profile | None = None
+    asked: DesignerCondition | None = None
 
 
-def conditions(setting: GeneralSetting) -> list[Condition]:
-    """All rows in the order of the format, those that let chances add to 1 at the end."""
+def conditions(setting: GeneralSetting, asked: Sequence[DesignerCondition] = ()) -> list[Condition]:
+    """All rows in the order of the format: those that let chances add to 1 behind the others of the setting, and at the end those
+    of the designer's conditions."""
     found: list[Condition] = []
 
     def add(*fields: Any) -> None:
@@ -59,12 +63,15 @@ def conditions(setting: GeneralSetting) -> list[Condition]:
     for kind in ["deficit", "profile"] if setting.no_deficit else ["profile"]:
         for profile in profiles:
             add(kind, None, 0, None, profile)
+    for number, each in enumerate(asked):
+        for place in places_of(setting, each):
+            add("require", None, number, None, place, each)
     return found
 
 
 def name_of(setting: GeneralSetting, row: Condition) -> str:
-    """The name of a row, as `audit` and `rows` print it."""
-    parts = [row.kind]
+    """The name of a row, as `audit` and `rows` print it; of a condition of the designer its number, from 0."""
+    parts = [row.kind] if row.asked is None else [row.kind, str(row.own)]
     if row.agent is not None:
         agent = setting.agents[row.agent]
         parts.append(agent.name)
@@ -143,7 +150,14 @@ class Play:
         return got - self.raw_payment(agent, reported)
 
     def sides(self, row: Condition) -> tuple[int, int]:
-        """The two sides of a condition, as `audit` prints them: the left one should be at least the right one."""
+        """The two sides of a condition, as `audit` and `requirecheck` print them: the left one should be at least the right one."""
+        if row.asked is not None:
+            if row.profile is None:
+                (amount,) = measured(self.setting, self.mechanism, row.asked)
+            else:
+                amount = amount_at(self.setting, self.mechanism, row.asked, row.profile)
+            sides = amount * row.asked.den, row.asked.num * self.den * scale_of(self.setting, row.asked)
+            return sides if row.asked.side == "least" else sides[::-1]
         if row.kind == "deficit":
             return sum(self.raw_payment(agent, row.profile) for agent in range(len(self.setting.agents))), 0
         cases = self.prior.cases(row)
@@ -212,7 +226,9 @@ def terms_of(setting: GeneralSetting, prior: Prior, row: Condition) -> tuple[dic
         terms[place] = terms.get(place, 0) + number
 
     right = 0
-    if row.kind == "profile":
+    if row.asked is not None:
+        terms, right = asked_terms(setting, row)
+    elif row.kind == "profile":
         terms, right = {(row.profile, outcome): 1 for outcome in range(len(setting.outcomes))}, 1
     elif row.kind == "deficit":
         if setting.payments:
@@ -233,11 +249,26 @@ def terms_of(setting: GeneralSetting, prior: Prior, row: Condition) -> tuple[dic
     return {place: number // divisor for place, number in terms.items() if number}, right // divisor
 
 
-def contradiction(setting: GeneralSetting, prior: Prior, multipliers: dict[int, int]) -> int | None:
+def asked_terms(setting: GeneralSetting, row: Condition) -> tuple[dict[Place, int], int]:
+    """A row of a condition of the designer by place, undivided."""
+    places: dict[int, Place] = {}
+    for profile in setting.profiles():
+        places |= {chance_column(setting, profile, outcome): (profile, outcome) for outcome in range(len(setting.outcomes))}
+        if setting.payments:
+            agents = range(len(setting.agents))
+            places |= {payment_columns(setting, agent, profile)[0]: (profile, "pay", agent) for agent in agents}
+    rows = dict(zip(places_of(setting, row.asked), undivided_rows(setting, row.asked)))
+    terms, right = rows[row.profile]
+    return {places[column]: number for column, number in terms.items() if column in places}, right
+
+
+def contradiction(
+    setting: GeneralSetting, prior: Prior, multipliers: dict[int, int], asked: Sequence[DesignerCondition] = ()
+) -> int | None:
     """The sum of the right sides of rows with these weights, where it shows that no mechanism meets them: the weights
     of conditions are not negative, no chance has a negative number in the sum, no payment has any, and the sum of the
     right sides is negative. Else None."""
-    rows = conditions(setting)
+    rows = conditions(setting, asked)
     total: dict[Place, int] = {}
     right = 0
     for index, weight in multipliers.items():

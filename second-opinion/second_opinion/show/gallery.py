@@ -11,9 +11,12 @@ import sys
 from html import escape
 from pathlib import Path
 
+from second_opinion.conditions import read_conditions
 from second_opinion.places import ENDING, EXAMPLES, stored_names
-from second_opinion.setting import AuctionSetting, read_setting
-from second_opinion.show.frontier import frontier_page, step_of
+from second_opinion.required_answer import read_required
+from second_opinion.setting import AuctionSetting, GeneralSetting, read_setting
+from second_opinion.show.floors import floor_step, floors_page, with_corners
+from second_opinion.show.frontier import Step, step_of, weights_page
 from second_opinion.show.kinds import page_of, picture_of, read_answer
 from second_opinion.show.parts import document, paragraph
 from second_opinion.show.text import html_number, remark
@@ -22,6 +25,9 @@ Entry = tuple[str, str, str, str, str]  # of the list: a name, a title, a kind, 
 
 PICTURES = {"auction-ironed", "divorce", "two-goods"}  # the examples whose lotteries or odds are stored as a picture too
 FRONTIER = ("auction-reserve", "compromise-2-1", "compromise-1-1", "compromise-1-3", "compromise-1-4")  # one auction, weighed anew
+FLOORS = tuple(f"revenue-floor-{number}" for number in range(1, 7))  # conditions files of one setting, by rising floors
+# The answers under conditions that have pages, each with its setting, by whose name the page of examples/ about it goes.
+REQUIRED = {"budget-4": "budget", "revenue-floor-2": "revenue-floor", "school-quota-3": "school-quota", "subsidy-eighth": "subsidy"}
 # The texts of `threshold` that are stored, each with the page of examples/ that tells of it.
 THRESHOLDS = {"used-car": "used-car", "auction-ironed": "pooled-values", "seats": "seat-prices"}
 FRONTIER_LEAD = "What can be had of revenue and welfare at once, in the auction of two bidders with a reserve price."
@@ -71,7 +77,8 @@ def index(entries: list[Entry]) -> str:
     words = paragraph(
         "A page for each setting of the examples whose answer is stored: its lotteries as bars, its payments, what "
         "each type gets, and the conditions that hold with equality; or of an auction its odds and payments by value, "
-        "its virtual values, and the sets of values that bind; or who wins where only winners pay, and what they pay."
+        "its virtual values, and the sets of values that bind; or who wins where only winners pay, and what they pay. "
+        "The last are about answers under conditions of the designer."
     )
     foot = paragraph("Made by <code>second-opinion/gallery</code>. All numbers are exact.")
     heading = "Settings and their answers"
@@ -85,7 +92,26 @@ def frontier() -> str:
         setting = read_setting((EXAMPLES / f"{name}.toml").read_bytes())
         assert isinstance(setting, AuctionSetting), name
         steps.append(step_of(name, setting, read_answer((EXAMPLES / (name + ENDING)).read_bytes(), setting)))
-    return frontier_page(title_of("frontier"), FRONTIER_LEAD, steps)
+    return weights_page(title_of("frontier"), FRONTIER_LEAD, steps)
+
+
+def floor_steps() -> list[Step]:
+    """What the stored answers under floors show, and what was found at the corners between them."""
+    its = read_setting((EXAMPLES / "revenue-floor.toml").read_bytes())
+    assert isinstance(its, GeneralSetting)
+    steps: list[Step] = []
+    for name in FLOORS:
+        found = read_required((EXAMPLES / f"{name}-required.csv").read_bytes(), its)
+        assert found.conditions == read_conditions((EXAMPLES / f"{name}.csv").read_bytes(), its), name
+        steps.append(floor_step(f"{name}-required", its, found))
+    return with_corners(its, steps)
+
+
+def floors(entries: list[Entry]) -> dict[str, str]:
+    """The page of the setting under floors, by its name. It is added to the list of all."""
+    name, words = "revenue-floor", remark((EXAMPLES / "revenue-floor.toml").read_bytes())
+    entries.append((name, title_of(name), "the frontier of revenue and welfare", "", words))
+    return {f"{name}.html": floors_page(title_of(name), lead_of(name, words), floor_steps())}
 
 
 def page_about(name: str, stored: str, told: str, entries: list[Entry]) -> dict[str, str]:
@@ -107,10 +133,13 @@ def pages() -> dict[str, str]:
     """The texts of all files, by their names."""
     made, entries = {"frontier.html": frontier()}, []
     entries.append(("frontier", title_of("frontier"), "the corners of a frontier", "", FRONTIER_LEAD))
+    made |= floors(entries)
     for name in stored_names():
         made |= page_about(name, name + ENDING, name, entries)
     for name, told in THRESHOLDS.items():
         made |= page_about(name, f"{name}-threshold.csv", told, entries)
+    for asked, name in REQUIRED.items():
+        made |= page_about(name, f"{asked}-required.csv", name, entries)
     made["index.html"] = index(entries)
     return made
 

@@ -1,9 +1,12 @@
 """Puts a page together from a setting and its answer."""
 
+from dataclasses import replace
 from fractions import Fraction
 from html import escape
 
 from second_opinion.answer import Answer, InfeasibleAnswer, OptimalAnswer, TableAnswer, TooWideAnswer, UnboundedAnswer
+from second_opinion.conditions import condition_line
+from second_opinion.required_answer import RequiredAnswer
 from second_opinion.setting import GeneralSetting
 from second_opinion.show.draw import LETTERS, matrices, pattern_definitions, swatch, used_outcomes
 from second_opinion.show.facts import Condition, Play, Prior, conditions, name_of
@@ -12,7 +15,8 @@ from second_opinion.show.tables import (
     agents_table, payments_tables, prior_table, utilities_table, utility_table, value_table,
 )
 from second_opinion.show.text import (
-    count, html_name, html_number, interdependent, listed, objective_words, payments_words, rational_words, truth_words,
+    asked_words, count, html_name, html_number, interdependent, listed, objective_words, payments_words, rational_words,
+    truth_words,
 )
 from second_opinion.show.why import equal_section, infeasible_section, too_wide_section
 
@@ -32,16 +36,19 @@ class Page:
     is the name of a page that lists this one, or None."""
 
     def __init__(
-        self, setting: GeneralSetting, answer: Answer, title: str, names: list[str], remark: str = "", home: str | None = None
+        self, setting: GeneralSetting, said: Answer | RequiredAnswer, title: str, names: list[str], remark: str = "",
+        home: str | None = None,
     ) -> None:
         self.setting = setting
-        self.answer = answer
+        self.asked = said.conditions if isinstance(said, RequiredAnswer) else []
+        self.answer = answer = said.said if isinstance(said, RequiredAnswer) else said
+        self.also = " and of the designer" if self.asked else ""
         self.title = title
         self.names = names
         self.remark = remark
         self.home = home
         self.prior = Prior(setting)
-        self.rows = conditions(setting)
+        self.rows = conditions(setting, self.asked)
         self.mechanism = getattr(answer, "mechanism", None)
         self.play = Play(setting, self.prior, self.mechanism) if self.mechanism else None
         self.equal: set[int] = set()
@@ -74,7 +81,7 @@ class Page:
 
     def kind(self) -> str:
         """The kind of the answer, in a few words."""
-        return KINDS[type(self.answer)]
+        return ("under conditions, " if self.asked else "") + KINDS[type(self.answer)]
 
     def value(self) -> Fraction | None:
         """The value of an optimal answer, or None."""
@@ -98,7 +105,7 @@ class Page:
             )
         elif isinstance(self.answer, InfeasibleAnswer):
             made = big("No mechanism") + paragraph(
-                "The answer says that no mechanism meets the conditions of this setting."
+                f"The answer says that no mechanism meets the conditions of this setting{self.also}."
             )
         else:
             made = big("Too wide") + paragraph(
@@ -106,7 +113,7 @@ class Page:
                 "setting: it may have a best mechanism, or none."
             )
         if self.play and not self.broken:
-            made += paragraph("The mechanism meets all conditions of the setting.")
+            made += paragraph(f"The mechanism meets all conditions of the setting{self.also}.")
         wrong = "Not admissible." if isinstance(self.answer, TableAnswer) else "This answer is wrong."
         return f'<div class="verdict">\n{made}</div>\n' + "".join(alert(wrong, words) for words in self.mistakes())
 
@@ -119,7 +126,7 @@ class Page:
         if self.broken:
             row, left, right = self.broken[0]
             found.append(
-                f"The mechanism breaks {count(len(self.broken), 'condition')} of the setting, first "
+                f"The mechanism breaks {count(len(self.broken), 'condition')} of the setting{self.also}, first "
                 f"{html_name(name_of(self.setting, row))}: {html_number(left)} where at least {html_number(right)} is "
                 "demanded."
             )
@@ -141,7 +148,8 @@ class Page:
             return False
         for row in self.rows:
             if row.kind != "profile":
-                left, right = added.sides(row)
+                asked = row.asked and replace(row.asked, num=0)
+                left, right = added.sides(replace(row, asked=asked))
                 if left < (0 if row.kind == "rational" else right):
                     return False
         return True
@@ -159,6 +167,9 @@ class Page:
             ("Rationality", rational_words(setting)),
             ("Payments", payments_words(setting)),
         ]
+        if self.asked:
+            asked = ((escape(condition_line(each, setting)), escape(asked_words(setting, each))) for each in self.asked)
+            facts.append(("The designer asks", "; ".join(f"<code>{line}</code>: {words}" for line, words in asked)))
         text = "".join(f"<dt>{term}</dt><dd>{words}</dd>\n" for term, words in facts)
         text = f"<dl>\n{text}</dl>\n{agents_table(setting, self.prior)}"
         few = profiles <= MANY_PROFILES
@@ -232,7 +243,8 @@ class Page:
         if self.play:
             text += paragraph(
                 "The utilities, the value and the conditions were computed for this page from the setting and the "
-                "mechanism. That no mechanism is better is not tried here: <code>mechdes check</code> does that."
+                "mechanism. That no mechanism is better is not tried here: "
+                f"<code>mechdes {'requirecheck' if self.asked else 'check'}</code> does that."
                 if isinstance(self.answer, OptimalAnswer)
                 else "The utilities, the value and the conditions were computed for this page from the setting and the "
                 "mechanism."

@@ -5,6 +5,7 @@ from collections.abc import Iterable
 from fractions import Fraction
 from html import escape
 
+from second_opinion.conditions import DesignerCondition
 from second_opinion.setting import AuctionSetting, GeneralSetting
 from second_opinion.show.facts import Condition, Place
 
@@ -169,11 +170,23 @@ def auction_objective_words(auction: AuctionSetting) -> str:
     return sum_words(parts) if parts else "nothing: every auction has the value 0"
 
 
+def asked_words(setting: GeneralSetting, asked: DesignerCondition) -> str:
+    """What a condition of the designer demands at the profiles of its rows, in words."""
+    agent = "" if asked.agent is None else setting.agents[asked.agent].name
+    outcome = "" if asked.outcome is None else setting.outcomes[asked.outcome]
+    what = {"revenue": "the revenue", "welfare": "the welfare", "utility": f"what {agent} gets", "pay": f"what {agent} pays"}
+    amount = what.get(asked.word, f"the chance of {outcome}")
+    average = ", on average" if asked.is_average else ""
+    return f"{amount} is at {asked.side} {number(Fraction(asked.num, asked.den))}{average}"
+
+
 def condition_words(setting: GeneralSetting, row: Condition) -> str:
     """What a row of the linear program demands, in words."""
     at = "" if row.profile is None else f" at {setting.profile_name(row.profile)}"
     if len(setting.agents) == 1 and row.agent is not None:
         at = ""
+    if row.asked is not None:
+        return asked_words(setting, row.asked) + at
     if row.kind == "profile":
         return f"the chances{at} add to 1"
     if row.kind == "deficit":

@@ -23,7 +23,7 @@ MANY_NAMES = 50  # the same of a list
 MANY_ARROWS = 40  # beyond this no picture of arrows, nor of rows, is drawn
 WIDTH = 62  # bits that a number may have where no width is asked for
 FEW_TERMS = 12  # up to this an inequality is written out
-KINDS = [("truth", "truth"), ("rational", "rationality"), ("deficit", "no deficit")]
+KINDS = [("truth", "truth"), ("rational", "rationality"), ("deficit", "no deficit"), ("require", "the designer")]
 
 
 def equal_section(page: "Page") -> str:
@@ -91,6 +91,7 @@ def weighed_table(page: "Page", weighed: list[Condition]) -> str:
         text += paragraph(
             "The multiplier of a condition is its weight in the proof that no mechanism is better: the price of the "
             "condition. It belongs to the row as <code>mechdes rows</code> prints it."
+            + (" The rows of the designer stand behind those." if page.asked else "")
         )
         heads = [("Row", True), ("Name", False)] + ([("Demands", False)] if told else []) + [("Multiplier", True)]
         caption = f"{count(len(weighed), 'condition')} with a positive multiplier"
@@ -145,7 +146,7 @@ def infeasible_section(page: "Page") -> str:
     setting, prior = page.setting, page.prior
     assert isinstance(page.answer, InfeasibleAnswer)
     weights = {index: face for index, (face, _) in page.answer.multipliers.items() if face}
-    right = contradiction(setting, prior, weights)
+    right = contradiction(setting, prior, weights, page.asked)
     rows: list[list[Cell]] = []
     for index, weight in weights.items():
         row = page.rows[index]

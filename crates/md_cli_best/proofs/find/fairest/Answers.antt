@@ -16,4 +16,4 @@ returns-in_ok-write_fair-in-Some-clause-find c =
     rw c.general-setting.ensures
     (said-found (fair_question s) (λ f. text_of_fair s (Found f)) (λ t f. fair_answer_of s t ≡ Ok (Found f)) record { status = c.status.result; text = c.in_ok-write_fair-in-Some.field-0.items } finding h
     c.status.ensures.value c.in_ok-write_fair-in-Some.ensures.text c.in_ok-write_fair-in-Some.ensures.reads_back
-    (λ narrow. fair-valid s h.program finding h.is_program h.shown h.so h.admissible narrow))
+    (λ narrow. fair-valid s h.program finding h.is_program h.shown h.so h.admitted narrow))

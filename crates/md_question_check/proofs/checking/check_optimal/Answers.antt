@@ -3,20 +3,20 @@ use Rattle.std.proofs.lemmas.Result.{IfOk-weaker}
 use Rattle.md_cert.specs.Fitting.{Fits}
 use Rattle.md_cert.specs.declared.certificate.Certificate.{Certificate}
 use Rattle.md_question.specs.Question.{optimal_certificate}
-use Rattle.md_question_check.specs.declared.verdict.Reject.TheVariants.{Audit, Value}
+use Rattle.md_question_check.specs.declared.verdict.Reject.TheVariants.{Value}
 use Rattle.md_question_check.specs.declared.verdict.Verdict.TheVariants.{Rejected}
 use Rattle.md_question_check.specs.Certificates.{HasMetPoint, IsJudged}
 use Rattle.md_question_check.proofs.OneVerdict.{one-optimal}
-use Rattle.md_question_check.proofs.VerdictLaws.{fits-optimal, optimal-claimed, optimal-verdict}
+use Rattle.md_question_check.proofs.VerdictLaws.{fits-optimal, not-admitted_optimal, optimal-claimed, optimal-verdict}
 use Rattle.md_question_check.proofs.checking.check_optimal.Goals as goal
 
 pub judge_by-requires-clause-fits : goal.judge_by-requires-clause-fits
 judge_by-requires-clause-fits g c p is =
     subst (Fits p) (sym c.in_ok-certificate.ensures)
-    (fits-optimal (g.Q.Asks.asked c.args.question.now) c.broken.ensures.laws p c.args.mechanism.now c.args.bound.now is c.requires.accepted c.in_default-wide_level.ensures c.requires.bound)
+    (fits-optimal (g.Q.Asks.asked c.args.question.now) c.not_admitted.ensures.laws p c.args.mechanism.now c.args.bound.now is c.requires.accepted c.in_default-wide_level.ensures c.requires.bound)
 
 pub judge_by-requires-clause-met : goal.judge_by-requires-clause-met
-judge_by-requires-clause-met g c p is = subst (HasMetPoint p) (sym c.in_ok-certificate.ensures) (c.broken.ensures.laws.meets p c.args.mechanism.now is (c.broken.ensures.admissible.0 (rw c.in_default.is refl)))
+judge_by-requires-clause-met g c p is = subst (HasMetPoint p) (sym c.in_ok-certificate.ensures) (c.not_admitted.ensures.laws.meets p c.args.mechanism.now is c.in_default.ensures.admitted)
 
 pub returns-clause-verdict : goal.returns-clause-verdict
 returns-clause-verdict g c =
@@ -24,7 +24,7 @@ returns-clause-verdict g c =
     let m = c.args.mechanism.now in
     let bound = c.args.bound.now in
     let judged : IfOk c.judge_by.result (IsJudged q (optimal_certificate q m bound)) = subst (λ (w : Certificate). IfOk c.judge_by.result (IsJudged q w)) c.in_ok-certificate.ensures c.judge_by.ensures in
-    IfOk-weaker c.judge_by.result _ _ (λ v j. optimal-verdict q c.args.value.now m bound v (record { admissible = c.broken.ensures.admissible.0 (rw c.in_default.is refl); value = c.in_default-other_value.ensures }) c.in_default-wide_level.ensures j) judged
+    IfOk-weaker c.judge_by.result _ _ (λ v j. optimal-verdict q c.args.value.now m bound v (record { admitted = c.in_default.ensures.admitted; value = c.in_default-other_value.ensures }) c.in_default-wide_level.ensures j) judged
 
 pub returns-clause-claim : goal.returns-clause-claim
 returns-clause-claim g c =
@@ -32,26 +32,29 @@ returns-clause-claim g c =
     let m = c.args.mechanism.now in
     let bound = c.args.bound.now in
     let judged : IfOk c.judge_by.result (IsJudged q (optimal_certificate q m bound)) = subst (λ (w : Certificate). IfOk c.judge_by.result (IsJudged q w)) c.in_ok-certificate.ensures c.judge_by.ensures in
-    IfOk-weaker c.judge_by.result _ _ (λ v j valid. (optimal-claimed q c.broken.ensures.laws m bound v c.requires.accepted.mechanism j valid, c.in_default-other_value.ensures)) judged
+    IfOk-weaker c.judge_by.result _ _ (λ v j valid. (optimal-claimed q c.not_admitted.ensures.laws m bound v c.requires.accepted.mechanism j valid, c.in_default-other_value.ensures)) judged
+
+pub returns-in-Some-clause-verdict : goal.returns-in-Some-clause-verdict
+returns-in-Some-clause-verdict g c = not-admitted_optimal (g.Q.Asks.asked c.args.question.now) c.args.value.now c.args.mechanism.now c.args.bound.now c.in-Some.reject c.in-Some.ensures.admitted
 
 pub returns-in-Some-clause-only : goal.returns-in-Some-clause-only
 returns-in-Some-clause-only g c other told =
-    one-optimal (g.Q.Asks.asked c.args.question.now) c.args.mechanism.now c.broken.ensures.laws c.requires.accepted c.args.value.now c.args.bound.now c.requires.bound other (Rejected (Audit c.in-Some.broken)) told c.in-Some.ensures.broken
+    one-optimal (g.Q.Asks.asked c.args.question.now) c.args.mechanism.now c.not_admitted.ensures.laws c.requires.accepted c.args.value.now c.args.bound.now c.requires.bound other (Rejected c.in-Some.reject) told (returns-in-Some-clause-verdict g c)
 
 pub returns-in-Some-other_value-clause-only : goal.returns-in-Some-other_value-clause-only
 returns-in-Some-other_value-clause-only g c other told =
-    one-optimal (g.Q.Asks.asked c.args.question.now) c.args.mechanism.now c.broken.ensures.laws c.requires.accepted c.args.value.now c.args.bound.now c.requires.bound other (Rejected (Value c.in-Some-other_value.right)) told
-    (c.broken.ensures.admissible.0 (rw c.in_default.is refl), c.in-Some-other_value.ensures)
+    one-optimal (g.Q.Asks.asked c.args.question.now) c.args.mechanism.now c.not_admitted.ensures.laws c.requires.accepted c.args.value.now c.args.bound.now c.requires.bound other (Rejected (Value c.in-Some-other_value.right)) told
+    (c.in_default.ensures.admitted, c.in-Some-other_value.ensures)
 
 pub returns-in-Some-wide_level-clause-verdict : goal.returns-in-Some-wide_level-clause-verdict
 returns-in-Some-wide_level-clause-verdict g c = search rules
 
 pub returns-in-Some-wide_level-clause-only : goal.returns-in-Some-wide_level-clause-only
 returns-in-Some-wide_level-clause-only g c other told =
-    one-optimal (g.Q.Asks.asked c.args.question.now) c.args.mechanism.now c.broken.ensures.laws c.requires.accepted c.args.value.now c.args.bound.now c.requires.bound other _ told (returns-in-Some-wide_level-clause-verdict g c)
+    one-optimal (g.Q.Asks.asked c.args.question.now) c.args.mechanism.now c.not_admitted.ensures.laws c.requires.accepted c.args.value.now c.args.bound.now c.requires.bound other _ told (returns-in-Some-wide_level-clause-verdict g c)
 
 pub returns-clause-only : goal.returns-clause-only
 returns-clause-only g c =
     let q = g.Q.Asks.asked c.args.question.now in
     let m = c.args.mechanism.now in
-    IfOk-weaker c.judge_by.result _ _ (λ v h other told. one-optimal q m c.broken.ensures.laws c.requires.accepted c.args.value.now c.args.bound.now c.requires.bound other v told h) (returns-clause-verdict g c)
+    IfOk-weaker c.judge_by.result _ _ (λ v h other told. one-optimal q m c.not_admitted.ensures.laws c.requires.accepted c.args.value.now c.args.bound.now c.requires.bound other v told h) (returns-clause-verdict g c)

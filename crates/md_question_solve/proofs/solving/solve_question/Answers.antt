@@ -1,13 +1,12 @@
 use Rattle.std.proofs.Common.{◌≡◌, ◌↔◌}
-use Rattle.md_mech.specs.Admissible.{IsAdmissible}
-use Rattle.md_mech.specs.Optimal.{IsInfeasible}
 use Rattle.md_rows.proofs.RowForms.{if_ok}
 use Rattle.md_simplex.specs.declared.order.Order.TheVariants.{Forward, Backward}
 use Rattle.md_simplex.specs.Runs.{IsLeft}
 use Rattle.md_simplex.proofs.SamePaths.{first_wide-same, meets-same, taken-same}
 use Rattle.md_question.specs.Findings.{ClaimsInfeasible, WhereUnbounded}
+use Rattle.md_question.specs.Question.{AdmitsNone}
 use Rattle.md_question.specs.Shown.{IsShown, IsSo}
-use Rattle.md_question.proofs.FindingLaws.{exactly_infeasible, same_program, shown-every, so-admissible}
+use Rattle.md_question.proofs.FindingLaws.{exactly_infeasible, same_program, shown-every, so-admitted}
 use Rattle.md_question_solve.specs.Found.{IsFound, IsFoundBy, IsLeftFor}
 use Rattle.md_question_solve.proofs.FoundLaws.{first_wide-of, found-same, if_err, left-for, left-same, one-finding, shown, so, taken-of, wide-of}
 use Rattle.md_question_solve.proofs.solving.solve_question.Goals as goal
@@ -31,12 +30,12 @@ returns-clause-so g c =
     let lp = c.in-Ok.lp in
     if_ok c.found.result (IsFoundBy q lp c.args.width) (IsSo q) (λ a h. so q c.found.ensures.laws lp c.args.width a c.in-Ok.ensures h) c.found.ensures.found
 
-pub returns-clause-admissible : goal.returns-clause-admissible
-returns-clause-admissible g c =
+pub returns-clause-admitted : goal.returns-clause-admitted
+returns-clause-admitted g c =
     let q = g.Q.Asks.asked c.args.question.now in
     let lp = c.in-Ok.lp in
-    if_ok c.found.result (IsFoundBy q lp c.args.width) (WhereUnbounded (λ mechanism ray. IsAdmissible q.setting mechanism))
-    (λ a h. so-admissible q c.found.ensures.laws a (so q c.found.ensures.laws lp c.args.width a c.in-Ok.ensures h)) c.found.ensures.found
+    if_ok c.found.result (IsFoundBy q lp c.args.width) (WhereUnbounded (λ mechanism ray. q.admits mechanism))
+    (λ a h. so-admitted q c.found.ensures.laws a (so q c.found.ensures.laws lp c.args.width a c.in-Ok.ensures h)) c.found.ensures.found
 
 pub returns-clause-taken : goal.returns-clause-taken
 returns-clause-taken g c = λ p order pivots step is taken.
@@ -48,7 +47,7 @@ pub returns-clause-none : goal.returns-clause-none
 returns-clause-none g c =
     let q = g.Q.Asks.asked c.args.question.now in
     let lp = c.in-Ok.lp in
-    if_ok c.found.result (IsFoundBy q lp c.args.width) (λ a. ClaimsInfeasible a ↔ IsInfeasible q.setting)
+    if_ok c.found.result (IsFoundBy q lp c.args.width) (λ a. ClaimsInfeasible a ↔ AdmitsNone q)
     (λ a h. exactly_infeasible q c.found.ensures.laws a (so q c.found.ensures.laws lp c.args.width a c.in-Ok.ensures h)) c.found.ensures.found
 
 pub returns-clause-wide : goal.returns-clause-wide

@@ -52,7 +52,7 @@ returns-in-Ok-clause-unbounded c =
 pub returns-in-Ok-clause-admissible : goal.returns-in-Ok-clause-admissible
 returns-in-Ok-clause-admissible c =
     let s = c.args.setting.now in
-    rw c.answer_of.ensures (unbounded-said (λ m ray. IsAdmissible s m) c.in-Ok.finding c.in-Ok.ensures.admissible)
+    rw c.answer_of.ensures (unbounded-said (λ m ray. IsAdmissible s m) c.in-Ok.finding c.in-Ok.ensures.admitted)
 
 pub returns-in-Ok-clause-claims : goal.returns-in-Ok-clause-claims
 returns-in-Ok-clause-claims c = rw c.answer_of.ensures (claims-said c.in-Ok.finding)

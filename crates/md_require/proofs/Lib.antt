@@ -1,0 +1,11 @@
+pub mod AmountLaws
+pub mod OwnProgram
+pub mod PointLaws
+pub mod Claims
+pub mod UnmetLaws
+pub mod QuestionLaws
+pub mod PartLaws
+pub mod PartSizes
+pub mod ConditionRows
+pub mod ToldSizes
+pub mod FirstUnmet

@@ -1,0 +1,12 @@
+pub mod Amounts
+pub mod Places
+pub mod Conditions
+pub mod Required
+pub mod RequireProgram
+pub mod RequireQuestion
+pub mod Named
+pub mod Parts
+pub mod Limits
+pub mod Missed
+pub mod Requirement
+pub mod RequireVerdicts

@@ -1,0 +1,9 @@
+pub mod NameLaws
+pub mod Joined
+pub mod SettingNames
+pub mod NarrowLaws
+pub mod FieldLaws
+pub mod LoopLaws
+pub mod WrittenConditions
+pub mod WrittenAnswers
+pub mod AnswerLaws
