@@ -1,7 +1,8 @@
 // Conditions of the designer: what their records say, and what the page shows of an answer under them.
 
-import { head, make, number, table } from "./dom.js";
+import { breakable, head, make, number, table } from "./dom.js";
 import { Fraction } from "./fraction.js";
+import { withWord } from "./records.js";
 import { profilesOf } from "./setting.js";
 
 const WORDS = ["revenue", "welfare", "utility", "chance", "at", "pay"];
@@ -46,14 +47,33 @@ export function conditionText([word, ...fields]) {
   return `${MEASURES[word](...fields.slice(0, -3))} is at ${side}`;
 }
 
-/** The conditions of an answer, each with its bound. */
+/** The conditions of an answer, each with its bound and, where one is told, its shadow. */
 export function conditionsPart(records) {
   const conditions = conditionsOf(records);
   if (conditions.length === 0) {
     return [];
   }
-  const rows = conditions.map((condition) => [head(conditionText(condition)), number(new Fraction(...condition.slice(-2)))]);
-  return [make("h3", {}, "Your conditions"), table("Conditions", ["Condition", "#Bound"], rows)];
+  const shadows = new Map(withWord(records, "shadow").map(([place, ...fields]) => [Number(place), new Fraction(...fields)]));
+  const isTold = shadows.size > 0;
+  const rows = conditions.map((condition, place) => [
+    head(conditionText(condition)),
+    number(new Fraction(...condition.slice(-2))),
+    ...(isTold ? [shadowText(shadows.get(place))] : []),
+  ]);
+  const heads = ["Condition", "#Bound", ...(isTold ? ["One unit more"] : [])];
+  return [make("h3", {}, "Your conditions"), table("Conditions", heads, rows)];
+}
+
+/** What one unit more of a bound does to the value, by its shadow; nothing where none is told. */
+function shadowText(shadow) {
+  if (shadow === undefined) {
+    return "";
+  }
+  if (shadow.isZero()) {
+    return "brings nothing";
+  }
+  const [words, amount] = shadow.isNegative() ? ["costs at least ", shadow.times(new Fraction(-1n))] : ["brings at most ", shadow];
+  return [words, breakable(`${amount}`)];
 }
 
 /** Conditions to begin with: that the first outcome comes half of the time, and where agents pay, that they pay 1 in all. */

@@ -63,7 +63,10 @@ function checking(own) {
 export const checkView = checking({});
 
 /** What `requirecheck` prints. */
-export const requireCheckView = checking({ 17: "the mechanism does not meet one of your conditions" });
+export const requireCheckView = checking({
+  17: "the mechanism does not meet one of your conditions",
+  18: "the shadow of one of your conditions is told otherwise than the multipliers say",
+});
 
 /** What `faircheck` prints. */
 export const fairCheckView = checking({ 11: "the level of the mechanism has more than 62 bits" });
@@ -88,7 +91,7 @@ export const determCheckView = checking({
 export function auditView(records) {
   const [word, name, left, right] = records[0];
   if (word === "admissible") {
-    return view(verdict("Admissible", "The mechanism meets all conditions of the setting.", "good"));
+    return view(verdict("Admissible", "The mechanism meets all conditions of the setting, and yours where the answer has some.", "good"));
   }
   const words = ["The first condition that is broken is ", make("code", {}, brokenName(name)), `: ${left} is not at least ${right}.`];
   return view(verdict("Broken", words, "bad"));
@@ -168,11 +171,13 @@ export function reportView(records, { setting }) {
     return [head(fields.slice(0, -4).join(": ")), gets, pays];
   });
   const worst = ["gain", "loss", "deficit"].flatMap((word) => withWord(records, word).map((fields) => worstRow(word, fields)));
+  const stands = withWord(records, "condition").map(standingRow);
   const tight = withWord(records, "tight").map(([name]) => make("li", {}, make("code", {}, brokenName(name))));
   return view(
     verdict(valueText(value), `Revenue ${revenue}, welfare ${welfare}.`),
     table("What each type gets and pays on average", ["Type", "#Gets", "#Pays"], types),
     worst.length > 0 && table("The worst of each condition", ["What", "Where", "#By", ""], worst),
+    stands.length > 0 && table("Your conditions", ["Condition", "#Amount", ""], stands.slice(0, MOST_ROWS)),
     tight.length > 0 && folded(`Conditions that hold with equality: ${tight.length}`, make("ul", {}, tight.slice(0, MOST_ROWS))),
   );
 }
@@ -184,6 +189,12 @@ function worstRow(word, fields) {
   const isBroken = word === "deficit" ? amount.isNegative() : !amount.isNegative() && !amount.isZero();
   const where = make("code", {}, brokenName(fields.slice(0, -2).join("/")));
   return [head(WORST[word]), where, number(amount), isBroken ? make("strong", {}, "broken") : "met"];
+}
+
+/** How the mechanism stands against a condition of the designer, which is named as `audit` names it. */
+function standingRow([index, word, ...amount]) {
+  const name = make("code", {}, brokenName(`condition/${index}`));
+  return [name, number(new Fraction(...amount)), word === "met" ? word : make("strong", {}, word)];
 }
 
 /** A text of which the page knows no more. */

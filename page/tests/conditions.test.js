@@ -26,10 +26,19 @@ test("an answer under conditions shows them and the rule", () => {
   assert.equal(view.large, "Value 5/2 = 2 + 1/2");
   assert.ok(view.words.includes("yours among them"));
   const [conditions, payments, multipliers] = cellsOfTables(view);
-  assert.deepEqual(conditions, [["What bidder pays everywhere is at most", "4"]]);
+  assert.deepEqual(conditions, [["What bidder pays everywhere is at most", "4", "brings at most 1/4"]]);
   assert.deepEqual(payments, [["low", "1"], ["high", "4"]]);
   assert.deepEqual(multipliers.at(-1), ["7", "pay/bidder/most/high", "1/2"]);
   assert.deepEqual(picturesOf(view), ["bidder low: keep 1/2, sell 1/2. bidder high: sell 1."]);
+});
+
+test("beside each condition stands what one unit more does, where it is told", () => {
+  const conditions = "revenue,least,1,1\npay,bidder,most,4,1\nchance,sell,least,1,2\nchance,keep,most,1,1\n";
+  const answer = (shadows) => recordsOf(`answer,1,required,optimal\n${conditions}value,5,2\n${shadows}end\n`);
+  const cellsOf = (shadows) => cellsOfTables(requireView(answer(shadows), { setting: null }))[0];
+  const told = cellsOf("shadow,0,-1,3\nshadow,1,1,4\nshadow,3,0,1\n").map((cells) => cells.at(-1));
+  assert.deepEqual(told, ["costs at least 1/3", "brings at most 1/4", "", "brings nothing"]);
+  assert.deepEqual(cellsOf("").map((cells) => cells.length), [2, 2, 2, 2]);
 });
 
 test("where no rule meets the conditions, or none was found, the view says so", () => {
@@ -66,5 +75,8 @@ test("the field begins with a sample for the setting", () => {
 
 test("a checker of such answers has its own reasons", () => {
   assert.ok(requireCheckView(recordsOf("rejected,17,0,15,16\n")).words.includes("does not meet one of your conditions"));
+  for (const line of ["rejected,18,0,-1,3\n", "rejected,18,2\n"]) {
+    assert.ok(requireCheckView(recordsOf(line)).words.includes("the shadow of one of your conditions"));
+  }
   assert.equal(requireCheckView(recordsOf("valid\n")).kind, "good");
 });

@@ -112,6 +112,13 @@ test("a report tells what is broken, and a run who has the item", () => {
   assert.equal(runView(recordsOf("outcome,2\npays,10,15,33\n"), { setting: AUCTION }).large, "Bidder 2");
 });
 
+test("a report under conditions of the designer tells which are met", () => {
+  // The price 3 brings it half of the time.
+  const text = "value,3,2\nrevenue,3,2\nwelfare,3,2\ntype,buyer,low,0,1,0,1\ncondition,0,met,3,2\ncondition,1,missed,3,1\nend\n";
+  const [, stands] = cellsOfTables(reportView(recordsOf(text), { setting: null }));
+  assert.deepEqual(stands, [["condition/0", "3/2", "met"], ["condition/1", "3", "missed"]]);
+});
+
 test("a report of an auction tells of its values", () => {
   // Where the winner pays its own bid: with 3 a bidder has nothing, and by the report 1 it has (3 - 1)/4.
   const text = "value,5,2\nrevenue,5,2\nwelfare,5,2\ntype,1,0,1,1,4\ntype,3,0,1,9,4\ngain,3,1,1,2\nloss,1,0,1\ntight,rational/1\ntight,rational/3\nend\n";

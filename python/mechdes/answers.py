@@ -142,13 +142,18 @@ class Fairest(GeneralOptimal):
 @dataclasses.dataclass(frozen=True, kw_only=True)
 class Required(GeneralOptimal):
     """A best mechanism among those that meet conditions of the designer (`require`), which are `conditions`, in their order. Behind
-    the multipliers of the setting's rows come those of the rows of the conditions."""
+    the multipliers of the setting's rows come those of the rows of the conditions. `shadows` has for each condition what one unit
+    of its bound brings the objective, or costs it; None where that is not told."""
 
     conditions: tuple[Condition, ...]
+    shadows: tuple[Fraction | None, ...]
 
     def _inner(self) -> Iterator[Record]:
         yield from condition_records(self.conditions)
         yield from super()._inner()
+        for place, shadow in enumerate(self.shadows):
+            if shadow is not None:
+                yield "shadow", place, *terms(shadow)
 
 
 @dataclasses.dataclass(frozen=True, kw_only=True)
@@ -290,9 +295,10 @@ class Rule(Optimal):
 @dataclasses.dataclass(frozen=True, kw_only=True)
 class Infeasible(Answer):
     """No mechanism meets the conditions, as the multipliers show; of `determ` no deterministic one does, as the tree shows.
-    `conditions` are those of the designer, of `require`."""
+    `conditions` are those of the designer, of `require`; no shadow of theirs is told."""
 
     word = "infeasible"
+    shadows: ClassVar[tuple[Fraction | None, ...]] = ()
     setting: Setting = dataclasses.field(repr=False)
     multipliers: tuple[Multiplier, ...] = ()
     tree: tuple[Node, ...] = ()
@@ -307,9 +313,10 @@ class Infeasible(Answer):
 @dataclasses.dataclass(frozen=True, kw_only=True)
 class Unbounded(Answer):
     """The objective has no bound: the payments of `ray` may be added to the mechanism again and again, and gain each time.
-    `conditions` are those of the designer, of `require`."""
+    `conditions` are those of the designer, of `require`; no shadow of theirs is told."""
 
     word = "unbounded"
+    shadows: ClassVar[tuple[Fraction | None, ...]] = ()
     setting: Setting = dataclasses.field(repr=False)
     mechanism: Mechanism
     ray: Payments
@@ -510,6 +517,21 @@ class Worst:
         return *(name for name in names if name is not None), *terms(self.amount)
 
 
+@dataclasses.dataclass(frozen=True)
+class Standing:
+    """How a mechanism stands against a condition of the designer, which is true where it meets the condition.
+
+    amount  what the condition measures; of a condition on payments with `least` the least payment that it is about, and with `most`
+            the greatest
+    """
+
+    met: bool
+    amount: Fraction
+
+    def __bool__(self) -> bool:
+        return self.met
+
+
 @dataclasses.dataclass(frozen=True, kw_only=True)
 class Report(Printed):
     """What a mechanism does, and how far it is from truthful.
@@ -520,6 +542,7 @@ class Report(Printed):
     losses                   for each agent the most that it misses of its outside utility
     deficit                  the least that all agents pay together at a profile, and that profile; or None
     tight                    the conditions that hold with equality, by their names
+    conditions               how it stands against each condition of the designer, where the answer is one of `require`
     """
 
     value: Fraction
@@ -530,6 +553,7 @@ class Report(Printed):
     losses: tuple[Worst, ...]
     deficit: tuple[Profile, Fraction] | None
     tight: tuple[str, ...]
+    conditions: tuple[Standing, ...] = ()
 
     def records(self) -> Iterator[Record]:
         for word in ("value", "revenue", "welfare"):
@@ -543,6 +567,8 @@ class Report(Printed):
             yield "deficit", "+".join(self.deficit[0]), *terms(self.deficit[1])
         for name in self.tight:
             yield "tight", name
+        for place, standing in enumerate(self.conditions):
+            yield "condition", place, "met" if standing else "missed", *terms(standing.amount)
         yield ("end",)
 
     @property
@@ -552,7 +578,7 @@ class Report(Printed):
 
     @property
     def admissible(self) -> bool:
-        """Whether no condition is missed."""
+        """Whether no condition of the setting is missed."""
         missed = any(worst.amount > 0 for worst in (*self.gains, *self.losses))
         return not missed and (self.deficit is None or self.deficit[1] >= 0)
 

@@ -33,6 +33,7 @@ from .answers import (
     Row,
     Rule,
     SaleOptimal,
+    Standing,
     Table,
     Threshold,
     TooWide,
@@ -167,11 +168,12 @@ def _unbounded(records: Records, setting: Setting, kind: str) -> Unbounded:
 
 
 def _required(records: Records, setting: Setting, kind: str, word: str, version: str) -> Answer:
-    """An answer of `require`: one as of `find`, with the conditions of the designer in front."""
+    """An answer of `require`: one as of `find`, with the conditions of the designer in front, and their shadows behind."""
     conditions = take_conditions(records, setting)
     if word == "optimal":
         value, mechanism = records.fraction(records.take("value", 2)), _mechanism(records, setting)
         bound, multipliers = _bound(records)
+        shadows = _shadows(records, len(conditions))
         records.end()
         return Required(
             setting=setting,
@@ -181,6 +183,7 @@ def _required(records: Records, setting: Setting, kind: str, word: str, version:
             bound=bound,
             multipliers=multipliers,
             conditions=conditions,
+            shadows=shadows,
         )
     if word == "infeasible":
         faces = _faces(records)
@@ -189,6 +192,19 @@ def _required(records: Records, setting: Setting, kind: str, word: str, version:
     if word == "unbounded":
         return dataclasses.replace(_unbounded(records, setting, kind), conditions=conditions)
     raise UnknownAnswer(f"an answer of an unknown kind: {kind}, {word}")
+
+
+def _shadows(records: Records, count: int) -> tuple[Fraction | None, ...]:
+    """The shadows of so many conditions, as far as they are told."""
+    found: list[Fraction | None] = []
+    for field, *shadow in records.all("shadow", 3):
+        place = records.number(field)
+        if not len(found) <= place < count:
+            raise records.wrong("no such condition, or not the next one")
+        found += [None] * (place - len(found))
+        found.append(records.fraction(shadow))
+    found += [None] * (count - len(found))
+    return tuple(found)
 
 
 def _tree(records: Records, setting: Setting) -> tuple[Node, ...]:
@@ -552,10 +568,26 @@ def read_report(setting: AnySetting, text: str) -> Report | Violated:
         profile, *least = records.take("deficit", 3)
         deficit = (tuple(profile.split("+")), records.fraction(least))
     tight = tuple(name for (name,) in records.all("tight", 1))
+    conditions = tuple(_standing(records, place, fields) for place, fields in enumerate(records.all("condition", 4)))
     records.end()
     return Report(
-        value=value, revenue=revenue, welfare=welfare, types=types, gains=gains, losses=losses, deficit=deficit, tight=tight
+        value=value,
+        revenue=revenue,
+        welfare=welfare,
+        types=types,
+        gains=gains,
+        losses=losses,
+        deficit=deficit,
+        tight=tight,
+        conditions=conditions,
     )
+
+
+def _standing(records: Records, place: int, fields: list[str]) -> Standing:
+    """The record of the condition of the designer with a number."""
+    if records.number(fields[0]) != place or fields[1] not in ("met", "missed"):
+        raise records.wrong("the next condition is wanted, met or missed")
+    return Standing(fields[1] == "met", records.fraction(fields[2:]))
 
 
 def _worst(records: Records, setting: AnySetting, fields: list[str], is_gain: bool) -> Worst:

@@ -1,6 +1,6 @@
 """What stands in for the proved library: the programs of second-opinion/, which share nothing with mechdes but its formats.
 
-They find, check, list and report. `audit` and `run` are made here of their parts, by docs/FORMATS.md.
+They find, check, audit, list and report. `run` is made here of their parts, by docs/FORMATS.md.
 """
 
 import itertools
@@ -17,6 +17,7 @@ from second_opinion import (  # noqa: E402
     answer,
     auction,
     auction_answer,
+    auditing,
     checking,
     command,
     fair_checking,
@@ -24,7 +25,6 @@ from second_opinion import (  # noqa: E402
     finding,
     listing,
     mechanisms,
-    program,
     reporting,
     require_checking,
     requiring,
@@ -42,15 +42,6 @@ def _read(names: Sequence[str]) -> tuple[setting.Setting, bytes]:
     """A setting, and the bytes of an answer to it, from their files."""
     its = setting.read_setting(command.read_file(names[0], setting.FILE_LIMIT))
     return its, command.read_file(names[1], answer.FILE_LIMIT)
-
-
-def audit(words: Sequence[str]) -> Told:
-    """The command `audit SETTING ANSWER`."""
-    its, data = _read(words)
-    if isinstance(its, setting.AuctionSetting):
-        raise Refused(65, "setting refused: other kind")
-    broken = program.broken(its, mechanisms.mechanism_in(data, its))
-    return (0, "admissible\n") if broken is None else (20, ",".join(map(str, ("broken", *broken))) + "\n")
 
 
 def run(words: Sequence[str]) -> Told:
@@ -143,7 +134,7 @@ class SecondOpinion:
         "unitcheck": unit_checking.unitcheck,
         "rows": listing.rows,
         "report": reporting.report,
-        "audit": audit,
+        "audit": auditing.audit,
         "run": run,
         "threshold": threshold.threshold,
         "award": award,

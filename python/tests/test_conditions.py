@@ -1,6 +1,7 @@
 """Conditions of the designer: as values, as texts, and what `require` and `requirecheck` give. The commands are those of
 second-opinion/; the expected numbers are those of the pages of examples/."""
 
+import dataclasses
 import unittest
 from fractions import Fraction
 from typing import Any
@@ -11,12 +12,14 @@ from mechdes import Chance, Payment, Reply, Revenue, Utility, Welfare
 from .common import EXAMPLES, calling, example, stored, text
 from .stand_in import Changed, SecondOpinion
 
+# Floors with the values under them and their shadows. The price 1 brings a revenue of 1 and a welfare of 3, 2 brings 8/5 and 14/5,
+# and 3 brings 9/5 and 12/5: between two prices welfare falls evenly.
 FLOORS = (
-    (1, Fraction(1, 2), 3),
-    (2, Fraction(6, 5), Fraction(44, 15)),
-    (3, Fraction(3, 2), Fraction(17, 6)),
-    (4, Fraction(17, 10), Fraction(13, 5)),
-    (5, Fraction(7, 4), Fraction(5, 2)),
+    (1, Fraction(1, 2), 3, 0),
+    (2, Fraction(6, 5), Fraction(44, 15), Fraction(-1, 3)),
+    (3, Fraction(3, 2), Fraction(17, 6), Fraction(-1, 3)),
+    (4, Fraction(17, 10), Fraction(13, 5), -2),
+    (5, Fraction(7, 4), Fraction(5, 2), -2),
 )
 
 
@@ -28,35 +31,43 @@ class Requiring(unittest.TestCase):
 
     def test_a_frontier_by_floors(self) -> None:
         setting = example("revenue-floor")
-        for number, floor, value in FLOORS:
+        for number, floor, value, shadow in FLOORS:
             found = mechdes.require(setting, [Revenue("least", floor)])
             self.assertIs(type(found), mechdes.Required)
             self.assertEqual((found.value, found.conditions), (value, (Revenue("least", floor, floor.denominator),)))
+            self.assertEqual(found.shadows, (shadow,))
             self.assertTrue(mechdes.requirecheck(setting, found))
             kept = stored(f"revenue-floor-{number}-required")
             self.assertTrue(mechdes.requirecheck(setting, kept))
-            self.assertEqual(mechdes.read(setting, kept).value, value)
+            read = mechdes.read(setting, kept)
+            self.assertEqual((read.value, read.shadows), (value, (shadow,)))
+            # What another floor leaves is never more than the shadow says.
+            self.assertTrue(all(other <= value + (moved - floor) * shadow for _, moved, other, _ in FLOORS))
         found = mechdes.require(setting, [Revenue("least", 2)])
         self.assertEqual((type(found), found.kind, found.conditions), (mechdes.Infeasible, "required", (Revenue("least", 2, 1),)))
+        self.assertEqual(found.shadows, ())
         self.assertTrue(mechdes.requirecheck(setting, found))
 
     def test_conditions_may_be_a_path_or_a_text(self) -> None:
         setting, path = example("budget"), stored("budget-4")
         wanted = mechdes.require(setting, [Payment("bidder", "most", 4)])
-        self.assertEqual(wanted.value, Fraction(5, 2))
+        # (6 + B)/4 for a budget B.
+        self.assertEqual((wanted.value, wanted.shadows), (Fraction(5, 2), (Fraction(1, 4),)))
         for given in (path, path.read_text(), path.read_bytes()):
             self.assertEqual(mechdes.require(setting, given), wanted)
         self.assertEqual(wanted.conditions, mechdes.read_conditions(wanted.setting, path.read_text()))
 
     def test_none_and_several(self) -> None:
         setting = example("posted-price")
-        self.assertEqual(mechdes.require(setting, []).value, Fraction(3, 2))
-        # Of the page of a bidder with a budget, with the values 1 and 3: (3 + B)/4 for a budget B. A type that never has the item
-        # does not pay, and the other floor is not met with equality.
+        free = mechdes.require(setting, [])
+        self.assertEqual((free.value, free.shadows), (Fraction(3, 2), ()))
+        # As on the page of a bidder with a budget, with the values 1 and 3: (3 + B)/4 for a budget B. With 1 it has the item half
+        # of the time, so that it keeps 1/2 on average, and welfare is 7/4: the other two floors are not met with equality.
         conditions = [Payment("buyer", "most", 2), Utility("buyer", "least", Fraction(1, 4)), Welfare("least", 1, 3)]
         found = mechdes.require(setting, conditions)
-        self.assertEqual(found.value, Fraction(5, 4))
+        self.assertEqual((found.value, found.shadows), (Fraction(5, 4), (Fraction(1, 4), 0, 0)))
         self.assertIn("\nutility,buyer,least,1,4\nwelfare,least,3,3\n", found.text())
+        self.assertTrue(found.text().endswith("\nshadow,0,1,4\nshadow,1,0,1\nshadow,2,0,1\nend\n"))
 
     def test_where_the_objective_has_no_bound(self) -> None:
         setting = example("unbounded-revenue")
@@ -65,7 +76,7 @@ class Requiring(unittest.TestCase):
         self.assertEqual(found.kind, "required")
         self.assertEqual(type(mechdes.require(setting, [Chance(outcome, "most", 1)])), mechdes.Unbounded)
         unbounded = mechdes.require(setting, [Chance(outcome, "most", 1)])
-        self.assertEqual(unbounded.conditions, (Chance(outcome, "most", 1, 1),))
+        self.assertEqual((unbounded.conditions, unbounded.shadows), ((Chance(outcome, "most", 1, 1),), ()))
         self.assertTrue(mechdes.requirecheck(setting, unbounded))
         self.assertEqual(mechdes.read(setting, unbounded.text()), unbounded)
 
@@ -75,6 +86,8 @@ class Requiring(unittest.TestCase):
         self.assertTrue(mechdes.audit(setting, found))
         self.assertEqual(mechdes.report(setting, found).value, Fraction(35, 8))
         self.assertEqual(found.lotteries["north", "north"]["bob_north"], Fraction(1, 2))
+        # Where both like the north, Bob's way is worth 2 and Ann's is worth 3.
+        self.assertEqual(found.shadows, (-1,))
 
     def test_what_is_wrong_is_rejected(self) -> None:
         setting, printed = example("budget"), text("budget-4-required.csv")
@@ -82,6 +95,9 @@ class Requiring(unittest.TestCase):
             ("most,4,1", "most,3,1", 17, (0, 6, 8)),
             ("value,5,2", "value,7,2", 2, (5, 2)),
             ("row,5,0,6", "row,5,0,7", 6, (11, 2, 5, 1)),
+            ("shadow,0,1,4", "shadow,0,1,5", 18, (0, 1, 4)),
+            ("shadow,0,1,4", "shadow,0,2,8", 18, (0, 1, 4)),
+            ("shadow,0,1,4\n", "", 18, (0, 1, 4)),
         ):
             verdict = mechdes.requirecheck(setting, printed.replace(old, new))
             self.assertFalse(verdict)
@@ -89,6 +105,26 @@ class Requiring(unittest.TestCase):
             self.assertEqual(mechdes.parse("requirecheck", verdict.text()), verdict)
         verdict = mechdes.requirecheck(setting, printed.replace("pay,low,2", "pay,low,4"))
         self.assertEqual((verdict.condition, verdict.name, verdict.numbers), (1, "rational/bidder/low", (-2, 0)))
+
+    def test_shadows_that_are_not_told(self) -> None:
+        # With the value 6 the item is never kept, by two more conditions, whose rows are 8 and 9. With face multipliers of 1 they
+        # take each other away, and no shadow of theirs is told.
+        setting, printed = example("budget"), text("budget-4-required.csv")
+        front, back = "pay,bidder,most,4,1\n", "shadow,0,1,4\n"
+        printed = printed.replace(front, front + "at,high,keep,least,0,1\nat,high,keep,most,0,1\n")
+        printed = printed.replace(back, "row,8,1,0\nrow,9,1,0\n" + back)
+        found = mechdes.read(setting, printed)
+        self.assertEqual((found.shadows, found.text()), ((Fraction(1, 4), None, None), printed))
+        self.assertTrue(mechdes.requirecheck(setting, found))
+        for place in (1, 2):
+            told = tuple(Fraction(0) if place == other else shadow for other, shadow in enumerate(found.shadows))
+            verdict = mechdes.requirecheck(setting, dataclasses.replace(found, shadows=told))
+            self.assertEqual((verdict.condition, verdict.name, verdict.numbers), (18, None, (place,)))
+            self.assertEqual(mechdes.parse("requirecheck", verdict.text()), verdict)
+        # The last shadow alone.
+        between = printed.replace("row,8,1,0\nrow,9,1,0\n", "").replace(back, "shadow,2,0,1\n")
+        self.assertEqual(mechdes.read(setting, between).shadows, (None, None, 0))
+        self.assertEqual(mechdes.requirecheck(setting, between).numbers, (0, 1, 4))
 
     def test_refusals(self) -> None:
         setting = example("budget")
@@ -193,9 +229,14 @@ class Texts(unittest.TestCase):
 
     def test_records_that_may_not_stand_there(self) -> None:
         setting, printed = mechdes.read_setting(example("budget")), text("budget-4-required.csv")
-        for other in ("shadow,0,1,4\n", "pay,bidder,most,4,1\n"):
+        for other in ("shadow,0,1,4\n", "shadow,1,0,1\n", "row,7,0,1\n", "pay,bidder,most,4,1\n"):
             with self.assertRaises(mechdes.AnswerNotRead):
                 mechdes.read(setting, printed.replace("end\n", other + "end\n"))
+        for wrong in ("shadow,-1,1,4", "shadow,1,1,4", "shadow,0,1", "shadow,0,1,0", "shadow,0,x,4", "shadow,0,1,4,0"):
+            with self.assertRaises(mechdes.AnswerNotRead):
+                mechdes.read(setting, printed.replace("shadow,0,1,4", wrong))
+        with self.assertRaises(mechdes.AnswerNotRead):
+            mechdes.read(example("revenue-floor"), text("revenue-floor-6-required.csv").replace("end\n", "shadow,0,0,1\nend\n"))
         with self.assertRaises(mechdes.UnknownAnswer):
             mechdes.read(setting, "answer,1,required,toowide\nend\n")
 

@@ -214,6 +214,22 @@ class Made(Texts):
         self.assertFalse(found)
         self.assertEqual(found.wide.entry, Fraction(10, 3))
 
+    def test_a_report_under_conditions(self) -> None:
+        answer = b"answer,1,required,optimal\nrevenue,least,1,1\npay,buyer,most,5,2\nvalue,3,2\ntable,1\nlottery,low,1,0\n"
+        answer += b"lottery,high,0,1\npay,low,0\npay,high,3\nbound,1\nend\n"
+        told = SecondOpinion().call(["report", "setting", "answer"], example("posted-price").read_bytes(), answer).out.decode()
+        posted = mechdes.read_setting(example("posted-price"))
+        # The price 3 brings it half of the time, and is more than 5/2.
+        found = self.again("report", told, posted)
+        self.assertEqual(found.conditions, (mechdes.Standing(True, Fraction(3, 2)), mechdes.Standing(False, Fraction(3))))
+        self.assertEqual((list(map(bool, found.conditions)), found.admissible), ([True, False], True))
+        for old, new in (("condition,1", "condition,0"), ("condition,1", "condition,2"), (",missed,", ",no,"), (",met,3,2", ",met,3")):
+            with self.subTest(new), self.assertRaises(mechdes.AnswerNotRead):
+                mechdes.parse("report", told.replace(old, new), posted)
+        said = SecondOpinion().call(["audit", "setting", "answer"], example("posted-price").read_bytes(), answer).out.decode()
+        audited = self.again("audit", said)
+        self.assertEqual((bool(audited), audited.broken, audited.left, audited.right), (False, "condition/1", 5, 6))
+
     def test_odds(self) -> None:
         auction = mechdes.read_setting(example("two-bidders"))
         for command in ("realise", "report"):
@@ -241,6 +257,8 @@ class Made(Texts):
             ("rejected,12,rational/a/t,-1,0", False),
             ("rejected,16", False),
             ("rejected,17,0,15,16", False),
+            ("rejected,18,0,-1,3", False),
+            ("rejected,18,2", False),
         ):
             with self.subTest(printed):
                 for command in ("check", "requirecheck", "faircheck", "asymcheck", "unitcheck", "determcheck"):

@@ -21,6 +21,7 @@ GREATEST_WIDE = 2**126 - 1  # the size of a number in `value` and `wide` records
 GREATEST_PLACE = 2**32 - 1  # a row or column of a pivot or an entry
 NO_TABLE = "answer refused: no table"  # of a command that needs a mechanism
 ANOTHER_KIND, ANOTHER_WORD = (f"answer refused: line 1: field {place}" for place in (3, 4))  # in the first record
+END = {"end": 1}  # the last record, with its number of fields
 
 NUMBER = re.compile(rb"0|-?[1-9][0-9]*")
 # A field that begins with a quote runs to the next single quote, or to the end of the file; what follows that quote up
@@ -210,22 +211,28 @@ def read_table(records: Records, setting: GeneralSetting, rows: int, paths: int)
     return TableAnswer(mechanism)
 
 
-def read_optimal(records: Records, setting: GeneralSetting, rows: int, paths: int) -> OptimalAnswer:
+def read_optimal(
+    records: Records, setting: GeneralSetting, rows: int, paths: int, last: Mapping[str, int] = END
+) -> OptimalAnswer:
     value = read_value(records)
     mechanism = read_mechanism(records, setting)
     records.expect(bound=2)
     bound = records.integer(2, 1, GREATEST)
-    return OptimalAnswer(value, mechanism, bound, read_rows(records, rows, 2))
+    return OptimalAnswer(value, mechanism, bound, read_rows(records, rows, 2, last))
 
 
-def read_infeasible(records: Records, setting: GeneralSetting, rows: int, paths: int) -> InfeasibleAnswer:
-    return InfeasibleAnswer(read_rows(records, rows, 1))
+def read_infeasible(
+    records: Records, setting: GeneralSetting, rows: int, paths: int, last: Mapping[str, int] = END
+) -> InfeasibleAnswer:
+    return InfeasibleAnswer(read_rows(records, rows, 1, last))
 
 
-def read_unbounded(records: Records, setting: GeneralSetting, rows: int, paths: int) -> UnboundedAnswer:
+def read_unbounded(
+    records: Records, setting: GeneralSetting, rows: int, paths: int, last: Mapping[str, int] = END
+) -> UnboundedAnswer:
     mechanism = read_mechanism(records, setting)
     rays = read_lists(records, setting, "ray") if setting.payments else {}
-    records.expect(end=1)
+    records.expect(**last)
     return UnboundedAnswer(mechanism, rays)
 
 
@@ -284,12 +291,12 @@ def read_named(records: Records, setting: GeneralSetting, profile: Profile, leas
     return records.integers(2 + len(setting.agents), least)
 
 
-def read_rows(records: Records, rows: int, count: int) -> dict[int, Pair]:
+def read_rows(records: Records, rows: int, count: int, last: Mapping[str, int] = END) -> dict[int, Pair]:
     """The `row` records up to the end, with the face multiplier alone or with the main one: pairs by index, which is one
-    of so many rows."""
+    of so many rows. Other records may stand in the place of the end."""
     multipliers: dict[int, Pair] = {}
     least = 0
-    while records.expect(row=2 + count, end=1) == "row":
+    while records.expect(row=2 + count, **last) == "row":
         index = records.integer(2, least, rows - 1)
         numbers = records.integers(3, -GREATEST)
         multipliers[index] = (numbers + [0])[0], (numbers + [0])[1]

@@ -4,6 +4,7 @@ to the linear program of a setting.
 `measured` takes a mechanism as it is, and `rows_of` has the same amounts as sums over the columns of the program.
 """
 
+import math
 from collections.abc import Callable, Iterable, Iterator, Sequence
 from dataclasses import dataclass, replace
 
@@ -272,3 +273,8 @@ def program_under(setting: GeneralSetting, conditions: Sequence[DesignerConditio
         for terms, right in undivided_rows(setting, condition):
             program.rows.append(divided(f"require/{index}", False, right, terms))
     return program
+
+
+def divisor_of(numbers: Iterable[int]) -> int:
+    """What a row, or the cost, is divided by."""
+    return math.gcd(*numbers) or 1

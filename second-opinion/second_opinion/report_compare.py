@@ -1,5 +1,6 @@
-"""Compares `report` with mechdes on the answers of examples/, and on texts that are made at random: tables of mechanisms, answers
-about the fairest one, answers about auctions, and auctions of one's own, of which some have odds that no auction has.
+"""Compares `report` and `audit` with mechdes on the answers of examples/, and on texts that are made at random: tables of mechanisms,
+answers about the fairest one and under conditions of the designer, answers about auctions, and auctions of one's own, of which some
+have odds that no auction has.
 
 Some texts are changed after they were made, and most of these are refused. The seed is fixed, so that the texts are the same at
 each call. What is printed, the line on standard error and the status must be the same. The program is that of the variable
@@ -7,6 +8,7 @@ MECHDES, or the one that the repository's tests build.
 """
 
 import collections
+import dataclasses
 import os
 import random
 import subprocess
@@ -16,14 +18,18 @@ from collections.abc import Callable, Iterator
 from pathlib import Path
 from typing import Any, NoReturn
 
-from second_opinion import auction, command, mutate, reporting, setting
+from second_opinion import auction, auditing, command, mutate, reporting, setting
+from second_opinion.conditions import condition_line
 from second_opinion.places import TOP, needed_program
+from second_opinion.require_compare import drawn_condition
 from second_opinion.setting import AuctionSetting, GeneralSetting, Profile
 
 MADE = 6  # texts of each sort for each setting
 GREATEST = 2**62 - 1
 CHANGED = 0.2  # how often a text is changed
 TOO_WIDE: list[list[object]] = [["wide", 0, 1, 5, 1], ["again"], ["pivot", 0, 1], ["wide", 2, 0, -7, 3]]
+
+COMMANDS: dict[str, command.Command] = {"report": reporting.report, "audit": auditing.audit}
 
 Rows = Iterator[list[object]]
 Maker = Callable[[random.Random, Any], Rows]
@@ -35,9 +41,10 @@ def main(words: list[str]) -> NoReturn:
     numbers, statuses, differing = random.Random(5), collections.Counter[int](), 0
     for toml in sorted(TOP.glob("examples/*.toml")):
         for csv in [*stored(toml), *made(numbers, setting.read_setting(toml.read_bytes()))]:
-            status, is_same = compared(path, toml, csv)
-            statuses[status] += 1
-            differing += not is_same
+            for word, function in COMMANDS.items():
+                status, is_same = compared(path, word, function, toml, csv)
+                statuses[status] += 1
+                differing += not is_same
     print("".join(f"{count:6} with the status {status}\n" for status, count in sorted(statuses.items())), end="")
     print(f"{statuses.total()} compared, {differing} differ")
     sys.exit(1 if differing else 0)
@@ -49,12 +56,12 @@ def stored(toml: Path) -> Iterator[bytes]:
         yield file.read_bytes()
 
 
-def compared(path: str, toml: Path, csv: bytes) -> tuple[int, bool]:
-    """The status, and whether the two say the same; where they do not, the files are kept and named."""
-    with tempfile.NamedTemporaryFile(prefix="report-", suffix=".csv", delete=False) as file:
+def compared(path: str, word: str, function: command.Command, toml: Path, csv: bytes) -> tuple[int, bool]:
+    """The status of a command, and whether the two say the same; where they do not, the files are kept and named."""
+    with tempfile.NamedTemporaryFile(prefix=f"{word}-", suffix=".csv", delete=False) as file:
         file.write(csv)
-    ran = subprocess.run([path, "report", toml, file.name], capture_output=True, text=True)
-    status, text, line = command.outcome(reporting.report, [str(toml), file.name])
+    ran = subprocess.run([path, word, toml, file.name], capture_output=True, text=True)
+    status, text, line = command.outcome(function, [str(toml), file.name])
     is_same = (ran.returncode, ran.stdout, ran.stderr) == (status, text, f"mechdes: {line}\n" if line else "")
     if is_same:
         os.unlink(file.name)
@@ -94,6 +101,23 @@ def fair_answer(numbers: random.Random, its: GeneralSetting) -> Rows:
     """An answer about the fairest mechanism, of which nothing that it claims needs to be so."""
     word = numbers.choice(["optimal", "optimal", "unbounded", "infeasible", "toowide"])
     yield ["answer", 1, "fair", word]
+    yield from claimed(numbers, its, word)
+    yield ["end"]
+
+
+def required_answer(numbers: random.Random, its: GeneralSetting) -> Rows:
+    """The same of an answer under conditions of the designer."""
+    word = numbers.choice(["optimal", "optimal", "optimal", "unbounded", "infeasible"])
+    yield ["answer", 1, "required", word]
+    for _ in range(numbers.randint(0, 4)):
+        bounded = dataclasses.replace(drawn_condition(numbers, its), num=numbers.randint(-6, 6), den=numbers.randint(1, 4))
+        yield [*condition_line(bounded, its).split(",")]
+    yield from claimed(numbers, its, word)
+    yield ["end"]
+
+
+def claimed(numbers: random.Random, its: GeneralSetting, word: str) -> Rows:
+    """What an answer of a word has behind its first records, without multipliers."""
     if word == "optimal":
         yield ["value", numbers.randint(-9, 9), numbers.randint(1, 9)]
     if word in ("optimal", "unbounded"):
@@ -104,7 +128,6 @@ def fair_answer(numbers: random.Random, its: GeneralSetting) -> Rows:
         yield from paid(numbers, its, "ray")
     if word == "toowide":
         yield from TOO_WIDE
-    yield ["end"]
 
 
 def mechanism(numbers: random.Random, its: GeneralSetting) -> Rows:
@@ -130,7 +153,7 @@ def names(its: GeneralSetting, profile: Profile) -> list[str]:
     return [agent.types[kind] for agent, kind in zip(its.agents, profile)]
 
 
-GENERAL_MAKERS: list[Maker] = [general_table, fair_answer]
+GENERAL_MAKERS: list[Maker] = [general_table, fair_answer, required_answer]
 
 
 # ---- auctions

@@ -4,13 +4,14 @@ Of a general setting all is computed from the lotteries and payments, profile by
 answer, or of an auction of one's own.
 """
 
-from collections.abc import Callable, Iterable, Iterator
+from collections.abc import Callable, Iterable, Iterator, Sequence
 from fractions import Fraction
 
 from second_opinion import answer, auction, auction_answer, command, mechanisms, program, setting
 from second_opinion.answer import Mechanism
 from second_opinion.auction import Interim
 from second_opinion.auction_answer import AuctionAnswer
+from second_opinion.conditions import DesignerCondition, measured, scale_of
 from second_opinion.setting import Agent, AuctionSetting, GeneralSetting, Profile, Refused
 
 Field = str | int
@@ -25,7 +26,7 @@ def report(words: list[str]) -> tuple[int, str]:
     if isinstance(its, AuctionSetting):
         status, records = auction_report(its, data)
     else:
-        status, records = DONE, general_records(its, mechanisms.mechanism_in(data, its))
+        status, records = DONE, general_records(its, *mechanisms.proposal_in(data, its))
     return status, "".join(",".join(map(str, record)) + "\n" for record in records)
 
 
@@ -43,7 +44,8 @@ def first_greatest(parts: Iterable[tuple[list[Field], Fraction]]) -> list[Field]
 # ---- a general setting
 
 
-def general_records(its: GeneralSetting, mechanism: Mechanism) -> Iterator[list[Field]]:
+def general_records(its: GeneralSetting, mechanism: Mechanism, asked: Sequence[DesignerCondition]) -> Iterator[list[Field]]:
+    """What the mechanism does, and how it stands against what the designer asked for."""
     amount, total = program.value_of(its, mechanism)
     yield ["value", *number(Fraction(amount, total * mechanism.den))]
     yield ["revenue", *number(expected(its, mechanism, lambda profile: sum(mechanism.pays.get(profile, []))))]
@@ -65,7 +67,18 @@ def general_records(its: GeneralSetting, mechanism: Mechanism) -> Iterator[list[
     for condition in program.conditions_of(its):
         if room(its, mechanism, condition) == 0:
             yield ["tight", condition.name]
+    for index, wanted in enumerate(asked):
+        yield ["condition", index, *standing(its, mechanism, wanted)]
     yield ["end"]
+
+
+def standing(its: GeneralSetting, mechanism: Mechanism, wanted: DesignerCondition) -> list[Field]:
+    """Whether a condition of the designer is met, and what it measures: of several amounts the one that is furthest towards the wrong
+    side of the bound."""
+    furthest = min if wanted.side == "least" else max
+    amount = Fraction(furthest(measured(its, mechanism, wanted)), mechanism.den * scale_of(its, wanted))
+    room = wanted.sign * (Fraction(wanted.num, wanted.den) - amount)
+    return ["met" if room >= 0 else "missed", *number(amount)]
 
 
 def expected(its: GeneralSetting, mechanism: Mechanism, amount: Callable[[Profile], int]) -> Fraction:

@@ -162,11 +162,15 @@ def changed_answer(numbers: random.Random, its: GeneralSetting, found: RequiredA
     """An answer that is changed as a whole, so that its texts stay in order, or a text with other records."""
     if numbers.random() < 0.4:
         return changed_text(numbers, required_answer.write_required(found, its))
-    asked, said = list(found.conditions), found.said
-    change = numbers.choice(["condition", "condition", "pay", "multiplier", "multiplier", "ray"])
+    asked, said, shadows = list(found.conditions), found.said, list(found.shadows)
+    change = numbers.choice(["condition", "condition", "shadow", "pay", "multiplier", "multiplier", "ray"])
     if change == "condition" and asked:
         place = numbers.randrange(len(asked))
         asked[place] = dataclasses.replace(asked[place], num=asked[place].num + numbers.choice([-1, 1, 9]))
+    elif change == "shadow" and shadows:
+        place = numbers.randrange(len(shadows))
+        num, den = shadows[place] or (0, 1)
+        shadows[place] = numbers.choice([None, (num, den), (num + 1, den), (2 * num, 2 * den), (-num, den)])
     elif change == "pay" and not isinstance(said, InfeasibleAnswer) and its.payments:
         pays = {profile: list(row) for profile, row in said.mechanism.pays.items()}
         pays[numbers.choice(list(pays))][0] += numbers.choice([-1, 1])
@@ -180,7 +184,7 @@ def changed_answer(numbers: random.Random, its: GeneralSetting, found: RequiredA
         face, main = said.multipliers.get(index, (0, 0))
         moved = face + numbers.choice([0, 0, 1, -1]), main + numbers.choice([0, 1, -1]) * isinstance(said, OptimalAnswer)
         said = dataclasses.replace(said, multipliers={**said.multipliers, index: moved})
-    return required_answer.write_required(RequiredAnswer(asked, said), its).encode()
+    return required_answer.write_required(RequiredAnswer(asked, said, shadows), its).encode()
 
 
 def drawn_texts(numbers: random.Random) -> Iterator[tuple[str, str]]:

@@ -5,11 +5,11 @@ setting's program with the rows of the conditions.
 from collections.abc import Sequence
 
 from second_opinion import answer, command, conditions, required_answer
-from second_opinion.answer import FILE_LIMIT
+from second_opinion.answer import FILE_LIMIT, OptimalAnswer
 from second_opinion.conditions import DesignerCondition
 from second_opinion.finding import STATUSES, found_by, written
 from second_opinion.program import value_of
-from second_opinion.require_checking import general_setting
+from second_opinion.require_checking import general_setting, shadows_of
 from second_opinion.required_answer import RequiredAnswer
 from second_opinion.setting import GeneralSetting
 
@@ -26,4 +26,6 @@ def require(words: list[str]) -> tuple[int, str]:
 
 def found_under(its: GeneralSetting, asked: Sequence[DesignerCondition]) -> RequiredAnswer:
     """An optimal, infeasible or unbounded answer under conditions, with numbers of any size."""
-    return RequiredAnswer(list(asked), found_by(its, conditions.program_under(its, asked), [], value_of))
+    said = found_by(its, conditions.program_under(its, asked), [], value_of)
+    shadows = shadows_of(its, asked, said) if isinstance(said, OptimalAnswer) else []
+    return RequiredAnswer(list(asked), said, shadows)

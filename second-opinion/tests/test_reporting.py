@@ -1,11 +1,11 @@
-"""What `report` says, each number worked out by hand. Run this with `python3 -m unittest discover` in second-opinion/."""
+"""What `report` and `audit` say, each number worked out by hand. Run this with `python3 -m unittest discover` in second-opinion/."""
 
 import random
 import tempfile
 import unittest
 from pathlib import Path
 
-from second_opinion import auction, auction_finding, command, report_compare, reporting, setting
+from second_opinion import auction, auction_finding, auditing, command, report_compare, reporting, setting
 from second_opinion.auction import Interim
 from second_opinion.places import EXAMPLES
 from second_opinion.setting import AuctionSetting
@@ -82,6 +82,36 @@ tight,deficit/t+t
 end
 """
 
+# A seller of one item whose buyer has the value 1 or 3. With 1 the buyer gets it half of the time and pays 1/2; with 3 it gets it and
+# pays 2. It has nothing or 1, and with 3 it would have 1 by the other report, too.
+SALE = (EXAMPLES / "posted-price.toml").read_text()
+SOLD = "table,2\nlottery,low,1,1\nlottery,high,0,2\npay,low,1\npay,high,4\n"
+OF_SALE = """value,5,4
+revenue,5,4
+welfare,7,4
+type,buyer,low,0,1,1,2
+type,buyer,high,1,1,2,1
+gain,buyer,high,low,high,0,1
+loss,buyer,low,low,0,1
+tight,truth/buyer/high/low/high
+tight,rational/buyer/low
+"""
+
+# Conditions of the designer, and how that stands against them: it brings 5/4, of a welfare of 7/4, and leaves the buyer 1/2; the item
+# is sold 3/4 of the time, and kept half of the time where the value is 1.
+ASKED = [
+    ("revenue,least,1,1", "met,5,4"),
+    ("revenue,most,5,4", "met,5,4"),
+    ("welfare,least,2,1", "missed,7,4"),
+    ("utility,buyer,most,1,4", "missed,1,2"),
+    ("chance,sell,least,6,8", "met,3,4"),
+    ("at,low,keep,most,1,3", "missed,1,2"),
+    ("pay,buyer,least,1,2", "met,1,2"),  # the least of 1/2 and 2
+    ("pay,buyer,most,1,2", "missed,2,1"),  # the greatest
+    ("pay,buyer,low,most,1,2", "met,1,2"),
+    ("pay,buyer,high,least,9,4", "missed,2,1"),
+]
+
 AUCTION = """format = "mechanism-setting"
 version = 1
 kind = "auction"
@@ -121,13 +151,18 @@ end
 """
 
 
-def told(toml, csv):
-    """What `report` comes to."""
+def told(toml, csv, function=reporting.report):
+    """What `report` comes to, or another command."""
     with tempfile.TemporaryDirectory() as folder:
         names = [str(Path(folder) / name) for name in ("setting.toml", "second.csv")]
         for name, text in zip(names, (toml, csv)):
             Path(name).write_text(text)
-        return command.outcome(reporting.report, names)
+        return command.outcome(function, names)
+
+
+def audited(toml, csv):
+    """What `audit` comes to."""
+    return told(toml, csv, auditing.audit)
 
 
 def refused(text):
@@ -162,6 +197,47 @@ class Fairest(unittest.TestCase):
             (FAIREST.replace("row,8", "row,14"), "line 9: field 2"),  # there are 12 rows, and one for each voter
         ):
             self.assertEqual(told(VOTE, text), refused(line), text)
+
+
+def required(*asked, sold=SOLD):
+    """An answer under conditions of the designer, of which nothing that it claims needs to be so."""
+    lines = "".join(f"{line}\n" for line in asked)
+    return f"answer,1,required,optimal\n{lines}value,5,4\n{sold}bound,1\nend\n"
+
+
+class Asked(unittest.TestCase):
+    """Answers under conditions of the designer."""
+
+    def test_each_condition_is_told(self):
+        records = "".join(f"condition,{index},{record}\n" for index, (_, record) in enumerate(ASKED))
+        self.assertEqual(told(SALE, required(*(line for line, _ in ASKED))), (0, f"{OF_SALE}{records}end\n", None))
+
+    def test_none_is_told_where_there_is_none(self):
+        for text in (required(), f"answer,1,general,table\n{SOLD}end\n"):
+            self.assertEqual(told(SALE, text), (0, f"{OF_SALE}end\n", None))
+
+    def test_the_first_that_is_not_met_is_audited(self):
+        for asked, line in (
+            ([], "admissible"),
+            (["revenue,least,5,4", "pay,buyer,most,2,1"], "admissible"),
+            # The item is worth 7 over the table's 2 and both profiles, and so much times 1; the bound is 2 times 4.
+            (["revenue,least,1,1", "welfare,least,2,1", "pay,buyer,most,1,1"], "broken,condition/1,7,8"),
+            # Of 1 and 4 over 2 the second one is the first that is too much: 1/2 times 2, and so much for each times 2.
+            (["pay,buyer,most,1,2"], "broken,condition/0,2,8"),
+        ):
+            said = (0 if line == "admissible" else 20, f"{line}\n", None)
+            self.assertEqual(audited(SALE, required(*asked)), said, asked)
+
+    def test_conditions_of_the_setting_come_first(self):
+        # With 3 the buyer pays 5/2 and keeps 1/2; by the other report it would keep 1.
+        wrong = required("pay,buyer,most,1,1", sold=SOLD.replace("high,4", "high,5"))
+        self.assertEqual(audited(SALE, wrong), (20, "broken,truth/buyer/high/low/high,1,2\n", None))
+
+    def test_what_audit_refuses(self):
+        none = "answer,1,required,infeasible\nrevenue,least,2,1\nend\n"
+        self.assertEqual(audited(SALE, none), refused("no table"))
+        self.assertEqual(audited(SALE, required("pay,buyer,most,1,0")), refused("line 2: field 5"))
+        self.assertEqual(audited(AUCTION, SECOND_PRICE), (65, "", "setting refused: other kind"))
 
 
 class OwnAuctions(unittest.TestCase):

@@ -61,10 +61,14 @@ def found(setting, *lines):
 
 
 class Kinds(unittest.TestCase):
-    def brings(self, setting, value, *lines):
-        answered = found(setting, *lines)
-        self.assertIsInstance(answered.said, OptimalAnswer, lines)
-        self.assertEqual(Fraction(*answered.said.value), Fraction(value), lines)
+    def brings(self, setting, value, *conditions):
+        """Each condition is given with its shadow; None where it is not asked for."""
+        answered = found(setting, *(line for line, _ in conditions))
+        self.assertIsInstance(answered.said, OptimalAnswer, conditions)
+        self.assertEqual(Fraction(*answered.said.value), Fraction(value), conditions)
+        for shadow, (line, wanted) in zip(answered.shadows, conditions, strict=True):
+            if wanted is not None:
+                self.assertEqual(Fraction(*shadow), Fraction(wanted), line)
 
     def comes_to(self, word, setting, *lines):
         self.assertEqual(type(found(setting, *lines).said).__name__, word, lines)
@@ -75,96 +79,123 @@ class Kinds(unittest.TestCase):
 
     def test_revenue(self):
         # No more than the bound can be had, and all of it can.
-        self.brings(SALE, 1, "revenue,most,1,1")
-        self.brings(SALE, "1/3", "revenue,most,2,6")
-        self.brings(SALE, "3/2", "revenue,least,1,1")
+        self.brings(SALE, 1, ("revenue,most,1,1", 1))
+        self.brings(SALE, "1/3", ("revenue,most,2,6", 1))
+        self.brings(SALE, "3/2", ("revenue,least,1,1", 0))
         self.comes_to("InfeasibleAnswer", SALE, "revenue,least,2,1")
         # What is bounded by the condition alone.
-        self.brings(FORCED, 5, "revenue,most,5,1")
+        self.brings(FORCED, 5, ("revenue,most,5,1", 1))
         # Where welfare is the aim, low can be sold to for 1 and high, too: 2 of welfare with a revenue of 1. For a revenue of 5/4 the
         # chance x has to be 1/2: the revenue is (3 - x)/2 and the welfare (3 + x)/2, which makes 3 together.
         welfare = sale(objective="welfare = 1")
-        self.brings(welfare, 2, "revenue,least,1,2")
-        self.brings(welfare, "7/4", "revenue,least,5,4")
+        self.brings(welfare, 2, ("revenue,least,1,2", 0))
+        self.brings(welfare, "7/4", ("revenue,least,5,4", -1))
 
     def test_welfare(self):
         # The welfare (x + 3y)/2 is to be 7/4: with y = 1 that is x = 1/2, and the revenue (3 - x)/2 = 5/4. Both make 3 together.
-        self.brings(SALE, "5/4", "welfare,least,7,4")
+        self.brings(SALE, "5/4", ("welfare,least,7,4", -1))
         # With x = 0 the revenue is the welfare.
-        self.brings(SALE, 1, "welfare,most,1,1")
-        self.brings(SALE, "3/2", "welfare,least,1,1")
+        self.brings(SALE, 1, ("welfare,most,1,1", 1))
+        self.brings(SALE, "3/2", ("welfare,least,1,1", 0))
         self.comes_to("InfeasibleAnswer", SALE, "welfare,least,3,1")
         self.comes_to("UnboundedAnswer", FORCED, "welfare,least,2,1")
 
     def test_utility(self):
         # The buyer is left 2x with the chance 1/2. So x is the bound, 1/2, and a unit more of it costs 1/2 of revenue.
-        self.brings(SALE, "5/4", "utility,buyer,least,1,2")
-        self.brings(SALE, "3/2", "utility,buyer,most,1,1")
+        self.brings(SALE, "5/4", ("utility,buyer,least,1,2", "-1/2"))
+        self.brings(SALE, "3/2", ("utility,buyer,most,1,1", 0))
         self.comes_to("InfeasibleAnswer", SALE, "utility,buyer,most,-1,1")
         # Beyond 1 the buyer has to be paid: each unit costs one.
-        self.brings(SALE, "1/2", "utility,buyer,least,3,2")
+        self.brings(SALE, "1/2", ("utility,buyer,least,3,2", -1))
         # The buyer may lose 4 on average: what it pays is 4 more than what it gets, 3/2 where x = 0 or 2 where x = 1.
-        self.brings(FORCED, 6, "utility,buyer,least,-4,1")
+        self.brings(FORCED, 6, ("utility,buyer,least,-4,1", -1))
 
     def test_chance(self):
         # Sold with the chance q = (x + 1)/2, so that x = 2q - 1 and the revenue is 2 - q.
-        self.brings(SALE, "5/4", "chance,sell,least,3,4")
-        self.brings(SALE, "5/4", "chance,keep,most,1,4")
+        self.brings(SALE, "5/4", ("chance,sell,least,3,4", -1))
+        self.brings(SALE, "5/4", ("chance,keep,most,1,4", 1))
         # With x = 0 and q = y/2 the revenue is 3q.
-        self.brings(SALE, "3/4", "chance,sell,most,1,4")
-        self.brings(SALE, "3/2", "chance,sell,most,3,4")
+        self.brings(SALE, "3/4", ("chance,sell,most,1,4", 3))
+        self.brings(SALE, "3/2", ("chance,sell,most,3,4", 0))
         self.comes_to("InfeasibleAnswer", SALE, "chance,sell,least,2,1")
         self.comes_to("UnboundedAnswer", FORCED, "chance,sell,most,0,1")
 
     def test_at(self):
         # x = 1/2: (3 - x)/2 of revenue. y = 1/2: 3y/2.
-        self.brings(SALE, "5/4", "at,low,sell,least,1,2")
-        self.brings(SALE, "3/4", "at,high,sell,most,1,2")
-        self.brings(SALE, "3/2", "at,high,sell,least,1,2")
+        self.brings(SALE, "5/4", ("at,low,sell,least,1,2", "-1/2"))
+        self.brings(SALE, "3/4", ("at,high,sell,most,1,2", "3/2"))
+        self.brings(SALE, "3/2", ("at,high,sell,least,1,2", 0))
         # Who values the item less would have it more often.
         self.comes_to("InfeasibleAnswer", SALE, "at,high,sell,most,1,3", "at,low,sell,least,1,2")
         self.comes_to("UnboundedAnswer", FORCED, "at,high,keep,least,1,1")
 
     def test_pay(self):
         # High pays 3 - 2x, at most 2 where x is 1/2. With the bound p the revenue is (x + p)/2 = ((3 - p)/2 + p)/2 = (3 + p)/4.
-        self.brings(SALE, "5/4", "pay,buyer,most,2,1")
-        self.brings(SALE, "5/4", "pay,buyer,high,most,2,1")
-        self.brings(SALE, "3/2", "pay,buyer,low,most,2,1")
+        self.brings(SALE, "5/4", ("pay,buyer,most,2,1", "1/4"))
+        self.brings(SALE, "5/4", ("pay,buyer,high,most,2,1", "1/4"))
+        self.brings(SALE, "3/2", ("pay,buyer,low,most,2,1", 0))
         # Low pays x at most.
-        self.brings(SALE, "5/4", "pay,buyer,low,least,1,2")
-        self.brings(SALE, "5/4", "pay,buyer,least,1,2")
+        self.brings(SALE, "5/4", ("pay,buyer,low,least,1,2", "-1/2"))
+        self.brings(SALE, "5/4", ("pay,buyer,least,1,2", "-1/2"))
         self.comes_to("InfeasibleAnswer", SALE, "pay,buyer,least,3,2")
         # With x = 0 and y = 1 high pays 3 more than low.
-        self.brings(FORCED, "11/2", "pay,buyer,low,most,4,1")
+        self.brings(FORCED, "11/2", ("pay,buyer,low,most,4,1", 1))
         self.comes_to("UnboundedAnswer", FORCED, "pay,buyer,low,least,4,1")
 
     def test_weights_and_divisors(self):
         # High comes 3 times of 4: the revenue is (x + 3(3 - 2x))/4 = (9 - 5x)/4, and the item is sold with the chance q = (x + 3)/4,
         # so that the revenue is 6 - 5q. All with x = 1/2.
         setting = sale(weights="[1, 3]")
-        self.brings(setting, "13/8", "chance,sell,least,7,8")
-        self.brings(setting, "13/8", "chance,sell,least,14,16")
-        self.brings(setting, "13/8", "at,low,sell,least,1,2")
+        self.brings(setting, "13/8", ("chance,sell,least,7,8", -5))
+        self.brings(setting, "13/8", ("chance,sell,least,14,16", -5))
+        self.brings(setting, "13/8", ("at,low,sell,least,1,2", "-5/4"))
         # High pays p = 3 - 2x: ((3 - p)/2 + 3p)/4 = (3 + 5p)/8.
-        self.brings(setting, "13/8", "pay,buyer,most,4,2")
+        self.brings(setting, "13/8", ("pay,buyer,most,4,2", "5/8"))
         # Three times the revenue is the aim, and the cost is divided by 3.
-        self.brings(sale("[1, 3]", "revenue = 3"), "39/8", "chance,sell,least,7,8")
+        self.brings(sale("[1, 3]", "revenue = 3"), "39/8", ("chance,sell,least,7,8", -15))
         # Weights of 20 and 60 are as likely.
-        self.brings(sale("[20, 60]", "revenue = 3"), "39/8", "at,low,sell,least,3,6")
+        self.brings(sale("[20, 60]", "revenue = 3"), "39/8", ("at,low,sell,least,3,6", "-15/4"))
 
     def test_several_conditions(self):
         # x = 1/2 by the second one, which is the narrower.
-        self.brings(SALE, "5/4", "at,low,sell,least,1,4", "utility,buyer,least,1,2", "revenue,least,1,1", "pay,buyer,most,3,1")
-        # Exactly 1 of revenue, by two conditions.
-        self.brings(SALE, 1, "revenue,least,1,1", "revenue,most,1,1")
+        lines = (("at,low,sell,least,1,4", 0), ("utility,buyer,least,1,2", "-1/2"), ("revenue,least,1,1", 0), ("pay,buyer,most,3,1", 0))
+        self.brings(SALE, "5/4", *lines)
+        # Exactly 1 of revenue, by two conditions: of their shadows only the sum counts.
+        answered = found(SALE, "revenue,least,1,1", "revenue,most,1,1")
+        self.assertEqual(answered.said.value, (1, 1))
+        self.assertEqual(sum(Fraction(*shadow) for shadow in answered.shadows), 1)
 
     def test_without_payments(self):
         # All payments are 0. Truth asks for x = y where there are none, since low would like the item, too; here x = y = 1.
         setting = sale(objective="welfare = 1", payments="false")
-        self.brings(setting, 2, "revenue,least,-1,1", "pay,buyer,most,1,1", "utility,buyer,least,1,1")
-        self.brings(setting, 1, "utility,buyer,most,1,1")
+        self.brings(setting, 2, ("revenue,least,-1,1", 0), ("pay,buyer,most,1,1", 0), ("utility,buyer,least,1,1", 0))
+        self.brings(setting, 1, ("utility,buyer,most,1,1", 1))
         self.comes_to("InfeasibleAnswer", setting, "revenue,least,1,2")
         self.comes_to("InfeasibleAnswer", setting, "pay,buyer,high,least,1,1")
+
+
+class Shadows(unittest.TestCase):
+    def test_moved_bounds_bring_no_more_than_the_shadows_say(self):
+        numbers, moved = random.Random(4), 0
+        for toml, text in require_compare.drawn_texts(random.Random(5)):
+            setting = read_setting(toml.encode())
+            asked = conditions.read_conditions(text.encode(), setting)
+            before = requiring.found_under(setting, asked)
+            if not isinstance(before.said, OptimalAnswer):
+                continue
+            # A bound whose shadow is not told does not move.
+            steps = [Fraction(numbers.randint(-3, 3), 4) * (shadow is not None) for shadow in before.shadows]
+            bounds = [Fraction(condition.num, condition.den) + step for condition, step in zip(asked, steps)]
+            after = requiring.found_under(setting, list(map(require_compare.changed, asked, bounds)))
+            if isinstance(after.said, OptimalAnswer):
+                moved += 1
+                shadows = [Fraction(*(shadow or (0, 1))) for shadow in before.shadows]
+                gains = sum(step * shadow for step, shadow in zip(steps, shadows))
+                self.assertLessEqual(Fraction(*after.said.value), Fraction(*before.said.value) + gains, (toml, text))
+                for condition, shadow in zip(asked, shadows):
+                    self.assertGreaterEqual(shadow * condition.sign, 0)
+            if moved == 25:
+                break
 
 
 class Rows(unittest.TestCase):
@@ -352,7 +383,7 @@ def wide_text():
 # high do not lose, the chances at low and at high, and the condition, 4(x + y) of at least 3·2, halved: -2x - 2y of at most -3. With the
 # multipliers over 2: high's truth 1 (`row,1,0,2`) lets it pay 3y - 3x more than low, low's part 2 (`row,2,0,4`) lets it pay x.
 OPTIMAL = ("answer,1,required,optimal", "chance,sell,least,3,4", "value,5,4", "table,2", "lottery,low,1,1", "lottery,high,0,2",
-           "pay,low,1", "pay,high,4", "bound,2", "row,1,0,2", "row,2,0,4", "row,5,0,8", "row,6,0,1")
+           "pay,low,1", "pay,high,4", "bound,2", "row,1,0,2", "row,2,0,4", "row,5,0,8", "row,6,0,1", "shadow,0,-1,1")
 
 
 class Answers(unittest.TestCase):
@@ -388,17 +419,48 @@ class Answers(unittest.TestCase):
             (12, ["row,5,1,8"], "rejected,5,1"),
             # (9 - 3)/2 where (8 - 3)/2 is reached.
             (12, ["row,5,0,9"], "rejected,6,3,1,5,2"),
+            (14, ["shadow,0,-1,2"], "rejected,18,0,-1,1"),
+            (14, ["shadow,0,0,1"], "rejected,18,0,-1,1"),
+            (14, [], "rejected,18,0,-1,1"),
+            # It has to be in least terms.
+            (14, ["shadow,0,-3,3"], "rejected,18,0,-1,1"),
         ):
             self.assertEqual(self.says(SALE, *self.with_record(OPTIMAL, place, *records)), line, records)
 
     def test_the_condition_that_fails_is_told_by_its_number(self):
         # High pays 4 halves, times 2; 3 times 2 halves.
-        front, back = OPTIMAL[:2], OPTIMAL[2:]
+        front, back = OPTIMAL[:2], [*OPTIMAL[2:], "shadow,1,0,1"]
         self.assertEqual(self.says(SALE, *front, "pay,buyer,high,most,3,2", *back), "rejected,17,1,6,8")
         self.assertEqual(self.says(SALE, *front, "pay,buyer,high,most,2,1", *back), "valid")
 
+    def test_a_shadow_is_told_or_not(self):
+        # High is never kept from the item, by two more conditions. Face multipliers of their rows, 7 and 8, take each other away.
+        front = (*OPTIMAL[:2], "at,high,keep,least,0,1", "at,high,keep,most,0,1", *OPTIMAL[2:13])
+        faces = "row,7,1,0", "row,8,1,0"
+        for records, line in (
+            ((*faces, "shadow,0,-1,1"), "valid"),
+            ((*faces, "shadow,0,-1,1", "shadow,1,0,1"), "rejected,18,1"),
+            ((*faces, "shadow,0,-1,1", "shadow,2,0,1"), "rejected,18,2"),
+            (("shadow,0,-1,1", "shadow,1,0,1", "shadow,2,0,1"), "valid"),
+            (("shadow,0,-1,1", "shadow,2,0,1"), "rejected,18,1,0,1"),
+            (("shadow,0,-1,1", "shadow,1,0,1"), "rejected,18,2,0,1"),
+            (("shadow,1,0,1", "shadow,0,-1,1"), "answer refused: line 17: field 2"),
+        ):
+            self.assertEqual(self.says(SALE, *front, *records), line, records)
+
+    def test_a_shadow_that_is_too_long(self):
+        asked = conditions.read_conditions(b"require,1\nat,low,sell,least,1,2\nend\n", SALE)
+        mechanism = found(SALE).said.mechanism
+        for bound, main, shadow in ((2**61 - 1, 1, (-1, 2**61 - 1)), (2**62 - 1, 1, (-1, 2**62 - 1)), (2**62 - 1, 3, (-1, (2**62 - 1) // 3)),
+                                    (1, 2**62 - 1, (1 - 2**62, 1)), (1, 2**62, None)):
+            said = OptimalAnswer((5, 4), mechanism, bound, {6: (0, main)})
+            self.assertEqual(require_checking.shadows_of(SALE, asked, said), [shadow], (bound, main))
+        said = OptimalAnswer((5, 4), mechanism, 2**62 - 1, {6: (0, 1)})
+        asked = conditions.read_conditions(b"require,1\nat,low,sell,least,1,1\nend\n", SALE)
+        self.assertEqual(require_checking.shadows_of(SALE, asked, said), [None])
+
     def test_the_first_that_fails_is_told(self):
-        wrong = self.with_record(OPTIMAL, 12, "row,5,0,9")
+        wrong = self.with_record(OPTIMAL, 14, "shadow,0,7,1")
         wrong = self.with_record(wrong, 3, "value,9,1")
         self.assertEqual(self.says(SALE, *wrong), "rejected,2,5,4")
         wrong = self.with_record(wrong, 2, "chance,sell,least,1,1")
@@ -439,6 +501,9 @@ class Answers(unittest.TestCase):
         self.assertEqual(self.says(SALE, *front), "rejected,5,0")
         self.assertEqual(self.says(SALE, *front, *valid, "row,8,1"), "answer refused: line 8: field 2")
         self.assertEqual(self.says(SALE, *front, "value,1,1"), "answer refused: line 4: record")
+        self.assertEqual(self.says(SALE, *front, "shadow,0,1,1"), "answer refused: line 4: field 2")
+        self.assertEqual(self.says(SALE, *front, *valid, "shadow,0,1,1"), "answer refused: line 8: field 2")
+        self.assertEqual(self.says(SALE, *front, *valid, "shadow,0,1"), "answer refused: line 8: record")
 
     def test_conditions_of_an_unbounded_answer(self):
         front = "answer,1,required,unbounded", "at,low,keep,most,1,1"
@@ -468,8 +533,14 @@ class Answers(unittest.TestCase):
             (2, [], "line 12: field 2"),  # no row of a condition is there
             (5, ["lottery,low,1,2"], "line 5: sum"),
             (13, ["row,7,0,1"], "line 13: field 2"),
-            (14, ["shadow,0,-1,1"], "line 14: record"),  # as any unknown record
             (14, ["chance,sell,least,3,4"], "line 14: record"),
+            (14, ["shadow,1,-1,1"], "line 14: field 2"),
+            (14, ["shadow,0,-1,0"], "line 14: field 4"),
+            (14, ["shadow,0,x,1"], "line 14: field 3"),
+            (14, ["shadow,0,-1"], "line 14: record"),
+            (14, ["shadow,0,-1,1"] * 2, "line 15: field 2"),
+            (14, ["shadow,0,-1,1", "row,7,0,1"], "line 15: record"),
+            (14, [f"shadow,0,{2**62},1"], "line 14: field 3"),
         ):
             self.assertEqual(self.says(SALE, *self.with_record(OPTIMAL, place, *records)), f"answer refused: {line}", records)
         lines = ["answer,1,required,infeasible", *["chance,sell,least,3,4"] * 1001]

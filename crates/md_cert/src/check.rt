@@ -1,5 +1,5 @@
 //! The check of a certificate, condition by condition in their order.
-ghost use Rattle.std.specs.Prelude.{◌≡◌, length, ◌-◌, ◌^◌, ◌≤◌, ◌*ℤ◌, ◌↔◌, pos, IsNone, IfSome, IfNone, IsTrue, MatchOption};
+ghost use Rattle.std.specs.Prelude.{◌≡◌, ◌-◌, ◌*ℤ◌, ◌↔◌, pos, IsNone, IfSome, IfNone, MatchOption};
 ghost use Rattle.md_math.specs.Lists.{number_at};
 ghost use Rattle.md_lp.specs.Point.{cost_sum, right_sum};
 ghost use Rattle.md_cert.specs.Certified.{IsOptimalCertified, IsInfeasibleCertified, IsUnboundedCertified, Certified, Claims};
@@ -10,7 +10,7 @@ ghost use Rattle.md_cert.specs.declared.certificate.Certificate.{Certificate};
 use crate::bound::Bound;
 use crate::cert_fault::CertFault;
 use crate::certificate::Certificate;
-use crate::columns::{FEW_COLUMNS, MOST_COLUMNS, broken_or_summed, wrong_column, wrong_face_sum};
+use crate::columns::{wrong_column, wrong_face_sum};
 use crate::pairs::{WrongPair, wrong_face, wrong_pair};
 use crate::points::broken_row;
 use crate::rays::broken_ray;
@@ -42,82 +42,7 @@ fn optimal_fault(lp: &Lp, den: i128, point: &Nums, bound: &Bound) -> Option<Cert
     requires bound { FitsBound lp.now bound.now }
     ensures { MatchOption result (IsOptimalCertified lp.now den (number_at point.now) bound.now.den (number_at bound.now.main) (number_at bound.now.face)) (IsOptimalFault lp.now den (number_at point.now) bound.now.den (number_at bound.now.main) (number_at bound.now.face)) }
 {
-    if lp.columns() as usize > FEW_COLUMNS {
-        return optimal_fault_of_many(lp, den, point, bound);
-    }
-    optimal_fault_in(
-        lp,
-        den,
-        point,
-        bound,
-        &mut [0i128; FEW_COLUMNS],
-        &mut [0i128; FEW_COLUMNS],
-    )
-}
-
-// The same, with room for the sums of all columns that a program can have.
-#[inline(never)]
-fn optimal_fault_of_many(lp: &Lp, den: i128, point: &Nums, bound: &Bound) -> Option<CertFault>
-    requires denominator { IsDenominator den }
-    requires point { FitsColumns lp.now point.now }
-    requires bound { FitsBound lp.now bound.now }
-    requires most { lp.now.columns ≤ 65536 }
-    ensures { MatchOption result (IsOptimalCertified lp.now den (number_at point.now) bound.now.den (number_at bound.now.main) (number_at bound.now.face)) (IsOptimalFault lp.now den (number_at point.now) bound.now.den (number_at bound.now.main) (number_at bound.now.face)) }
-{
-    optimal_fault_in(
-        lp,
-        den,
-        point,
-        bound,
-        &mut [0i128; MOST_COLUMNS],
-        &mut [0i128; MOST_COLUMNS],
-    )
-}
-
-// The same, in room that is large enough for the sums of all columns.
-fn optimal_fault_in(
-    lp: &Lp,
-    den: i128,
-    point: &Nums,
-    bound: &Bound,
-    face_room: &mut [i128],
-    main_room: &mut [i128],
-) -> Option<CertFault>
-    requires denominator { IsDenominator den }
-    requires point { FitsColumns lp.now point.now }
-    requires bound { FitsBound lp.now bound.now }
-    requires face_room { lp.now.columns ≤ length face_room.old }
-    requires main_room { lp.now.columns ≤ length main_room.old }
-    ensures { MatchOption result (IsOptimalCertified lp.now den (number_at point.now) bound.now.den (number_at bound.now.main) (number_at bound.now.face)) (IsOptimalFault lp.now den (number_at point.now) bound.now.den (number_at bound.now.main) (number_at bound.now.face)) }
-{
-    let columns = lp.columns() as usize;
-    optimal_fault_with(
-        lp,
-        den,
-        point,
-        bound,
-        &mut face_room[..columns],
-        &mut main_room[..columns],
-    )
-}
-
-// The same, with a place for the sum of each column.
-fn optimal_fault_with(
-    lp: &Lp,
-    den: i128,
-    point: &Nums,
-    bound: &Bound,
-    face_sums: &mut [i128],
-    main_sums: &mut [i128],
-) -> Option<CertFault>
-    requires denominator { IsDenominator den }
-    requires point { FitsColumns lp.now point.now }
-    requires bound { FitsBound lp.now bound.now }
-    requires face_room { length face_sums.old ≡ lp.now.columns }
-    requires main_room { length main_sums.old ≡ lp.now.columns }
-    ensures { MatchOption result (IsOptimalCertified lp.now den (number_at point.now) bound.now.den (number_at bound.now.main) (number_at bound.now.face)) (IsOptimalFault lp.now den (number_at point.now) bound.now.den (number_at bound.now.main) (number_at bound.now.face)) }
-{
-    if let Some(broken) = broken_or_summed(lp, den, point, bound, face_sums, main_sums) {
+    if let Some(broken) = broken_row(lp, den, point) {
         return Some(CertFault::Point {
             row: broken.row,
             left: broken.left,
@@ -131,7 +56,7 @@ fn optimal_fault_with(
             main,
         });
     }
-    if let Some(WrongPair { place, face, main }) = wrong_column(lp, bound, face_sums, main_sums) {
+    if let Some(WrongPair { place, face, main }) = wrong_column(lp, bound) {
         return Some(CertFault::Column {
             column: place,
             face,

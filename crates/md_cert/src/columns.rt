@@ -1,76 +1,83 @@
 //! The sums of a program's columns under multipliers, and the first column where they are wrong.
-ghost use Rattle.std.specs.Prelude.{◌≡◌, ◌+◌, ◌-◌, ◌^◌, ◌<◌, ◌≤◌, ℕ, pos, ◌-ℤ◌, ◌*ℤ◌, length, IfNone, MatchOption};
+ghost use Rattle.std.specs.Prelude.{◌≡◌, ◌+◌, ◌-◌, ◌^◌, ◌<◌, ◌≤◌, ◌-ℤ◌, ◌*ℤ◌, length, MatchOption};
 ghost use Rattle.md_math.specs.FirstFailure.{HoldsBelow};
 ghost use Rattle.md_math.specs.Lists.{number_at};
-ghost use Rattle.md_math.specs.Sizes.{AllWithin, IsWithin};
+ghost use Rattle.md_math.specs.Sizes.{IsWithin};
 ghost use Rattle.md_lp.specs.Program.{cost_at};
-ghost use Rattle.md_lp.specs.Runs.{AreColumnSums};
-ghost use Rattle.md_cert.specs.Certified.{FaceSumHolds};
-ghost use Rattle.md_cert.specs.Fault.{BreaksColumn, BreaksFaceSum, BreaksRow, HasColumns, HasFaceSums, MeetsRows};
-ghost use Rattle.md_cert.specs.Fitting.{FitsBound, FitsColumns, FitsRows, IsDenominator};
+ghost use Rattle.md_cert.specs.Certified.{ColumnHolds, FaceSumHolds};
+ghost use Rattle.md_cert.specs.Fault.{BreaksColumn, BreaksFaceSum, HasColumns, HasFaceSums};
+ghost use Rattle.md_cert.specs.Fitting.{FitsBound, FitsRows, IsDenominator};
 
 use crate::bound::Bound;
 use crate::pairs::WrongPair;
-use crate::points::{BrokenRow, broken_at};
 use crate::signs::is_lex_nonneg;
 use md_lp::Lp;
 use md_num::{Nums, product};
 
-// How many columns most programs have at most: room for their sums is taken where it is enough.
-pub const FEW_COLUMNS: usize = 2048;
+// How many columns are summed at a time: room for their sums is on the stack.
+const RUN: usize = 2048;
 
-// How many columns a program has at most.
-pub const MOST_COLUMNS: usize = 65536;
+// The first column whose pair of sums has a wrong sign.
+pub fn wrong_column(lp: &Lp, bound: &Bound) -> Option<WrongPair>
+    requires { FitsBound lp.now bound.now }
+    ensures { MatchOption result (HasColumns lp.now bound.now.den (number_at bound.now.face) (number_at bound.now.main)) (λ wrong. BreaksColumn lp.now bound.now.den (number_at bound.now.face) (number_at bound.now.main) wrong.place wrong.face wrong.main) }
+{
+    wrong_column_in_runs(lp, bound, &mut [0i128; RUN], &mut [0i128; RUN])
+}
 
-// The first row that the point breaks. Where there is none, the sums of all columns are left, with the face and with the main multipliers: each row is read for them while it is at hand.
-pub fn broken_or_summed(
+// The same, with this room for sums: as many columns are summed at a time.
+fn wrong_column_in_runs(
     lp: &Lp,
-    den: i128,
-    point: &Nums,
     bound: &Bound,
     face_sums: &mut [i128],
     main_sums: &mut [i128],
-) -> Option<BrokenRow>
-    requires denominator { IsDenominator den }
-    requires point { FitsColumns lp.now point.now }
-    requires bound { FitsBound lp.now bound.now }
+) -> Option<WrongPair>
+    requires fits { FitsBound lp.now bound.now }
+    requires some { 0 < length face_sums.old }
     requires same { length main_sums.old ≡ length face_sums.old }
-    ensures point { MatchOption result (MeetsRows lp.now den (number_at point.now)) (λ broken. BreaksRow lp.now den (number_at point.now) broken.row broken.left broken.right) }
-    ensures face { IfNone result (AreColumnSums lp.now bound.now.face 0 face_sums.new) }
-    ensures main { IfNone result (AreColumnSums lp.now bound.now.main 0 main_sums.new) }
-    ensures face_size { IfNone result (AllWithin (2 ^ 119) face_sums.new) }
-    ensures main_size { IfNone result (AllWithin (2 ^ 119) main_sums.new) }
+    ensures { MatchOption result (HasColumns lp.now bound.now.den (number_at bound.now.face) (number_at bound.now.main)) (λ wrong. BreaksColumn lp.now bound.now.den (number_at bound.now.face) (number_at bound.now.main) wrong.place wrong.face wrong.main) }
 {
-    face_sums.fill(0);
-    main_sums.fill(0);
-    for row in 0..lp.rows() {
-        if let Some(broken) = broken_at(lp, den, point, row) {
-            return Some(broken);
+    let end = lp.columns() as usize;
+    let room = face_sums.len();
+    let mut first = 0;
+    while first < end {
+        let width = room.min(end - first);
+        let run = wrong_column_in_run(
+            lp,
+            bound,
+            first as u32,
+            &mut face_sums[..width],
+            &mut main_sums[..width],
+        );
+        if let Some(wrong) = run {
+            return Some(wrong);
         }
-        lp.add_row_by(row, &bound.face, &bound.main, face_sums, main_sums);
+        first += width;
     }
     None
 }
 
-// The first column whose pair of sums has a wrong sign.
-pub fn wrong_column(
+// The same, among the columns of a run, where those before it have the right signs.
+fn wrong_column_in_run(
     lp: &Lp,
     bound: &Bound,
-    face_sums: &[i128],
-    main_sums: &[i128],
+    first: u32,
+    face_sums: &mut [i128],
+    main_sums: &mut [i128],
 ) -> Option<WrongPair>
-    requires bound { FitsBound lp.now bound.now }
-    requires face_room { length face_sums.now ≡ lp.now.columns }
-    requires main_room { length main_sums.now ≡ lp.now.columns }
-    requires face { AreColumnSums lp.now bound.now.face 0 face_sums.now }
-    requires main { AreColumnSums lp.now bound.now.main 0 main_sums.now }
-    requires face_size { AllWithin (2 ^ 119) face_sums.now }
-    requires main_size { AllWithin (2 ^ 119) main_sums.now }
-    ensures { MatchOption result (HasColumns lp.now bound.now.den (number_at bound.now.face) (number_at bound.now.main)) (λ wrong. BreaksColumn lp.now bound.now.den (number_at bound.now.face) (number_at bound.now.main) wrong.place wrong.face wrong.main) }
+    requires fits { FitsBound lp.now bound.now }
+    requires few { lp.now.columns ≤ 65536 }
+    requires run { first + length face_sums.old ≤ lp.now.columns }
+    requires same { length main_sums.old ≡ length face_sums.old }
+    requires before { HoldsBelow first (ColumnHolds lp.now bound.now.den (number_at bound.now.face) (number_at bound.now.main)) }
+    ensures { MatchOption result (HoldsBelow (first + length face_sums.old) (ColumnHolds lp.now bound.now.den (number_at bound.now.face) (number_at bound.now.main))) (λ wrong. BreaksColumn lp.now bound.now.den (number_at bound.now.face) (number_at bound.now.main) wrong.place wrong.face wrong.main) }
 {
-    for column in 0..lp.columns() {
-        let face = face_sums[column as usize];
-        let main = reduced_cost(lp, bound.den, column, main_sums[column as usize]);
+    lp.column_sums(first, &bound.face, face_sums);
+    lp.column_sums(first, &bound.main, main_sums);
+    for place in 0..face_sums.len() {
+        let column = first + place as u32;
+        let face = face_sums[place];
+        let main = reduced_cost(lp, bound.den, column, main_sums[place]);
         if !is_lex_nonneg(face, main) {
             return Some(WrongPair {
                 place: column,
@@ -97,19 +104,7 @@ pub fn wrong_face_sum(lp: &Lp, face: &Nums) -> Option<WrongPair>
     requires { FitsRows lp.now face.now }
     ensures { MatchOption result (HasFaceSums lp.now (number_at face.now)) (λ wrong. BreaksFaceSum lp.now (number_at face.now) wrong.place wrong.face wrong.main) }
 {
-    if lp.columns() as usize > FEW_COLUMNS {
-        return wrong_face_sum_of_many(lp, face);
-    }
-    wrong_face_in_runs(lp, face, &mut [0i128; FEW_COLUMNS])
-}
-
-// The same, with room for the sums of all columns.
-#[inline(never)]
-fn wrong_face_sum_of_many(lp: &Lp, face: &Nums) -> Option<WrongPair>
-    requires { FitsRows lp.now face.now }
-    ensures { MatchOption result (HasFaceSums lp.now (number_at face.now)) (λ wrong. BreaksFaceSum lp.now (number_at face.now) wrong.place wrong.face wrong.main) }
-{
-    wrong_face_in_runs(lp, face, &mut [0i128; MOST_COLUMNS])
+    wrong_face_in_runs(lp, face, &mut [0i128; RUN])
 }
 
 // The same, with this room for sums: as many columns are summed at a time.

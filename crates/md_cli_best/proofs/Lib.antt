@@ -2,4 +2,5 @@ pub mod Headlines
 pub mod AuctionHeadlines
 pub mod Fairest
 pub mod Found
+pub mod Required
 pub mod Drilled

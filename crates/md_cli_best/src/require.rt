@@ -1,9 +1,12 @@
 //! The command `require`: the best mechanism of a setting among those that meet conditions of the designer.
-ghost use Rattle.std.specs.Prelude.{◌≡◌, IfOk};
-ghost use Rattle.md_setting.specs.ByKind.{IsGeneral, WhereGeneral};
+ghost use Rattle.std.specs.Prelude.{◌≡◌, length, IfOk};
+ghost use Rattle.md_setting.specs.ByKind.{WhereGeneral};
 ghost use Rattle.md_question.specs.Certified.{IsCertifiedFinding};
+ghost use Rattle.md_question.specs.Shown.{IsFindingTo};
 ghost use Rattle.md_require.specs.Limits.{AreConditionsFor};
 ghost use Rattle.md_require.specs.RequireQuestion.{require_question};
+ghost use Rattle.md_require.specs.RequireVerdicts.{TellsRightly};
+ghost use Rattle.md_require_text.specs.Told.{AreShadowsFor, shadow_count};
 ghost use Rattle.md_cli_best.specs.Finding.{IsFindStatus};
 ghost use Rattle.md_cli_best.specs.Requiring.{IsRequire, IsRequiring, conditions_in, with_conditions};
 ghost use Rattle.md_cli_driver.specs.Reading.{is_general};
@@ -12,11 +15,12 @@ ghost use Rattle.md_cli_driver.specs.Saying.{said};
 use crate::fair::status;
 use crate::find::not_found;
 use md_cli_driver::{Answered, Refusal, TwoFiles, general, is_general};
-use md_num::NoMemory;
+use md_conditions_text::read_conditions;
+use md_num::{Frac, NoMemory};
 use md_question::Finding;
 use md_question_solve::find_question;
-use md_require::{Condition, Requiring};
-use md_require_text::{RequiredAnswer, read_conditions, write_required};
+use md_require::{Condition, Requiring, shadows};
+use md_require_text::{RequiredAnswer, write_required};
 use md_setting::{Setting, SettingFile};
 use std::alloc::Global;
 use std::marker::Model;
@@ -110,7 +114,7 @@ fn required(
     }
 }
 
-// What was found under conditions.
+// What was found under conditions, with the shadows of a best mechanism.
 fn found(
     alloc: Global,
     setting: &Setting,
@@ -123,21 +127,45 @@ fn found(
     ensures status { IfOk result (λ answered. IsFindStatus answered.status) }
 {
     let status = status(&finding);
-    let answer = with_conditions(alloc, conditions, finding)?;
+    let shadows = shadows_of(alloc, setting, conditions, &finding)?;
+    let answer = with_conditions(alloc, conditions, finding, shadows)?;
     Ok(Answered {
         status,
         text: write_required(alloc, setting, &answer)?,
     })
 }
 
-// Conditions with what was found under them.
+// The shadows of the conditions, where a best mechanism was found, and else none.
+fn shadows_of(
+    alloc: Global,
+    setting: &Setting,
+    conditions: &[Condition],
+    finding: &Finding,
+) -> Result<Vec<Option<Frac>>, NoMemory>
+    requires conditions { AreConditionsFor setting.now conditions.now }
+    requires finding { IsFindingTo (require_question setting.now conditions.now) finding.now }
+    ensures told { IfOk result (λ shadows. TellsRightly setting.now conditions.now finding.now shadows.items) }
+    ensures fits { IfOk result (λ shadows. AreShadowsFor (shadow_count finding.now (length conditions.now)) shadows.items) }
+{
+    match finding {
+        Finding::Optimal {
+            value: _,
+            mechanism: _,
+            bound,
+        } => shadows(alloc, setting, conditions, bound),
+        _ => Ok(Vec::new(alloc)),
+    }
+}
+
+// Conditions with what was found under them, and with the shadows.
 fn with_conditions(
     alloc: Global,
     conditions: &[Condition],
     finding: Finding,
+    shadows: Vec<Option<Frac>>,
 ) -> Result<RequiredAnswer, NoMemory>
-    ensures { IfOk result (λ answer. answer ≡ with_conditions conditions.now finding) }
+    ensures { IfOk result (λ answer. answer ≡ with_conditions conditions.now finding shadows.items) }
 {
     let list = conditions.to_vec(alloc)?;
-    Ok(RequiredAnswer::new(list, finding))
+    Ok(RequiredAnswer::new(list, finding, shadows))
 }

@@ -6,7 +6,7 @@ use Rattle.md_setting.specs.declared.file.SettingFile.{SettingFile}
 use Rattle.md_cli_driver.specs.declared.answered.Answered.{Answered}
 use Rattle.md_cli_driver.specs.declared.refusal.Refusal.{Refusal}
 use Rattle.md_cli_driver.specs.declared.refusal.Refusal.TheVariants as refusal
-use Rattle.md_cli_driver.specs.Reading.{answer_limit, file_of, file_said, second_in, served_by, setting_in, and_then}
+use Rattle.md_cli_driver.specs.Reading.{file_said, second_in, served_by, setting_in, and_then}
 use Rattle.md_cli_driver.specs.Refused.{status_of}
 use Rattle.md_cli_driver.specs.Saying.{Saying}
 use Rattle.md_ports.specs.Faults.{Rose}
@@ -26,12 +26,6 @@ not_memory e n below status same = let more : status_of e ≡ 72 = ap status_of 
 -- one error is not two
 pub err_same : {X : Type 0} (r : Result X Refusal) (e d : Refusal) → r ≡ Err e → r ≡ Err d → e ≡ d
 err_same r e d same other = cc
-
-pub long_fault : refusal.AnswerTooLong ≢ refusal.ReadFault
-long_fault same = cc
-
-pub memory_fault : refusal.Memory ≢ refusal.ReadFault
-memory_fault same = cc
 
 -- ---- the setting
 
@@ -171,48 +165,26 @@ module _ {T : Type 0} (serves : SettingFile → Bool) (reading : SettingFile →
       faulted : Rose (mid b) (after b) → HasFaultedIn (two_files T serves reading P IsOwn) a b content before after
       faulted rose = inr (subst (λ n. Rose n (after b)) (quiet b) rose, λ bytes told. rw (read bytes told) refl)
 
-      -- it is not read
-      pub file-refused : (e : Refusal) → ForSome (content b) (λ all. e ≢ refusal.ReadFault → e ≢ refusal.Memory → file_of answer_limit refusal.AnswerTooLong all ≡ Err e)
-          → (e ≡ refusal.ReadFault) ⊎ ((e ≡ refusal.Memory) ⊎ (e ≡ refusal.AnswerTooLong))
+      -- it is refused, or not read
+      pub second-refused : (e : Refusal) → ForSome (content b) (λ all. e ≢ refusal.ReadFault → e ≢ refusal.Memory → second_in (reading file) all ≡ Err e)
+          → (e ≡ refusal.ReadFault) ⊎ ((e ≡ refusal.Memory) ⊎ (status_of e ≡ 66))
           → (e ≡ refusal.ReadFault → Rose (mid b) (after b))
           → ((n : List ℕ) → e ≢ refusal.ReadFault → after n ≡ mid n)
           → IsCarriedOut (two_files T serves reading P IsOwn) a b content before after (Err e)
-      file-refused e follows errors rose still = record {
-        outcome = two-second_refused e (refused-as (second_in (reading file)) (content b) 66 e (omega arith)
-            (λ bytes told fault memory. ap (λ r. and_then r (reading file)) (follows bytes told fault memory)) (own errors));
+      second-refused e follows errors rose still = record {
+        outcome = two-second_refused e (refused-as (second_in (reading file)) (content b) 66 e (omega arith) follows errors);
         fault = λ failed. faulted (rose (err_same (Err e) e refusal.ReadFault refl failed));
         quiet = λ n fine. still n (λ same. fine (ap Err same)) ∙ quiet n;
         status = tt;
       }
-        where
-          own : (e ≡ refusal.ReadFault) ⊎ ((e ≡ refusal.Memory) ⊎ (e ≡ refusal.AnswerTooLong)) → (e ≡ refusal.ReadFault) ⊎ ((e ≡ refusal.Memory) ⊎ (status_of e ≡ 66))
-          own (inl fault) = inl fault
-          own (inr (inl memory)) = inr (inl memory)
-          own (inr (inr long)) = inr (inr (ap status_of long))
 
-      module _ (bytes : List ℕ) (told : ForSome (content b) (λ all. file_of answer_limit refusal.AnswerTooLong all ≡ Ok bytes)) (still : (n : List ℕ) → after n ≡ mid n) where
-        -- what it says is refused
-        pub said-refused_second : (e : Refusal) → (e ≢ refusal.ReadFault → e ≢ refusal.Memory → reading file bytes ≡ Err e)
-            → (e ≡ refusal.Memory) ⊎ (status_of e ≡ 66)
-            → IsCarriedOut (two_files T serves reading P IsOwn) a b content before after (Err e)
-        said-refused_second e follows errors = record {
-          outcome = two-second_refused e (refused-as (second_in (reading file)) (content b) 66 e (omega arith)
-              (λ all there fault memory. ap (λ r. and_then r (reading file)) (told all there) ∙ follows fault memory) (inr errors));
-          fault = λ failed. absurd (no_fault errors (err_same (Err e) e refusal.ReadFault refl failed));
-          quiet = λ n fine. still n ∙ quiet n;
-          status = tt;
-        }
-          where
-            no_fault : (e ≡ refusal.Memory) ⊎ (status_of e ≡ 66) → e ≢ refusal.ReadFault
-            no_fault (inl memory) same = memory_fault (sym memory ∙ same)
-            no_fault (inr own) same = not_fault e 66 (omega arith) own same
-
-        -- the work on both
-        pub both-worked : (x : T) (result : Result Answered Refusal) → reading file bytes ≡ Ok x → IsWorked (P file x) IsOwn result
-            → IsCarriedOut (two_files T serves reading P IsOwn) a b content before after result
-        both-worked x result follows worked = record {
-          outcome = two-worked x result (λ all there. ap (λ r. and_then r (reading file)) (told all there) ∙ follows) worked;
-          fault = λ failed. absurd (worked-no_fault (P file x) IsOwn result worked failed);
-          quiet = λ n fine. still n ∙ quiet n;
-          status = worked-status (P file x) IsOwn result worked;
-        }
+      -- the work on both
+      pub both-worked : (x : T) → ForSome (content b) (λ all. second_in (reading file) all ≡ Ok x) → ((n : List ℕ) → after n ≡ mid n)
+          → (result : Result Answered Refusal) → IsWorked (P file x) IsOwn result
+          → IsCarriedOut (two_files T serves reading P IsOwn) a b content before after result
+      both-worked x second still result worked = record {
+        outcome = two-worked x result second worked;
+        fault = λ failed. absurd (worked-no_fault (P file x) IsOwn result worked failed);
+        quiet = λ n fine. still n ∙ quiet n;
+        status = worked-status (P file x) IsOwn result worked;
+      }

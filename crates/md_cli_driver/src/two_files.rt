@@ -1,9 +1,11 @@
 //! Carrying out a command of two files, the second of which is read by the setting that the first one says.
-ghost use Rattle.std.specs.Prelude.{◌≡◌, ◌⊎◌, ℕ, Bool, true, List, Result, IfOk, IfErr};
+ghost use Rattle.std.specs.Prelude.{◌≡◌, ◌≢◌, ◌⊎◌, ℕ, Bool, true, List, Option, Result, Ok, Err, IfOk, IfErr};
+ghost use Rattle.std.specs.Option.{ForSome};
+ghost use Rattle.md_ports.specs.Faults.{Rose};
 ghost use Rattle.md_setting.specs.declared.file.SettingFile.{SettingFile};
 ghost use Rattle.md_cli_driver.specs.declared.refusal.Refusal.{Refusal};
 ghost use Rattle.md_cli_driver.specs.declared.refusal.Refusal.TheVariants as refusal;
-ghost use Rattle.md_cli_driver.specs.Reading.{Follows};
+ghost use Rattle.md_cli_driver.specs.Reading.{Follows, second_in, setting_in};
 ghost use Rattle.md_cli_driver.specs.Refused.{status_of};
 ghost use Rattle.md_cli_driver.specs.Saying.{Saying};
 ghost use Rattle.md_cli_driver.specs.Works.{IsCarriedOut, IsWorked, two_files};
@@ -67,6 +69,40 @@ pub trait TwoFiles {
         ensures { IsWorked (says self.now file.now second.now) own result };
 }
 
+// What the second file says of a setting that is served.
+fn second_of<F: Shelf, C: TwoFiles>(
+    alloc: Global,
+    command: &C,
+    file: &SettingFile,
+    name: &str,
+    shelf: &mut F,
+) -> Result<C::Second, Refusal>
+    requires { C.is_served file.now ≡ true }
+    ensures told { ForSome (F.content shelf.old name.now) (λ all. Follows (λ second. second) result (second_in (C.reading command.now file.now) all)) }
+    ensures fits { IfOk result (C.fits command.now file.now) }
+    ensures fault { result ≡ Err refusal.ReadFault → Rose (F.faults shelf.old name.now) (F.faults shelf.new name.now) }
+    ensures quiet { (n : List ℕ) → result ≢ Err refusal.ReadFault → F.faults shelf.new n ≡ F.faults shelf.old n }
+    ensures errors { IfErr result (λ e. (e ≡ refusal.ReadFault) ⊎ ((e ≡ refusal.Memory) ⊎ (status_of e ≡ 66))) }
+{
+    let bytes = read_file(shelf, name, ANSWER_LIMIT, Refusal::AnswerTooLong)?;
+    command.second(alloc, file, &bytes)
+}
+
+// Goes on with a setting that was read and is served. The files are those under which it was read, and no fault came since.
+fn on_served<F: Shelf, C: TwoFiles>(
+    alloc: Global,
+    command: &C,
+    file: &SettingFile,
+    name: &str,
+    shelf: &mut F,
+) -> Result<Answered, Refusal>
+    requires { C.is_served file.now ≡ true }
+    ensures { (setting : List ℕ) (content : List ℕ → Option (List ℕ)) (faults : List ℕ → ℕ) → ForSome (content setting) (λ bytes. setting_in C.is_served bytes ≡ Ok file.now) → F.content shelf.old name.now ≡ content name.now → ((n : List ℕ) → F.faults shelf.old n ≡ faults n) → IsCarriedOut (two_files C.Second C.is_served (C.reading command.now) (C.says command.now) C.own) setting name.now content faults (F.faults shelf.new) result }
+{
+    let second = second_of(alloc, command, file, name, shelf)?;
+    command.answer(alloc, file, &second)
+}
+
 /// Reads the setting, then the second file, and carries the command out.
 pub fn of_two<F: Shelf, C: TwoFiles>(
     alloc: Global,
@@ -81,7 +117,5 @@ pub fn of_two<F: Shelf, C: TwoFiles>(
     if !command.serves(&file) {
         return Err(Refusal::OtherKind);
     }
-    let bytes = read_file(shelf, second, ANSWER_LIMIT, Refusal::AnswerTooLong)?;
-    let second = command.second(alloc, &file, &bytes)?;
-    command.answer(alloc, &file, &second)
+    on_served(alloc, command, &file, second, shelf)
 }

@@ -3,6 +3,8 @@
 
 pub mod answers;
 mod calling;
+mod refusing;
 pub mod settings;
 
 pub use calling::{Reply, carried_out, is_told};
+pub use refusing::{Refused, first_not_refused};

@@ -3,3 +3,4 @@ pub mod RowRecords
 pub mod Profiles
 pub mod Judged
 pub mod Awards
+pub mod StandingRecords

@@ -11,12 +11,12 @@ use Rattle.md_setting.specs.declared.file.SettingFile.{SettingFile}
 use Rattle.md_setting.specs.declared.file.SettingFile.TheVariants.{General, Auction}
 use Rattle.md_records.specs.Written.{text_of_records}
 use Rattle.md_parts.specs.Rows.{number_row}
-use Rattle.md_mech.specs.declared.mechanism.Mechanism.{Mechanism}
 use Rattle.md_parts.specs.declared.refusal.AnswerRefusal.{AnswerRefusal}
 use Rattle.md_answer.specs.AuctionAnswers.{auction_answer_of}
 use Rattle.md_answer.specs.declared.answer.Answer.{Answer}
 use Rattle.md_answer.specs.declared.answer.Answer.TheVariants.{Table, Optimal, Infeasible, Unbounded, AuctionOptimal, TooWide}
 use Rattle.md_mechanism_text.specs.MechanismText.{mechanism_text_of}
+use Rattle.md_mechanism_text.specs.Proposals.{Proposed}
 use Rattle.md_run.specs.Drawn.{AreLotteries, IsDrawn}
 use Rattle.md_run.specs.Refusals.{IsRefused}
 use Rattle.md_run.specs.declared.drawn.Drawn.{Drawn}
@@ -42,12 +42,12 @@ has_table (TooWide cuts first second) = false
 abbrev pub drawable : Answer → Result Answer Refusal
 drawable answer = if has_table answer then Ok answer else Err refusal.NoTable
 
--- a mechanism as an answer
-abbrev pub table_or_none : Option Mechanism → Result Answer Refusal
-table_or_none (Some mechanism) = Ok (Table mechanism)
+-- a mechanism as an answer; the conditions that it is to meet are left out
+abbrev pub table_or_none : Option Proposed → Result Answer Refusal
+table_or_none (Some proposed) = Ok (Table proposed.mechanism)
 table_or_none None = Err refusal.NoTable
 
-abbrev pub table_or_refusal : Result (Option Mechanism) AnswerRefusal → Result Answer Refusal
+abbrev pub table_or_refusal : Result (Option Proposed) AnswerRefusal → Result Answer Refusal
 table_or_refusal (Ok found) = table_or_none found
 table_or_refusal (Err e) = Err (refusal.Answer e)
 

@@ -7,4 +7,5 @@ pub mod Drawing
 pub mod AwardTexts
 pub mod Awarding
 pub mod Reported
+pub mod Standings
 pub mod Reporting

@@ -3,8 +3,6 @@ use Rattle.std.specs.Prelude.{◌==◌, ℕ, Bool, false, List, Option, None, So
 use Rattle.md_setting.specs.Auction.{SymmetricAuction, value_count}
 use Rattle.md_setting.specs.declared.file.SettingFile.{SettingFile}
 use Rattle.md_setting.specs.declared.file.SettingFile.TheVariants.{General, Auction}
-use Rattle.md_mech.specs.Accepted.{IsAccepted}
-use Rattle.md_mech.specs.declared.mechanism.Mechanism.{Mechanism}
 use Rattle.md_lp.specs.Cuts.{AreCuts}
 use Rattle.md_border.specs.Odds.{IsInterim}
 use Rattle.md_border.specs.declared.interim.Interim.{Interim}
@@ -15,6 +13,7 @@ use Rattle.md_answer.specs.AuctionTables.{auction_table_of}
 use Rattle.md_answer.specs.declared.answer.Answer.{Answer}
 use Rattle.md_answer.specs.declared.answer.Answer.TheVariants as answers
 use Rattle.md_mechanism_text.specs.MechanismText.{mechanism_text_of}
+use Rattle.md_mechanism_text.specs.Proposals.{IsProposedFor, Proposed}
 use Rattle.md_cli_driver.specs.declared.refusal.Refusal.{Refusal}
 use Rattle.md_cli_driver.specs.declared.refusal.Refusal.TheVariants as refusal
 use Rattle.md_cli_tell.specs.declared.reported.Reported.{Reported}
@@ -22,12 +21,12 @@ use Rattle.md_cli_tell.specs.declared.reported.Reported.TheVariants as reported
 
 -- ---- of a general setting
 
--- the mechanism of an answer, which must have one
-abbrev pub mechanism_reported : Option Mechanism → Result Reported Refusal
-mechanism_reported (Some mechanism) = Ok (reported.Mechanism mechanism)
+-- the mechanism of an answer, which must have one, with the conditions that it is to meet
+abbrev pub mechanism_reported : Option Proposed → Result Reported Refusal
+mechanism_reported (Some proposed) = Ok (reported.Mechanism proposed)
 mechanism_reported None = Err refusal.NoTable
 
-abbrev pub mechanism_or_refusal : Result (Option Mechanism) AnswerRefusal → Result Reported Refusal
+abbrev pub mechanism_or_refusal : Result (Option Proposed) AnswerRefusal → Result Reported Refusal
 mechanism_or_refusal (Ok found) = mechanism_reported found
 mechanism_or_refusal (Err e) = Err (refusal.Answer e)
 
@@ -69,11 +68,11 @@ abbrev pub reported_in : SettingFile → List ℕ → Result Reported Refusal
 reported_in (General s) bytes = mechanism_or_refusal (mechanism_text_of s bytes)
 reported_in (Auction a) bytes = auction_reported_in a bytes
 
--- it has the sizes of the setting, and its numbers are in their ranges
+-- it has the sizes of the setting, its numbers are in their ranges, and its conditions fit the setting
 abbrev pub IsReportable : SettingFile → Reported → Type 0
-IsReportable (General s) (reported.Mechanism mechanism) = IsAccepted s mechanism
+IsReportable (General s) (reported.Mechanism proposed) = IsProposedFor s proposed
 IsReportable (General s) (reported.Odds interim cuts) = ⊥
 IsReportable (General s) (reported.Own interim) = ⊥
-IsReportable (Auction a) (reported.Mechanism mechanism) = ⊥
+IsReportable (Auction a) (reported.Mechanism proposed) = ⊥
 IsReportable (Auction a) (reported.Odds interim cuts) = IsInterim a interim × AreCuts (value_count a) cuts
 IsReportable (Auction a) (reported.Own interim) = IsInterim a interim

@@ -6,7 +6,7 @@ use Rattle.md_setting.specs.General.{general_of}
 use Rattle.md_setting.specs.declared.file.SettingFile.{SettingFile}
 use Rattle.md_setting.specs.declared.file.SettingFile.TheVariants.{General, Auction}
 use Rattle.md_mech.specs.Admissible.{IsAdmissible}
-use Rattle.md_mech.specs.declared.mechanism.Mechanism.{Mechanism}
+use Rattle.md_mechanism_text.specs.Proposals.{Proposed}
 use Rattle.md_border.specs.declared.interim.Interim.{Interim}
 use Rattle.md_expost.specs.declared.masses.Masses.{Masses}
 use Rattle.md_expost.specs.Masses.{AreMasses}
@@ -23,17 +23,20 @@ use Rattle.md_auction_report.specs.Records.{report_text as auction_report_text}
 use Rattle.md_auction_report.specs.ReportOf.{IsAuctionReportOf}
 use Rattle.md_cli_driver.specs.Saying.{Saying}
 use Rattle.md_cli_tell.specs.Realising.{IsViolatedSaying}
+use Rattle.md_cli_tell.specs.Standings.{TellStandings}
 use Rattle.md_cli_tell.specs.declared.reported.Reported.{Reported}
 use Rattle.md_cli_tell.specs.declared.reported.Reported.TheVariants as reported
 
--- The text tells of a mechanism what it does. It is admissible exactly where the text tells no gain and no loss above 0, and
--- no deficit below.
-pub record IsMechanismText (s : GeneralSetting) (m : Mechanism) (text : List ℕ) : Type 0 where
+-- The text tells of a mechanism what it does, and how it stands against each condition of the designer. It is admissible exactly where
+-- the text tells no gain and no loss above 0, and no deficit below, and it meets the conditions exactly where each is told to be met.
+pub record IsMechanismText (s : GeneralSetting) (proposed : Proposed) (text : List ℕ) : Type 0 where
   pub report : Report
-  pub is_report : IsReportOf s m report
+  pub is_report : IsReportOf s proposed.mechanism report
   pub whole : IsToldWhole s report
-  pub admissible : IsAdmissible s m ↔ MissesNothing report
-  pub told : text ≡ report_text s report
+  pub admissible : IsAdmissible s proposed.mechanism ↔ MissesNothing report
+  pub conditions : List (List (List ℕ))
+  pub stands : TellStandings s proposed conditions
+  pub told : text ≡ report_text s report conditions
 
 -- the mechanism of a mass table with these odds, in which each bidder pays what the payments say of its value, is admissible
 -- exactly where the report shows neither a gain nor a loss above 0
@@ -69,10 +72,10 @@ abbrev pub IsOwnReporting : SymmetricAuction → Interim → Saying → Type 0
 IsOwnReporting a interim saying = IsOwnText a interim saying ⊎ IsViolatedSaying a interim saying
 
 abbrev pub IsReporting : SettingFile → Reported → Saying → Type 0
-IsReporting (General s) (reported.Mechanism mechanism) saying = (saying.status ≡ 0) × IsMechanismText s mechanism saying.text
+IsReporting (General s) (reported.Mechanism proposed) saying = (saying.status ≡ 0) × IsMechanismText s proposed saying.text
 IsReporting (General s) (reported.Odds interim cuts) saying = ⊥
 IsReporting (General s) (reported.Own interim) saying = ⊥
-IsReporting (Auction a) (reported.Mechanism mechanism) saying = ⊥
+IsReporting (Auction a) (reported.Mechanism proposed) saying = ⊥
 IsReporting (Auction a) (reported.Odds interim cuts) saying = (saying.status ≡ 0) × IsInterimText a interim cuts saying.text
 IsReporting (Auction a) (reported.Own interim) saying = IsOwnReporting a interim saying
 

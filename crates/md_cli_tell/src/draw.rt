@@ -13,8 +13,7 @@ ghost use Rattle.md_cli_driver.specs.Saying.{said};
 use crate::profile::reports_of;
 use md_answer::{Answer, read_answer};
 use md_cli_driver::{Answered, DONE, Refusal, TwoFiles};
-use md_mech::Mechanism;
-use md_mechanism_text::read_mechanism_text;
+use md_mechanism_text::{Proposal, read_mechanism_text};
 use md_num::NoMemory;
 use md_parts::push_numbers;
 use md_records::{Row, write_records};
@@ -79,11 +78,11 @@ fn read_drawable(alloc: Global, file: &SettingFile, bytes: &[u8]) -> Result<Answ
 }
 
 // A mechanism as an answer.
-fn table_of(found: Option<Mechanism>) -> Result<Answer, Refusal>
+fn table_of(found: Option<Proposal>) -> Result<Answer, Refusal>
     ensures { result ≡ table_or_none found }
 {
     match found {
-        Some(mechanism) => Ok(Answer::Table(mechanism)),
+        Some(proposal) => Ok(Answer::Table(proposal.into_mechanism())),
         None => Err(Refusal::NoTable),
     }
 }

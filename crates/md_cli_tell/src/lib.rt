@@ -4,6 +4,7 @@
 
 mod award;
 mod award_text;
+mod conditions;
 mod draw;
 mod listing;
 mod pairs;

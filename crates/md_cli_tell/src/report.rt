@@ -2,14 +2,15 @@
 ghost use Rattle.std.specs.Prelude.{IfOk};
 ghost use Rattle.md_setting.specs.Auction.{value_count};
 ghost use Rattle.md_setting.specs.declared.file.SettingFile.TheVariants as files;
-ghost use Rattle.md_mech.specs.Accepted.{IsAccepted};
 ghost use Rattle.md_lp.specs.Cuts.{AreCuts};
 ghost use Rattle.md_border.specs.Odds.{IsInterim};
+ghost use Rattle.md_mechanism_text.specs.Proposals.{IsProposedFor};
 ghost use Rattle.md_cli_tell.specs.Reported.{IsReportable, reported_in};
 ghost use Rattle.md_cli_driver.specs.Reading.{is_any};
 ghost use Rattle.md_cli_tell.specs.Reporting.{IsInterimText, IsMechanismText, IsOwnReporting, IsReporting, IsReportStatus};
 ghost use Rattle.md_cli_driver.specs.Saying.{said};
 
+use crate::conditions::conditions_told;
 use crate::realise::violated_text;
 use crate::reported::{Reported, read_reported};
 use md_auction_report::{AuctionReport, auction_report_text};
@@ -17,7 +18,7 @@ use md_border::Interim;
 use md_cli_driver::{Answered, DONE, Refusal, TwoFiles, VIOLATED};
 use md_expost::{RealiseEnd, realise};
 use md_lp::Sets;
-use md_mech::Mechanism;
+use md_mechanism_text::Proposal;
 use md_num::NoMemory;
 use md_report::{Report, report_text};
 use md_setting::{Auction, Setting, SettingFile};
@@ -77,9 +78,9 @@ fn general_told(alloc: Global, setting: &Setting, reported: &Reported) -> Result
     ensures status { IfOk result (λ answered. IsReportStatus answered.status) }
 {
     match reported {
-        Reported::Mechanism(mechanism) => Ok(Answered {
+        Reported::Mechanism(proposal) => Ok(Answered {
             status: DONE,
-            text: mechanism_text(alloc, setting, mechanism)?,
+            text: mechanism_text(alloc, setting, proposal)?,
         }),
         Reported::Odds { .. } => unreachable!(),
         Reported::Own(_) => unreachable!(),
@@ -102,17 +103,18 @@ fn auction_told(alloc: Global, auction: &Auction, reported: &Reported) -> Result
     }
 }
 
-// The records about a mechanism.
+// The records about a mechanism, and about the conditions of the designer that it is to meet.
 fn mechanism_text(
     alloc: Global,
     setting: &Setting,
-    mechanism: &Mechanism,
+    proposal: &Proposal,
 ) -> Result<Vec<u8>, NoMemory>
-    requires { IsAccepted setting.now mechanism.now }
-    ensures { IfOk result (λ text. IsMechanismText setting.now mechanism.now text.items) }
+    requires { IsProposedFor setting.now proposal.now }
+    ensures { IfOk result (λ text. IsMechanismText setting.now proposal.now text.items) }
 {
-    let report = Report::new(alloc, setting, mechanism)?;
-    let text = report_text(alloc, setting, &report)?;
+    let report = Report::new(alloc, setting, proposal.mechanism())?;
+    let conditions = conditions_told(alloc, setting, proposal)?;
+    let text = report_text(alloc, setting, &report, conditions)?;
     Ok(text)
 }
 

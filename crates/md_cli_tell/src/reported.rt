@@ -12,16 +12,15 @@ use md_answer::{Answer, AnswerRefusal, Supply, read_auction_answer, read_auction
 use md_border::Interim;
 use md_cli_driver::Refusal;
 use md_lp::Sets;
-use md_mech::Mechanism;
-use md_mechanism_text::read_mechanism_text;
+use md_mechanism_text::{Proposal, read_mechanism_text};
 use md_setting::{Auction, SettingFile};
 use std::alloc::Global;
 
 /// What `report` tells of.
 #[derive(Drop)]
 pub enum Reported {
-    /// The mechanism of an answer about a general setting.
-    Mechanism(Mechanism),
+    /// The mechanism of an answer about a general setting, with the conditions of the designer that it is to meet.
+    Mechanism(Proposal),
     /// The odds and payments of an answer about an auction, with its cuts.
     Odds { interim: Interim, cuts: Sets },
     /// The odds and payments of an auction of the designer's own.
@@ -45,11 +44,11 @@ pub(crate) fn read_reported(
 }
 
 // A mechanism to be told of, which an answer must have.
-fn mechanism_reported(found: Option<Mechanism>) -> Result<Reported, Refusal>
+fn mechanism_reported(found: Option<Proposal>) -> Result<Reported, Refusal>
     ensures { result ≡ mechanism_reported found }
 {
     match found {
-        Some(mechanism) => Ok(Reported::Mechanism(mechanism)),
+        Some(proposal) => Ok(Reported::Mechanism(proposal)),
         None => Err(Refusal::NoTable),
     }
 }

@@ -1,14 +1,10 @@
 //! Second files that are refused, with the first reason in the order of the records, for each command that reads one. The texts are
 //! by hand, from the format.
-use md_cli_samples::carried_out;
 use md_cli_samples::settings::{
     ONE_BUYER, OUT_OF_REACH, POSTED_PRICE, TAKING, THREE_BIDDERS, TWICE, TWO_BIDDERS, VOTE,
 };
-use std::alloc::{AllocError, Global};
+use md_cli_samples::{Refused, first_not_refused};
 use std::test::Fail;
-
-// A setting, a front that is right, what follows it, and the first reason to refuse both.
-type Case = (&'static str, &'static str, &'static str, &'static str);
 
 const OPTIMAL: &str = "answer,1,general,optimal\n";
 
@@ -24,7 +20,7 @@ const ONE_PATH: &str = "answer,1,general,toowide\n";
 const TWO_PATHS: &str = "answer,2,general,toowide\n";
 
 // Answers about general settings.
-static ANSWERS: [Case; 35] = [
+static ANSWERS: [Refused; 35] = [
     // The first record.
     (
         POSTED_PRICE,
@@ -197,7 +193,7 @@ const WIDE: &str = "answer,1,auction,toowide\n";
 const WIDE_TWICE: &str = "answer,2,auction,toowide\n";
 
 // Answers about auctions.
-static AUCTION_ANSWERS: [Case; 70] = [
+static AUCTION_ANSWERS: [Refused; 70] = [
     // The first record.
     (ONE_BUYER, "", "answer,1,auction,table\n", "line 1: field 4"),
     (
@@ -404,7 +400,7 @@ static AUCTION_ANSWERS: [Case; 70] = [
 const FOURTHS: &str = "interim,4\n";
 
 // Odds.
-static ODDS: [Case; 24] = [
+static ODDS: [Refused; 24] = [
     // The denominator is 0, negative, of 63 bits, no number, missing, or not alone.
     (
         TWO_BIDDERS,
@@ -487,7 +483,7 @@ static ODDS: [Case; 24] = [
 ];
 
 // Pivots.
-static PIVOTS: [Case; 20] = [
+static PIVOTS: [Refused; 20] = [
     (POSTED_PRICE, "", "pivot,4,0\npivot,1,1\n", "line 2: ended"),
     (
         POSTED_PRICE,
@@ -558,7 +554,7 @@ const FIXED: &str = "answer,1,determ,toowide\n";
 const TWO_LEAVES: &str = "answer,1,determ,infeasible\nbranch,0\nbranch,1\n";
 
 // Answers about mechanisms without lotteries.
-static TREES: [Case; 18] = [
+static TREES: [Refused; 18] = [
     (TWICE, "", "", "line 0: ended"),
     (
         TWICE,
@@ -660,7 +656,7 @@ const FAIREST: &str = "answer,1,fair,optimal\n";
 
 // Answers about the fairest mechanism. The program of a setting with two profiles and one agent has two rows of truth, two of
 // rationality, two of the profiles, and one of the agent.
-static FAIR_ANSWERS: [Case; 12] = [
+static FAIR_ANSWERS: [Refused; 12] = [
     (POSTED_PRICE, "", "", "line 0: ended"),
     (
         POSTED_PRICE,
@@ -705,35 +701,14 @@ static FAIR_ANSWERS: [Case; 12] = [
     ),
 ];
 
-// Whether a second file is refused for that reason by a command over a setting and the file.
-fn is_refused(alloc: Global, command: &str, case: &Case) -> Result<bool, AllocError> {
-    let (setting, front, rest, line) = *case;
-    let second = format!(in alloc; "{front}{rest}")?;
-    let said = format!(in alloc; "mechdes: answer refused: {line}\n")?;
-    let words = [command, "setting", "second"];
-    let reply = carried_out(alloc, &words, setting, second.as_bytes())?;
-    let is_silent = reply.out.bytes().is_empty();
-    Ok(reply.status == 66 && is_silent && reply.err.bytes() == said.as_bytes())
-}
-
-// The first of some cases that is not as it is told.
-fn first_other(alloc: Global, command: &str, cases: &[Case]) -> Result<Option<usize>, AllocError> {
-    for (place, case) in cases.iter().enumerate() {
-        if !is_refused(alloc, command, case)? {
-            return Ok(Some(place));
-        }
-    }
-    Ok(None)
-}
-
 #[test]
 fn tells_the_first_reason_to_refuse(rt: HostRuntime) -> Result<(), Fail> {
     let alloc = rt.alloc();
-    assert_eq!(rt; first_other(alloc, "audit", &ANSWERS)?, None);
-    assert_eq!(rt; first_other(alloc, "check", &AUCTION_ANSWERS)?, None);
-    assert_eq!(rt; first_other(alloc, "realise", &ODDS)?, None);
-    assert_eq!(rt; first_other(alloc, "replay", &PIVOTS)?, None);
-    assert_eq!(rt; first_other(alloc, "determcheck", &TREES)?, None);
-    assert_eq!(rt; first_other(alloc, "faircheck", &FAIR_ANSWERS)?, None);
+    assert_eq!(rt; first_not_refused(alloc, "audit", &ANSWERS)?, None);
+    assert_eq!(rt; first_not_refused(alloc, "check", &AUCTION_ANSWERS)?, None);
+    assert_eq!(rt; first_not_refused(alloc, "realise", &ODDS)?, None);
+    assert_eq!(rt; first_not_refused(alloc, "replay", &PIVOTS)?, None);
+    assert_eq!(rt; first_not_refused(alloc, "determcheck", &TREES)?, None);
+    assert_eq!(rt; first_not_refused(alloc, "faircheck", &FAIR_ANSWERS)?, None);
     Ok(())
 }

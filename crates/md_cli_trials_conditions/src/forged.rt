@@ -1,7 +1,7 @@
 //! Forged answers under conditions of the designer: each is found out by the condition that was worked out by hand.
 use crate::settings::{LIKELY_HIGH, TAKING_TWICE};
 use md_cli_samples::carried_out;
-use md_cli_samples::settings::{POSTED_PRICE, TAKING};
+use md_cli_samples::settings::{POSTED_PRICE, TAKING, TWICE, WELFARE_VOTE};
 use std::alloc::{AllocError, Global};
 use std::test::Fail;
 
@@ -38,7 +38,7 @@ static ONE_BUYER: [Case; 32] = [
         POSTED_PRICE,
         RIGHT,
         "row,1,0,1\nrow,2,0,3\nrow,5,0,3\n",
-        "row,6,0,1\n",
+        "row,6,0,1\nshadow,0,1,4\n",
         0,
         "valid\n",
     ),
@@ -47,7 +47,7 @@ static ONE_BUYER: [Case; 32] = [
         POSTED_PRICE,
         "answer,1,required,optimal\npay,buyer,high,most,2,1\nvalue,10,8\n",
         "table,2\nlottery,low,1,1\nlottery,high,0,2\npay,low,1\npay,high,4\nbound,2\n",
-        "row,1,0,1\nrow,2,0,3\nrow,5,0,3\nrow,6,0,1\n",
+        "row,1,0,1\nrow,2,0,3\nrow,5,0,3\nrow,6,0,1\nshadow,0,1,4\n",
         0,
         "valid\n",
     ),
@@ -240,12 +240,13 @@ static ONE_BUYER: [Case; 32] = [
         20,
         "rejected,6,5,2,2,1\n",
     ),
-    // The row says that the chances, by weight, are at most 2, since it is divided by 2.
+    // The row says that the chances, by weight, are at most 2, since it is divided by 2. With the bound b it says 4b: 3 times that
+    // is added to the cost, and over the weight 4 it is 3b.
     (
         LIKELY_HIGH,
         "answer,1,required,optimal\nchance,sell,most,1,2\nvalue,3,2\n",
         "table,3\nlottery,low,3,0\nlottery,high,1,2\npay,low,0\npay,high,6\nbound,1\n",
-        "row,2,0,1\nrow,3,0,3\nrow,6,0,3\n",
+        "row,2,0,1\nrow,3,0,3\nrow,6,0,3\nshadow,0,3,1\n",
         0,
         "valid\n",
     ),
@@ -416,6 +417,254 @@ static PAYMENTS: [Case; 12] = [
     ),
 ];
 
+// With the bound b of what is paid the row of RIGHT says b, and half of that is added to the cost: over the weight 2 it is b/4.
+static SHADOWS: [Case; 11] = [
+    // One off in a number, turned around, and 0.
+    (
+        POSTED_PRICE,
+        RIGHT,
+        "row,1,0,1\nrow,2,0,3\nrow,5,0,3\nrow,6,0,1\n",
+        "shadow,0,2,4\n",
+        20,
+        "rejected,18,0,1,4\n",
+    ),
+    (
+        POSTED_PRICE,
+        RIGHT,
+        "row,1,0,1\nrow,2,0,3\nrow,5,0,3\nrow,6,0,1\n",
+        "shadow,0,1,5\n",
+        20,
+        "rejected,18,0,1,4\n",
+    ),
+    (
+        POSTED_PRICE,
+        RIGHT,
+        "row,1,0,1\nrow,2,0,3\nrow,5,0,3\nrow,6,0,1\n",
+        "shadow,0,-1,4\n",
+        20,
+        "rejected,18,0,1,4\n",
+    ),
+    (
+        POSTED_PRICE,
+        RIGHT,
+        "row,1,0,1\nrow,2,0,3\nrow,5,0,3\nrow,6,0,1\n",
+        "shadow,0,0,1\n",
+        20,
+        "rejected,18,0,1,4\n",
+    ),
+    // The same number, not in least terms.
+    (
+        POSTED_PRICE,
+        RIGHT,
+        "row,1,0,1\nrow,2,0,3\nrow,5,0,3\nrow,6,0,1\n",
+        "shadow,0,2,8\n",
+        20,
+        "rejected,18,0,1,4\n",
+    ),
+    // It is left out.
+    (
+        POSTED_PRICE,
+        RIGHT,
+        "row,1,0,1\nrow,2,0,3\nrow,5,0,3\nrow,6,0,1\n",
+        "",
+        20,
+        "rejected,18,0,1,4\n",
+    ),
+    // What else is wrong is told first.
+    (
+        POSTED_PRICE,
+        RIGHT,
+        "row,1,0,1\nrow,2,0,3\nrow,5,1,3\n",
+        "row,6,0,1\nshadow,0,1,5\n",
+        20,
+        "rejected,5,1\n",
+    ),
+    // The bound is that of both rows, and each payment adds all of it.
+    (
+        POSTED_PRICE,
+        "answer,1,required,optimal\npay,buyer,most,1,1\nvalue,1,1\n",
+        "table,1\nlottery,low,0,1\nlottery,high,0,1\npay,low,1\npay,high,1\nbound,1\n",
+        "row,6,0,1\nrow,7,0,1\nshadow,0,1,1\n",
+        0,
+        "valid\n",
+    ),
+    (
+        POSTED_PRICE,
+        "answer,1,required,optimal\npay,buyer,most,1,1\nvalue,1,1\n",
+        "table,1\nlottery,low,0,1\nlottery,high,0,1\npay,low,1\npay,high,1\nbound,1\n",
+        "row,6,0,1\nrow,7,0,1\nshadow,0,1,2\n",
+        20,
+        "rejected,18,0,1,1\n",
+    ),
+    // The cost is divided by 4, and the row by 2: 4 times the chance is at most 1. A unit more of the bound lets the second outcome
+    // come so much more often, which is worth 4.
+    (
+        TWICE,
+        "answer,1,required,optimal\nchance,y,most,2,8\nvalue,1,1\n",
+        "table,4\nlottery,t,3,1\nbound,4\n",
+        "row,2,0,1\nshadow,0,4,1\n",
+        0,
+        "valid\n",
+    ),
+    (
+        TWICE,
+        "answer,1,required,optimal\nchance,y,most,2,8\nvalue,1,1\n",
+        "table,4\nlottery,t,3,1\nbound,4\n",
+        "row,2,0,1\nshadow,0,1,4\n",
+        20,
+        "rejected,18,0,4,1\n",
+    ),
+];
+
+// As RIGHT, but with 3 the item is never kept, by two more conditions, whose rows are 7 and 8.
+const NEVER_KEPT: &str =
+    "answer,1,required,optimal\npay,buyer,high,most,2,1\nat,high,keep,least,0,1\nat,high,keep,most,0,1\nvalue,5,4\ntable,2\nlottery,low,1,1\nlottery,high,0,2\npay,low,1\npay,high,4\nbound,2\nrow,1,0,1\nrow,2,0,3\nrow,5,0,3\nrow,6,0,1\n";
+
+// The chance is at least 0 and at most 0, so that face multipliers of 1 of the rows take each other away. Where they have some no
+// shadow is told; else both are 0.
+static UNTOLD: [Case; 12] = [
+    (
+        POSTED_PRICE,
+        NEVER_KEPT,
+        "row,7,1,0\nrow,8,1,0\n",
+        "shadow,0,1,4\n",
+        0,
+        "valid\n",
+    ),
+    (
+        POSTED_PRICE,
+        NEVER_KEPT,
+        "row,7,1,0\nrow,8,1,0\n",
+        "shadow,0,1,4\nshadow,1,0,1\n",
+        20,
+        "rejected,18,1\n",
+    ),
+    (
+        POSTED_PRICE,
+        NEVER_KEPT,
+        "row,7,1,0\nrow,8,1,0\n",
+        "shadow,0,1,4\nshadow,2,0,1\n",
+        20,
+        "rejected,18,2\n",
+    ),
+    (
+        POSTED_PRICE,
+        NEVER_KEPT,
+        "row,7,1,0\nrow,8,1,0\n",
+        "shadow,1,0,1\nshadow,2,0,1\n",
+        20,
+        "rejected,18,0,1,4\n",
+    ),
+    (
+        POSTED_PRICE,
+        NEVER_KEPT,
+        "",
+        "shadow,0,1,4\nshadow,1,0,1\nshadow,2,0,1\n",
+        0,
+        "valid\n",
+    ),
+    (
+        POSTED_PRICE,
+        NEVER_KEPT,
+        "",
+        "shadow,0,1,4\nshadow,2,0,1\n",
+        20,
+        "rejected,18,1,0,1\n",
+    ),
+    (
+        POSTED_PRICE,
+        NEVER_KEPT,
+        "",
+        "shadow,0,1,4\nshadow,1,0,1\n",
+        20,
+        "rejected,18,2,0,1\n",
+    ),
+    (
+        POSTED_PRICE,
+        NEVER_KEPT,
+        "",
+        "shadow,0,1,4\nshadow,1,1,1\nshadow,2,1,1\n",
+        20,
+        "rejected,18,1,0,1\n",
+    ),
+    // So do main ones, which are 2 over 2, and over the weight 2: other shadows are right beside them.
+    (
+        POSTED_PRICE,
+        NEVER_KEPT,
+        "row,7,0,2\nrow,8,0,2\n",
+        "shadow,0,1,4\nshadow,1,-1,2\nshadow,2,1,2\n",
+        0,
+        "valid\n",
+    ),
+    // With 1 nothing is paid, by both conditions. Of the second one this row alone has a face multiplier.
+    (
+        POSTED_PRICE,
+        "answer,1,required,optimal\npay,buyer,low,most,0,1\npay,buyer,least,0,1\nvalue,3,2\n",
+        AT_THREE,
+        "row,1,0,1\nrow,2,0,2\nrow,5,0,3\nrow,6,1,0\nrow,7,1,0\n",
+        0,
+        "valid\n",
+    ),
+    (
+        POSTED_PRICE,
+        "answer,1,required,optimal\npay,buyer,low,most,0,1\npay,buyer,least,0,1\nvalue,3,2\n",
+        AT_THREE,
+        "row,1,0,1\nrow,2,0,2\nrow,5,0,3\nrow,6,1,0\nrow,7,1,0\nshadow,1,0,1\n",
+        20,
+        "rejected,18,1\n",
+    ),
+    (
+        POSTED_PRICE,
+        "answer,1,required,optimal\npay,buyer,low,most,0,1\npay,buyer,least,0,1\nvalue,3,2\n",
+        AT_THREE,
+        "row,1,0,1\nrow,2,0,2\nrow,5,0,3\nshadow,1,0,1\n",
+        20,
+        "rejected,18,0,0,1\n",
+    ),
+];
+
+// The first voter decides, so that what both like comes, as the designer asks for at one profile. The multipliers of the profiles
+// are 2, 1, 1 and 2 times the denominator, but that of the first one is 1 more, which the row of the condition, 12, takes away.
+const FIRST_DECIDES: &str =
+    "answer,1,required,optimal\nat,l+l,a,least,1,1\nvalue,3,2\ntable,1\nlottery,l,l,1,0\nlottery,l,r,1,0\nlottery,r,l,0,1\nlottery,r,r,0,1\n";
+
+// The denominators are 2^61 - 1 and 2^60 - 1. The shadow is -1 over that and over the weight 4: over 2^63 - 4, which has 63 bits,
+// and over 2^62 - 4.
+static LONG: [Case; 4] = [
+    (
+        WELFARE_VOTE,
+        FIRST_DECIDES,
+        "bound,2305843009213693951\nrow,8,0,4611686018427387903\nrow,9,0,2305843009213693951\nrow,10,0,2305843009213693951\nrow,11,0,4611686018427387902\nrow,12,0,1\n",
+        "",
+        0,
+        "valid\n",
+    ),
+    (
+        WELFARE_VOTE,
+        FIRST_DECIDES,
+        "bound,2305843009213693951\nrow,8,0,4611686018427387903\nrow,9,0,2305843009213693951\nrow,10,0,2305843009213693951\nrow,11,0,4611686018427387902\nrow,12,0,1\n",
+        "shadow,0,0,1\n",
+        20,
+        "rejected,18,0\n",
+    ),
+    (
+        WELFARE_VOTE,
+        FIRST_DECIDES,
+        "bound,1152921504606846975\nrow,8,0,2305843009213693951\nrow,9,0,1152921504606846975\nrow,10,0,1152921504606846975\nrow,11,0,2305843009213693950\nrow,12,0,1\n",
+        "shadow,0,-1,4611686018427387900\n",
+        0,
+        "valid\n",
+    ),
+    (
+        WELFARE_VOTE,
+        FIRST_DECIDES,
+        "bound,1152921504606846975\nrow,8,0,2305843009213693951\nrow,9,0,1152921504606846975\nrow,10,0,1152921504606846975\nrow,11,0,2305843009213693950\nrow,12,0,1\n",
+        "",
+        20,
+        "rejected,18,0,-1,4611686018427387900\n",
+    ),
+];
+
 // Whether `requirecheck` says what is told of an answer.
 fn is_found_out(alloc: Global, case: &Case) -> Result<bool, AllocError> {
     let (setting, front, middle, rest, status, said) = *case;
@@ -441,5 +690,14 @@ fn forged_answers_are_found_out(rt: HostRuntime) -> Result<(), Fail> {
     let alloc = rt.alloc();
     assert_eq!(rt; first_other(alloc, &ONE_BUYER)?, None);
     assert_eq!(rt; first_other(alloc, &PAYMENTS)?, None);
+    Ok(())
+}
+
+#[test]
+fn forged_shadows_are_found_out(rt: HostRuntime) -> Result<(), Fail> {
+    let alloc = rt.alloc();
+    assert_eq!(rt; first_other(alloc, &SHADOWS)?, None);
+    assert_eq!(rt; first_other(alloc, &UNTOLD)?, None);
+    assert_eq!(rt; first_other(alloc, &LONG)?, None);
     Ok(())
 }

@@ -9,8 +9,12 @@ mod limits;
 #[cfg(test)]
 mod mechanism_tests;
 #[cfg(test)]
+mod questions;
+#[cfg(test)]
 mod refusing_tests;
 #[cfg(test)]
 mod requiring_tests;
 #[cfg(test)]
 mod settings;
+#[cfg(test)]
+mod standing_tests;

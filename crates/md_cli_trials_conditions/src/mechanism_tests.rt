@@ -5,7 +5,7 @@ use std::test::Fail;
 
 // The buyer with the value 3 pays 2 at most: it gets the item, and with 1 gets it half of the time and pays 1/2.
 const ANSWER: &str =
-    "answer,1,required,optimal\npay,buyer,high,most,2,1\nvalue,5,4\ntable,2\nlottery,low,1,1\nlottery,high,0,2\npay,low,1\npay,high,4\nbound,2\nend\n";
+    "answer,1,required,optimal\npay,buyer,high,most,2,1\nvalue,5,4\ntable,2\nlottery,low,1,1\nlottery,high,0,2\npay,low,1\npay,high,4\nbound,2\nshadow,0,1,4\nend\n";
 
 // The words of a call, and how what it prints begins.
 static CALLS: [(&[&str], &str); 5] = [

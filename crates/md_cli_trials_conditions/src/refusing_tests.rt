@@ -1,16 +1,12 @@
 //! Files of conditions and answers under conditions that are refused, with the first reason in the order of the records. The texts
 //! are by hand, from the format.
-use md_cli_samples::carried_out;
 use md_cli_samples::settings::{POSTED_PRICE, TAKING, TRADE, TWO_BIDDERS};
-use std::alloc::{AllocError, Global};
+use md_cli_samples::{Refused, carried_out, first_not_refused};
 use std::test::Fail;
-
-// A setting, a front that is right, what follows it, and the first reason to refuse both.
-type Case = (&'static str, &'static str, &'static str, &'static str);
 
 const FIRST: &str = "require,1\n";
 
-static CONDITIONS: [Case; 61] = [
+static CONDITIONS: [Refused; 61] = [
     // The first record.
     (TRADE, "", "", "line 0: ended"),
     (TRADE, "", "end\n", "line 1: record"),
@@ -216,13 +212,17 @@ const BEST: &str = "answer,1,required,optimal\npay,buyer,high,most,2,1\n";
 const TO_ROWS: &str =
     "answer,1,required,optimal\npay,buyer,high,most,2,1\nvalue,5,4\ntable,2\nlottery,low,1,1\nlottery,high,0,2\npay,low,1\npay,high,4\nbound,2\n";
 
+// The same under two conditions.
+const TO_ROWS_OF_TWO: &str =
+    "answer,1,required,optimal\npay,buyer,high,most,2,1\nrevenue,least,0,1\nvalue,5,4\ntable,2\nlottery,low,1,1\nlottery,high,0,2\npay,low,1\npay,high,4\nbound,2\n";
+
 const NONE: &str = "answer,1,required,infeasible\nrevenue,least,2,1\n";
 
 const TO_RAY: &str =
     "answer,1,required,unbounded\npay,a,least,0,1\ntable,1\nlottery,t,1\npay,t,0\n";
 
 // Answers. The setting of the buyer has six rows, which come before those of the conditions.
-static ANSWERS: [Case; 33] = [
+static ANSWERS: [Refused; 31] = [
     (
         POSTED_PRICE,
         "",
@@ -289,19 +289,6 @@ static ANSWERS: [Case; 33] = [
         "end\nrevenue,least,0,1\n",
         "line 11: record",
     ),
-    // What a condition costs is not told.
-    (
-        POSTED_PRICE,
-        TO_ROWS,
-        "row,6,0,1\nshadow,0,1,2\nend\n",
-        "line 11: record",
-    ),
-    (
-        POSTED_PRICE,
-        TO_ROWS,
-        "row,6,0,1\nend\nshadow,0,1,2\n",
-        "line 12: record",
-    ),
     (POSTED_PRICE, BEST, "table,2\n", "line 3: record"),
     (POSTED_PRICE, BEST, "value,5,0\n", "line 3: field 3"),
     (
@@ -344,42 +331,168 @@ static ANSWERS: [Case; 33] = [
     (TAKING, TO_RAY, "ray,t,1\nrow,0,1\n", "line 7: record"),
 ];
 
+// Answers that tell shadows.
+static SHADOWS: [Refused; 23] = [
+    // Shadows stand in front of the end, behind the multipliers.
+    (POSTED_PRICE, BEST, "shadow,0,1,4\n", "line 3: record"),
+    (
+        POSTED_PRICE,
+        TO_ROWS,
+        "row,6,0,1\nend\nshadow,0,1,2\n",
+        "line 12: record",
+    ),
+    (
+        POSTED_PRICE,
+        TO_ROWS,
+        "shadow,0,1,4\nrow,6,0,1\n",
+        "line 11: record",
+    ),
+    (
+        POSTED_PRICE,
+        TO_ROWS,
+        "row,6,0,1\nshadow,0,1,4\n",
+        "line 11: ended",
+    ),
+    // There is one condition, which has one shadow, and where there are two, their shadows stand in their order.
+    (
+        POSTED_PRICE,
+        TO_ROWS,
+        "row,6,0,1\nshadow,1,1,4\nend\n",
+        "line 11: field 2",
+    ),
+    (
+        POSTED_PRICE,
+        TO_ROWS,
+        "shadow,-1,1,4\nend\n",
+        "line 10: field 2",
+    ),
+    (
+        POSTED_PRICE,
+        TO_ROWS,
+        "shadow,0,1,4\nshadow,0,1,4\nend\n",
+        "line 11: field 2",
+    ),
+    (
+        POSTED_PRICE,
+        TO_ROWS_OF_TWO,
+        "shadow,1,0,1\nshadow,0,1,4\nend\n",
+        "line 12: field 2",
+    ),
+    (
+        POSTED_PRICE,
+        TO_ROWS_OF_TWO,
+        "shadow,0,1,4\nshadow,2,0,1\nend\n",
+        "line 12: field 2",
+    ),
+    // Fields, and their numbers.
+    (
+        POSTED_PRICE,
+        TO_ROWS,
+        "shadow,0,1\nend\n",
+        "line 10: record",
+    ),
+    (
+        POSTED_PRICE,
+        TO_ROWS,
+        "shadow,0,1,4,0\nend\n",
+        "line 10: record",
+    ),
+    (
+        POSTED_PRICE,
+        TO_ROWS,
+        "shadow,,x,0\nend\n",
+        "line 10: field 2",
+    ),
+    (
+        POSTED_PRICE,
+        TO_ROWS,
+        "shadow,0,x,0\nend\n",
+        "line 10: field 3",
+    ),
+    (
+        POSTED_PRICE,
+        TO_ROWS,
+        "shadow,0,4611686018427387904,1\nend\n",
+        "line 10: field 3",
+    ),
+    (
+        POSTED_PRICE,
+        TO_ROWS,
+        "shadow,0,-4611686018427387904,1\nend\n",
+        "line 10: field 3",
+    ),
+    (
+        POSTED_PRICE,
+        TO_ROWS,
+        "shadow,0,4611686018427387903,0\nend\n",
+        "line 10: field 4",
+    ),
+    (
+        POSTED_PRICE,
+        TO_ROWS,
+        "shadow,0,1,-4\nend\n",
+        "line 10: field 4",
+    ),
+    (
+        POSTED_PRICE,
+        TO_ROWS,
+        "shadow,0,-4611686018427387903,4611686018427387904\nend\n",
+        "line 10: field 4",
+    ),
+    // The greatest numbers may stand there.
+    (
+        POSTED_PRICE,
+        TO_ROWS,
+        "shadow,0,-4611686018427387903,4611686018427387903\n",
+        "line 10: ended",
+    ),
+    // Where no mechanism is the best one, no shadow is told.
+    (POSTED_PRICE, NONE, "shadow,0,0,1\nend\n", "line 3: field 2"),
+    (
+        POSTED_PRICE,
+        NONE,
+        "row,6,1\nshadow,0,0,1\nend\n",
+        "line 4: field 2",
+    ),
+    (
+        POSTED_PRICE,
+        NONE,
+        "row,6,1\nshadow,0,0\nend\n",
+        "line 4: record",
+    ),
+    (
+        TAKING,
+        TO_RAY,
+        "ray,t,1\nshadow,0,0,1\nend\n",
+        "line 7: field 2",
+    ),
+];
+
 // A whole answer, which commands of other kinds of answers refuse.
-static OF_OTHER_KIND: [Case; 1] = [(
+static OF_OTHER_KIND: [Refused; 1] = [(
     POSTED_PRICE,
     TO_ROWS,
-    "row,1,0,1\nrow,2,0,3\nrow,5,0,3\nrow,6,0,1\nend\n",
+    "row,1,0,1\nrow,2,0,3\nrow,5,0,3\nrow,6,0,1\nshadow,0,1,4\nend\n",
     "line 1: field 3",
 )];
-
-// Whether a second file is refused for that reason by a command over a setting and the file.
-fn is_refused(alloc: Global, command: &str, case: &Case) -> Result<bool, AllocError> {
-    let (setting, front, rest, line) = *case;
-    let second = format!(in alloc; "{front}{rest}")?;
-    let said = format!(in alloc; "mechdes: answer refused: {line}\n")?;
-    let words = [command, "setting", "second"];
-    let reply = carried_out(alloc, &words, setting, second.as_bytes())?;
-    let is_silent = reply.out.bytes().is_empty();
-    Ok(reply.status == 66 && is_silent && reply.err.bytes() == said.as_bytes())
-}
-
-// The first of some cases that is not as it is told.
-fn first_other(alloc: Global, command: &str, cases: &[Case]) -> Result<Option<usize>, AllocError> {
-    for (place, case) in cases.iter().enumerate() {
-        if !is_refused(alloc, command, case)? {
-            return Ok(Some(place));
-        }
-    }
-    Ok(None)
-}
 
 #[test]
 fn tells_the_first_reason_to_refuse(rt: HostRuntime) -> Result<(), Fail> {
     let alloc = rt.alloc();
-    assert_eq!(rt; first_other(alloc, "require", &CONDITIONS)?, None);
-    assert_eq!(rt; first_other(alloc, "requirecheck", &ANSWERS)?, None);
-    assert_eq!(rt; first_other(alloc, "check", &OF_OTHER_KIND)?, None);
-    assert_eq!(rt; first_other(alloc, "faircheck", &OF_OTHER_KIND)?, None);
+    assert_eq!(rt; first_not_refused(alloc, "require", &CONDITIONS)?, None);
+    assert_eq!(rt; first_not_refused(alloc, "requirecheck", &ANSWERS)?, None);
+    assert_eq!(rt; first_not_refused(alloc, "check", &OF_OTHER_KIND)?, None);
+    assert_eq!(rt;
+        first_not_refused(alloc, "faircheck", &OF_OTHER_KIND)?,
+        None
+    );
+    Ok(())
+}
+
+#[test]
+fn tells_the_first_reason_to_refuse_a_shadow(rt: HostRuntime) -> Result<(), Fail> {
+    let alloc = rt.alloc();
+    assert_eq!(rt; first_not_refused(alloc, "requirecheck", &SHADOWS)?, None);
     Ok(())
 }
 

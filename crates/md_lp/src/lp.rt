@@ -4,7 +4,7 @@ ghost use Rattle.md_math.specs.Sizes.{IsWithin, AllWithin};
 ghost use Rattle.md_math.specs.Lists.{number_at};
 ghost use Rattle.md_lp.specs.Program.{row_count, row_at, kind_at, right_at, coefficient_at, cost_at};
 ghost use Rattle.md_lp.specs.Point.{row_sum, cost_sum, right_sum};
-ghost use Rattle.md_lp.specs.Runs.{AddsRow, AreColumnSums};
+ghost use Rattle.md_lp.specs.Runs.{AreColumnSums};
 ghost use Rattle.md_lp.specs.Shape.{IsShaped, IsShapedRow, HasPlaces, numbers_of};
 ghost use Rattle.md_lp.specs.Stored.{shown_terms};
 ghost use Rattle.md_lp.specs.Divided.{HasDividedCost, AppendsDivided};
@@ -16,7 +16,7 @@ use crate::row_kind::RowKind;
 use crate::sizes::{cost_is_small, row_is_small};
 use crate::stored_row::StoredRow;
 use crate::stored_term::{StoredTerm, term_of};
-use crate::sums::{add_row, add_row_to_both, clear, sum_of_products, sum_of_terms};
+use crate::sums::{add_row, clear, sum_of_products, sum_of_terms};
 use crate::term::Term;
 use md_num::{Nums, add_product};
 use std::alloc::Global;
@@ -244,36 +244,5 @@ impl Lp {
                 sums,
             );
         }
-    }
-
-    /// Adds a row to two lists of sums, one for each column: each coefficient times the row's number of the first list of numbers to the first sums, and times that of the second to the second. The row is read once for both.
-    pub fn add_row_by(
-        &self,
-        row: u32,
-        numbers: &Nums,
-        others: &Nums,
-        sums: &mut [i128],
-        other_sums: &mut [i128],
-    )
-        requires row { row < row_count self.now }
-        requires one_each { length numbers.now ≡ row_count self.now }
-        requires other_one_each { length others.now ≡ row_count self.now }
-        requires sizes { AllWithin (2 ^ 62 - 1) numbers.now }
-        requires other_sizes { AllWithin (2 ^ 62 - 1) others.now }
-        requires room { AllWithin (2 ^ 124) sums.old }
-        requires other_room { AllWithin (2 ^ 124) other_sums.old }
-        requires same { length other_sums.old ≡ length sums.old }
-        ensures value { AddsRow (row_at self.now row).terms 0 (number_at numbers.now row) sums.old sums.new }
-        ensures other { AddsRow (row_at self.now row).terms 0 (number_at others.now row) other_sums.old other_sums.new }
-    {
-        add_row_to_both(
-            self.terms(row),
-            0,
-            numbers.as_slice(),
-            others.as_slice(),
-            row as usize,
-            sums,
-            other_sums,
-        );
     }
 }

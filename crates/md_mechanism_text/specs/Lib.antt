@@ -1,1 +1,2 @@
+pub mod Proposals
 pub mod MechanismText

@@ -1,6 +1,9 @@
-//! The mechanism in an answer about a general setting, whichever command printed the answer.
+//! The mechanism in an answer about a general setting, whichever command printed the answer, with the conditions of the designer that the
+//! answer names.
 #![tactic(auto)]
 
+mod proposal;
 mod reading;
 
+pub use proposal::Proposal;
 pub use reading::read_mechanism_text;

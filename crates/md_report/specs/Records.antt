@@ -72,16 +72,17 @@ abbrev pub head_records : Report → List (List (List ℕ))
 head_records report =
     number_record (codes "value") report.value ∷ number_record (codes "revenue") report.revenue ∷ number_record (codes "welfare") report.welfare ∷ []
 
--- all records, in their order
-abbrev pub report_records : GeneralSetting → Report → List (List (List ℕ))
-report_records s report =
+-- all records, in their order, with some more in front of the end
+abbrev pub report_records : GeneralSetting → Report → List (List (List ℕ)) → List (List (List ℕ))
+report_records s report more =
     head_records report
     ++ map (type_record s) report.types.items
     ++ worst_records s report.gains.items
     ++ worst_records s report.losses.items
     ++ deficit_records s report.deficit
     ++ map (tight_record s) report.tight.items
+    ++ more
     ++ end_record ∷ []
 
-abbrev pub report_text : GeneralSetting → Report → List ℕ
-report_text s report = text_of_records (report_records s report)
+abbrev pub report_text : GeneralSetting → Report → List (List (List ℕ)) → List ℕ
+report_text s report more = text_of_records (report_records s report more)

@@ -15,19 +15,30 @@ use md_setting::Setting;
 use std::alloc::Global;
 
 /// A report as a text of records: the value, the revenue, the welfare, what each type gets and pays, the greatest gains and
-/// losses, the deficit, the tight conditions and an end. docs/FORMATS.md states them.
-pub fn report_text(alloc: Global, setting: &Setting, report: &Report) -> Result<Vec<u8>, NoMemory>
+/// losses, the deficit, the tight conditions, the records that are given to stand in front of the end, and the end. docs/FORMATS.md
+/// states them.
+pub fn report_text(
+    alloc: Global,
+    setting: &Setting,
+    report: &Report,
+    more: Vec<Row>,
+) -> Result<Vec<u8>, NoMemory>
     requires { IsAbout setting.now report.now }
-    ensures { IfOk result (λ text. text.items ≡ report_text setting.now report.now) }
+    ensures { IfOk result (λ text. text.items ≡ report_text setting.now report.now more.items) }
 {
-    let records = records(alloc, setting, report)?;
+    let records = records(alloc, setting, report, more)?;
     write_records(alloc, &records)
 }
 
-// All records of a report.
-fn records(alloc: Global, setting: &Setting, report: &Report) -> Result<Vec<Row>, NoMemory>
+// All records of a report, with some more in front of the end.
+fn records(
+    alloc: Global,
+    setting: &Setting,
+    report: &Report,
+    mut more: Vec<Row>,
+) -> Result<Vec<Row>, NoMemory>
     requires { IsAbout setting.now report.now }
-    ensures { IfOk result (λ records. records.items ≡ report_records setting.now report.now) }
+    ensures { IfOk result (λ records. records.items ≡ report_records setting.now report.now more.items) }
 {
     let mut rows = heads(alloc, report)?;
     push_types(alloc, &mut rows, setting, &report.types)?;
@@ -35,6 +46,7 @@ fn records(alloc: Global, setting: &Setting, report: &Report) -> Result<Vec<Row>
     push_worst(alloc, &mut rows, setting, &report.losses)?;
     push_deficit(alloc, &mut rows, setting, &report.deficit)?;
     push_tight(alloc, &mut rows, setting, &report.tight)?;
+    rows.append(&mut more)?;
     rows.push(Row::new(alloc).with(b"end")?)?;
     Ok(rows)
 }

@@ -9,3 +9,11 @@ pub mod PartSizes
 pub mod ConditionRows
 pub mod ToldSizes
 pub mod FirstUnmet
+pub mod StandingLaws
+pub mod MovedDuality
+pub mod MovedForms
+pub mod ShadowLaws
+pub mod ShortLaws
+pub mod PriceLaws
+pub mod DivisorLaws
+pub mod ToldVerdicts

@@ -1,9 +1,10 @@
 -- How large what is read of a setting and of a mechanism can become.
-use Rattle.std.proofs.Common.{ℕ, ◌*◌, ◌^◌, ◌≤◌, ℤ, ◌*ℤ◌, neg_ℤ, List, sym, subst, arith, mul-le-mul, le_refl}
+use Rattle.std.proofs.Common.{◌≡◌, ℕ, ◌*◌, ◌^◌, ◌≤◌, ℤ, pos, ◌*ℤ◌, ◌<ℤ◌, neg_ℤ, List, sym, subst, arith, mul-le-mul, le_refl, unsigned_abs}
+use Rattle.std.proofs.lemmas.Int.{ints, unsigned_abs-mul}
 use Rattle.md_math.specs.Sizes.{IsWithin}
 use Rattle.md_math.specs.Sums.{sum_to}
 use Rattle.md_math.proofs.SizeLaws.{sum_to-within, IsWithin-wider, IsWithin-neg_ℤ}
-use Rattle.md_math.proofs.Ring.{neg_ℤ-*ℤ}
+use Rattle.md_math.proofs.Ring.{neg_ℤ-*ℤ, one-*ℤ}
 use Rattle.md_setting.specs.Setting.{GeneralSetting}
 use Rattle.md_setting.specs.Meaning.{utility_of}
 use Rattle.md_setting.specs.Shaped.{IsShaped}
@@ -25,3 +26,19 @@ narrow-neg s scale amount h = record {
   where
     turned : (z : ℤ) → IsWithin (2 ^ 44) (scale *ℤ z) → IsWithin (2 ^ 44) (neg_ℤ scale *ℤ z)
     turned z w = subst (IsWithin (2 ^ 44)) (sym (neg_ℤ-*ℤ scale z)) (IsWithin-neg_ℤ (2 ^ 44) (scale *ℤ z) w)
+
+-- the number 1 in place of one of at least 1
+pub narrow-one : (s : GeneralSetting) (scale : ℤ) (amount : Amount) → pos 0 <ℤ scale → IsNarrow s scale amount → IsNarrow s (pos 1) amount
+narrow-one s scale amount above h = record {
+  chances = λ r o b l. smaller (chance_part s amount r o) (h.chances r o b l);
+  pays = λ r i b l. smaller (pay_part s amount r i) (h.pays r i b l);
+}
+  where
+    some : 1 ≤ unsigned_abs scale
+    some = grind (arith, ints)
+
+    smaller : (z : ℤ) → IsWithin (2 ^ 44) (scale *ℤ z) → IsWithin (2 ^ 44) (pos 1 *ℤ z)
+    smaller z w =
+        let product : unsigned_abs (scale *ℤ z) ≡ unsigned_abs scale * unsigned_abs z = unsigned_abs-mul scale z in
+        let more : 1 * unsigned_abs z ≤ unsigned_abs scale * unsigned_abs z = mul-le-mul some (le_refl (unsigned_abs z)) in
+        subst (IsWithin (2 ^ 44)) (sym (one-*ℤ z)) (record { within = omega (arith, w.within, product, more) })

@@ -8,5 +8,9 @@ pub mod Named
 pub mod Parts
 pub mod Limits
 pub mod Missed
+pub mod Standings
+pub mod Furthest
 pub mod Requirement
 pub mod RequireVerdicts
+pub mod Shadows
+pub mod Prices

@@ -1,5 +1,5 @@
 //! Both sides of a condition.
-ghost use Rattle.std.specs.Prelude.{◌≡◌, ℕ, ◌^◌, ◌*ℤ◌};
+ghost use Rattle.std.specs.Prelude.{◌≡◌, ℕ, ◌^◌, pos, ◌*ℤ◌, ◌<ℤ◌};
 ghost use Rattle.md_math.specs.Sizes.{IsWithin};
 ghost use Rattle.md_mech.specs.Accepted.{number_limit};
 ghost use Rattle.md_require.specs.Amounts.{whole_of};
@@ -37,6 +37,7 @@ pub(crate) fn bound(setting: &Setting, condition: &Condition, amount: Amount) ->
 /// The weight of all profiles, where an amount is a sum over them, and else 1.
 pub fn whole(setting: &Setting, amount: Amount) -> i128
     ensures value { result ≡ whole_of setting.now (named setting.now amount) }
+    ensures positive { pos 0 <ℤ result }
     ensures size { IsWithin 1000000 result }
 {
     match amount {

@@ -18,7 +18,7 @@ use std::alloc::Global;
 
 /// The verdict on what is said to be the best mechanism of a setting among those that meet conditions: valid where all its
 /// conditions hold, and else rejected with the first condition that fails. Nothing but want of memory is an error.
-pub fn check_required(
+pub(crate) fn check_required(
     alloc: Global,
     setting: &Setting,
     conditions: &[Condition],

@@ -19,6 +19,7 @@ pub(crate) fn told(setting: &Setting, scaled: &Scaled, mechanism: &Mechanism) ->
     requires scaled { IsScaled setting.now scaled.now }
     requires accepted { IsAccepted setting.now mechanism.now }
     ensures value { result ≡ scaled.now.scale *ℤ amount_of setting.now mechanism.now (named setting.now scaled.now.amount) }
+    ensures size { IsWithin (2 ^ 121) result }
 {
     let mut sum = 0;
     for rank in 0..setting.space().profiles() {

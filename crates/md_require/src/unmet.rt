@@ -1,10 +1,10 @@
 //! Which condition a mechanism does not meet.
-ghost use Rattle.std.specs.Prelude.{◌<◌, ◌≤ℤ◌, All, MatchOption};
+ghost use Rattle.std.specs.Prelude.{◌<◌, ◌≤◌, ◌≤ℤ◌, All, MatchOption, length};
 ghost use Rattle.md_space.specs.Profiles.{profile_count};
 ghost use Rattle.md_setting.specs.Meaning.{sizes_of};
 ghost use Rattle.md_mech.specs.Accepted.{IsAccepted};
 ghost use Rattle.md_require.specs.Conditions.{IsFirstUnmet, IsMet, MeetsAll, Stays};
-ghost use Rattle.md_require.specs.Limits.{AreConditionsFor, IsConditionFor, IsNarrowFor};
+ghost use Rattle.md_require.specs.Limits.{IsConditionFor, IsNarrowFor};
 ghost use Rattle.md_require.specs.Missed.{IsBelow, IsMissedAs, IsMissedAt, IsMissedBy};
 ghost use Rattle.md_require.specs.Named.{IsInside, amounts_at, named};
 
@@ -18,12 +18,13 @@ use md_question::Unmet;
 use md_setting::Setting;
 
 /// The first condition that a mechanism does not meet.
-pub(crate) fn first_unmet(
+pub fn first_unmet(
     setting: &Setting,
     conditions: &[Condition],
     mechanism: &Mechanism,
 ) -> Option<Unmet>
-    requires conditions { AreConditionsFor setting.now conditions.now }
+    requires each { All (IsConditionFor setting.now) conditions.now }
+    requires few { length conditions.now ≤ 1000 }
     requires accepted { IsAccepted setting.now mechanism.now }
     ensures { MatchOption result (MeetsAll setting.now conditions.now mechanism.now) (IsFirstUnmet setting.now conditions.now mechanism.now) }
 {
@@ -36,8 +37,8 @@ pub(crate) fn first_unmet(
     None
 }
 
-// Both sides at the first of the amounts of a condition that does not stay.
-fn missed(
+/// Both sides at the first of the amounts of a condition that does not stay.
+pub(crate) fn missed(
     setting: &Setting,
     condition: &Condition,
     mechanism: &Mechanism,

@@ -1,9 +1,5 @@
-pub mod NameLaws
-pub mod Joined
-pub mod SettingNames
-pub mod NarrowLaws
-pub mod FieldLaws
-pub mod LoopLaws
-pub mod WrittenConditions
+pub mod ShadowLaws
+pub mod WrittenShadows
 pub mod WrittenAnswers
 pub mod AnswerLaws
+pub mod ToldShadows

@@ -1,15 +1,15 @@
 -- An answer about the best mechanism under conditions that is written is read as the same answer.
-use Rattle.std.proofs.Common.{◌≡◌, ℕ, ◌+◌, ◌≤◌, ◌^◌, ℤ, pos, Bool, true, false, List, [], ◌∷◌, ◌++◌, codes, None, Some, Ok, if◌then◌else◌, refl, sym, ap, subst, ◌∙◌, arith, All, append-nil, append_assoc}
+use Rattle.std.proofs.Common.{◌≡◌, ℕ, ◌≤◌, ◌^◌, ℤ, pos, Bool, true, false, List, [], ◌∷◌, ◌++◌, length, codes, Option, None, Some, Ok, if◌then◌else◌, refl, sym, ap, subst, ◌∙◌, arith, All, append-nil, append_assoc}
 use Rattle.std.specs.List.{list_all}
 use Rattle.std.specs.Ordering.{int_eq}
 use Rattle.std.proofs.lemmas.List.Elements.{All-nil, All-cons, All-head, All-append}
 use Rattle.md_math.specs.Lists.{up_to}
 use Rattle.md_math.proofs.Builders.{All-up_to}
+use Rattle.md_num.specs.declared.frac.Frac.{Frac}
 use Rattle.md_setting.specs.Setting.{GeneralSetting}
 use Rattle.md_setting.specs.Refusals.{refusal_of}
 use Rattle.md_records.specs.Written.{IsReadBack}
 use Rattle.md_records.proofs.RecordTexts.{records_of-text}
-use Rattle.md_cert.specs.declared.bound.Bound.{Bound}
 use Rattle.md_parts.specs.declared.first_record.Head.{Head}
 use Rattle.md_parts.specs.declared.version.Version.TheVariants.{One}
 use Rattle.md_parts.specs.FirstRecord.{first_of, word_among}
@@ -27,13 +27,14 @@ use Rattle.md_question.specs.declared.finding.Finding.TheVariants.{Optimal, Infe
 use Rattle.md_question.specs.Shown.{IsFindingTo}
 use Rattle.md_require.specs.declared.condition.Condition.{Condition}
 use Rattle.md_require.specs.RequireQuestion.{require_question, require_rows}
-use Rattle.md_require_text.specs.ConditionRows.{condition_rows}
-use Rattle.md_require_text.specs.ConditionsText.{conditions_read}
-use Rattle.md_require_text.specs.Kinds.{kind_ahead, kind_of}
-use Rattle.md_require_text.specs.RequiredRows.{answer_rows, finding_rows, finding_word, inner_rows, text_of_required}
-use Rattle.md_require_text.specs.RequiredText.{answer_words, finding_by, required_answer_of, whole_answer}
-use Rattle.md_require_text.specs.Told.{IsFindingOver, IsRequiredAnswer, Told}
-use Rattle.md_require_text.proofs.WrittenConditions.{conditions-written, rows-some as conditions-some}
+use Rattle.md_conditions_text.specs.ConditionRows.{condition_rows}
+use Rattle.md_conditions_text.specs.ConditionsText.{conditions_read}
+use Rattle.md_conditions_text.specs.Kinds.{kind_ahead}
+use Rattle.md_require_text.specs.RequiredRows.{answer_rows, finding_rows, finding_word, inner_rows, shadow_rows, text_of_required}
+use Rattle.md_require_text.specs.RequiredText.{answer_words, finding_by, required_answer_of, shadows_of, whole_answer}
+use Rattle.md_require_text.specs.Told.{IsFindingOver, IsRequiredAnswer, Told, shadow_count}
+use Rattle.md_require_text.proofs.WrittenShadows.{IsNoRow, IsOther, shadows-no_row, shadows-other, shadows-some, shadows-written}
+use Rattle.md_conditions_text.proofs.WrittenConditions.{conditions-written, rows-some as conditions-some}
 
 abbrev Rows : Type 0
 Rows = List (List (List ℕ))
@@ -81,8 +82,10 @@ finding-written s rows (Unbounded m ray) others few h ends =
 
 -- ---- which records come behind which
 
-abbrev IsOther : List (List ℕ) → Type 0
-IsOther row = kind_of row ≡ None
+-- no row comes behind the rows
+no-row : (rows others : Rows) → All IsNoRow rows → comes_next (codes "row") others ≡ false → comes_next (codes "row") (rows ++ others) ≡ false
+no-row [] others all ends = ends
+no-row (row ∷ rows) others all ends = All-head IsNoRow row rows all
 
 no-kind : (rows others : Rows) → All IsOther rows → kind_ahead others ≡ None → kind_ahead (rows ++ others) ≡ None
 no-kind [] others all ends = ends
@@ -97,12 +100,18 @@ face-other rows face =
     All-up_to IsOther rows (λ r. row_unless_zero r (face_row face r)) (λ k l. other-row (list_all (int_eq (pos 0)) (face_row face k)) (pos k ∷ face_row face k))
 
 -- no condition comes behind the conditions
-behind-conditions : (s : GeneralSetting) (rows : ℕ) (f : Finding) (others : Rows) → kind_ahead others ≡ None → kind_ahead (finding_rows s rows f ++ others) ≡ None
-behind-conditions s rows (Optimal value m bound) others ends = refl
-behind-conditions s rows (Infeasible face) others ends = no-kind (face_rows rows face) others (face-other rows face) ends
-behind-conditions s rows (Unbounded m ray) others ends = refl
+behind-conditions : (s : GeneralSetting) (rows : ℕ) (f : Finding) (shadows : List (Option Frac)) (others : Rows) → kind_ahead others ≡ None → kind_ahead ((finding_rows s rows f ++ shadow_rows shadows) ++ others) ≡ None
+behind-conditions s rows (Optimal value m bound) shadows others ends = refl
+behind-conditions s rows (Infeasible face) shadows others ends =
+    no-kind (face_rows rows face ++ shadow_rows shadows) others (All-append IsOther (face_rows rows face) (shadow_rows shadows) (face-other rows face) (shadows-other shadows)) ends
+behind-conditions s rows (Unbounded m ray) shadows others ends = refl
 
 -- ---- the whole
+
+count-few : (f : Finding) (count : ℕ) → count ≤ 1000 → shadow_count f count ≤ 1000
+count-few (Optimal value m bound) count l = l
+count-few (Infeasible face) count l = omega arith
+count-few (Unbounded m ray) count l = omega arith
 
 whole-written : (s : GeneralSetting) (a : Told) → refusal_of s ≡ None → IsRequiredAnswer s a → IsWrittenBefore [] (whole_answer s) (answer_rows s a) a
 whole-written s a accepted h =
@@ -110,20 +119,32 @@ whole-written s a accepted h =
     let f = a.finding in
     let rows = require_rows s cs in
     let found = finding_rows s rows f in
+    let told = shadow_rows a.shadows in
+    let count = shadow_count f (length cs) in
     let head : Head = record { version = One; word = place_of f } in
     let few : rows ≤ 2 ^ 32 = let l = h.conditions.few_rows in omega (arith, l) in
-    let regrouped : (condition_rows s cs ++ found) ++ the_end ≡ condition_rows s cs ++ (found ++ the_end) = append_assoc (condition_rows s cs) found the_end in
-    let ends : kind_ahead ((found ++ the_end) ++ []) ≡ None = ap kind_ahead (append-nil (found ++ the_end)) ∙ behind-conditions s rows f the_end refl in
+    let regrouped : (condition_rows s cs ++ (found ++ told)) ++ the_end ≡ condition_rows s cs ++ (found ++ (told ++ the_end)) =
+    append_assoc (condition_rows s cs) (found ++ told) the_end ∙ ap (λ (l : Rows). condition_rows s cs ++ l) (append_assoc found told the_end) in
+    let back : (found ++ (told ++ the_end)) ++ [] ≡ (found ++ told) ++ the_end = append-nil (found ++ (told ++ the_end)) ∙ sym (append_assoc found told the_end) in
+    let ends : kind_ahead ((found ++ (told ++ the_end)) ++ []) ≡ None = ap kind_ahead back ∙ behind-conditions s rows f a.shadows the_end refl in
+    let no_row : comes_next (codes "row") ((told ++ the_end) ++ []) ≡ false =
+    ap (λ (l : Rows). comes_next (codes "row") l) (append-nil (told ++ the_end)) ∙ no-row told the_end (shadows-no_row a.shadows) refl in
     subst (λ (l : Rows). IsWrittenBefore [] (whole_answer s) (first_row One (codes "required") (finding_word f) ∷ l) a) (sym regrouped)
     (written-then [] (first_of (codes "required") answer_words)
-    (λ top. conditions_read s >>= (λ c. finding_by s (require_rows s c) top.word >>= (λ g. read_end >>= (λ _. nothing_more (record { conditions = c; finding = g })))))
-    (first_row One (codes "required") (finding_word f) ∷ []) (condition_rows s cs ++ (found ++ the_end)) head a
-    (first-written One (codes "required") (finding_word f) answer_words (place_of f) ((condition_rows s cs ++ (found ++ the_end)) ++ []) (word-there f) refl)
-    (written-then [] (conditions_read s) (λ c. finding_by s (require_rows s c) (place_of f) >>= (λ g. read_end >>= (λ _. nothing_more (record { conditions = c; finding = g })))) (condition_rows s cs) (found ++ the_end) cs a
-    (conditions-written s cs ((found ++ the_end) ++ []) accepted h.conditions ends)
-    (written-then [] (finding_by s rows (place_of f)) (λ g. read_end >>= (λ _. nothing_more (record { conditions = cs; finding = g }))) found the_end f a
-    (finding-written s rows f (the_end ++ []) few (finding-over s cs f h.finding) refl)
-    (written-as [] read_end (λ _. a) the_end tt end-written))))
+    (λ top. conditions_read s >>= (λ c. finding_by s (require_rows s c) top.word >>= (λ g. shadows_of (shadow_count g (length c)) >>= (λ x. read_end >>= (λ _. nothing_more (record { conditions = c; finding = g; shadows = x }))))))
+    (first_row One (codes "required") (finding_word f) ∷ []) (condition_rows s cs ++ (found ++ (told ++ the_end))) head a
+    (first-written One (codes "required") (finding_word f) answer_words (place_of f) ((condition_rows s cs ++ (found ++ (told ++ the_end))) ++ []) (word-there f) refl)
+    (written-then [] (conditions_read s)
+    (λ c. finding_by s (require_rows s c) (place_of f) >>= (λ g. shadows_of (shadow_count g (length c)) >>= (λ x. read_end >>= (λ _. nothing_more (record { conditions = c; finding = g; shadows = x })))))
+    (condition_rows s cs) (found ++ (told ++ the_end)) cs a
+    (conditions-written s cs ((found ++ (told ++ the_end)) ++ []) accepted h.conditions ends)
+    (written-then [] (finding_by s rows (place_of f))
+    (λ g. shadows_of (shadow_count g (length cs)) >>= (λ x. read_end >>= (λ _. nothing_more (record { conditions = cs; finding = g; shadows = x }))))
+    found (told ++ the_end) f a
+    (finding-written s rows f ((told ++ the_end) ++ []) few (finding-over s cs f h.finding) no_row)
+    (written-then [] (shadows_of count) (λ x. read_end >>= (λ _. nothing_more (record { conditions = cs; finding = f; shadows = x }))) told the_end a.shadows a
+    (shadows-written a.shadows count (the_end ++ []) h.shadows (count-few f (length cs) h.conditions.few) refl)
+    (written-as [] read_end (λ _. a) the_end tt end-written)))))
 
 -- ---- the text
 
@@ -142,7 +163,8 @@ answer-read_back s a =
     record {
       fields = All-cons IsSome (first_row One (codes "required") (finding_word a.finding)) (inner_rows s a ++ the_end) (omega arith)
           (All-append IsSome (inner_rows s a) the_end
-          (All-append IsSome (condition_rows s a.conditions) found (conditions-some s a.conditions) (finding-some s (require_rows s a.conditions) a.finding))
+          (All-append IsSome (condition_rows s a.conditions) (found ++ shadow_rows a.shadows) (conditions-some s a.conditions)
+          (All-append IsSome found (shadow_rows a.shadows) (finding-some s (require_rows s a.conditions) a.finding) (shadows-some a.shadows)))
           (All-cons IsSome end_row [] (omega arith) (All-nil IsSome)));
       no_mark = λ e. first_byte e;
     }

@@ -1,10 +1,3 @@
-pub mod Names
-pub mod Kinds
-pub mod ConditionFields
-pub mod Narrow
-pub mod Known
-pub mod ConditionsText
-pub mod ConditionRows
 pub mod Told
 pub mod RequiredText
 pub mod RequiredRows

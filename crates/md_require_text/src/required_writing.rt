@@ -1,15 +1,15 @@
 //! Writing an answer about the best mechanism under conditions.
-ghost use Rattle.std.specs.Prelude.{◌≡◌, ◌++◌, Ok, IfOk, OnOk};
-ghost use Rattle.md_require_text.specs.RequiredRows.{answer_rows, finding_rows, finding_word, text_of_required};
+ghost use Rattle.std.specs.Prelude.{◌≡◌, ◌≤◌, ◌++◌, length, All, Ok, IfOk, OnOk};
+ghost use Rattle.md_require_text.specs.RequiredRows.{answer_rows, finding_rows, finding_word, shadow_row, shadow_rows, text_of_required};
 ghost use Rattle.md_require_text.specs.RequiredText.{required_answer_of};
-ghost use Rattle.md_require_text.specs.Told.{IsFindingOver, IsRequiredAnswer};
+ghost use Rattle.md_require_text.specs.Told.{IsFindingOver, IsFractionIfTold, IsRequiredAnswer};
 
 use crate::answer::RequiredAnswer;
-use crate::condition_writing::push_conditions;
-use crate::narrow::rows_of;
-use md_num::NoMemory;
+use md_conditions_text::{push_conditions, rows_of};
+use md_num::{Frac, NoMemory};
 use md_parts::{
-    Version, push_bound, push_end, push_face, push_first, push_mechanism, push_pays, push_value,
+    Version, push_bound, push_end, push_face, push_first, push_mechanism, push_numbers, push_pays,
+    push_value,
 };
 use md_question::Finding;
 use md_records::{Row, write_records};
@@ -56,6 +56,39 @@ fn push_finding(
     }
 }
 
+// Adds the record of a condition's shadow, unless it is not told.
+fn push_shadow(
+    alloc: Global,
+    to: &mut Vec<Row>,
+    index: u32,
+    shadow: &Option<Frac>,
+) -> Result<(), NoMemory>
+    requires { IsFractionIfTold shadow.now }
+    ensures { OnOk result (to.new.items ≡ to.old.items ++ shadow_row index shadow.now) }
+{
+    match shadow {
+        Some(shadow) => push_numbers(
+            alloc,
+            to,
+            "shadow",
+            &[i128::from(index), shadow.num, shadow.den],
+        ),
+        None => Ok(()),
+    }
+}
+
+// Adds the records of the shadows that are told.
+fn push_shadows(alloc: Global, to: &mut Vec<Row>, shadows: &[Option<Frac>]) -> Result<(), NoMemory>
+    requires few { length shadows.now ≤ 1000 }
+    requires each { All IsFractionIfTold shadows.now }
+    ensures { OnOk result (to.new.items ≡ to.old.items ++ shadow_rows shadows.now) }
+{
+    for index in 0..shadows.len() {
+        push_shadow(alloc, to, index as u32, &shadows[index])?;
+    }
+    Ok(())
+}
+
 // All records of an answer.
 fn records_of(
     alloc: Global,
@@ -76,6 +109,7 @@ fn records_of(
         rows_of(setting, conditions),
         finding,
     )?;
+    push_shadows(alloc, &mut rows, answer.shadows())?;
     push_end(alloc, &mut rows)?;
     Ok(rows)
 }

@@ -7,8 +7,12 @@ use Rattle.md_cli_driver.specs.declared.refusal.Refusal.TheVariants as refusal
 use Rattle.md_cli_driver.specs.Refused.{HasMadeLine, IsTold, refused, status_of}
 use Rattle.md_top.specs.Reply.{IsReply, IsSaidBy, IsSaidOfOrder, work_of}
 use Rattle.md_cli_driver.specs.Works.{IsCarriedOut, IsOutcome}
-use Rattle.md_cli_driver.proofs.Works.{err_same, memory_fault}
+use Rattle.md_cli_driver.proofs.Works.{err_same}
 use Rattle.md_cli_words.specs.Words.{Order}
+
+-- want of memory is no fault
+memory_fault : refusal.Memory ≢ refusal.ReadFault
+memory_fault same = cc
 
 -- ---- saying
 

@@ -4,7 +4,6 @@ use Rattle.md_cli_words.specs.Commands.{command_in}
 use Rattle.md_cli_words.specs.declared.command.Command.{Command}
 use Rattle.md_cli_words.specs.declared.command.Command.TheVariants.{Audit, Rows, Check, Solve, Replay, Realise, Fair, Find, FindFair, FairCheck, Require, RequireCheck, Asym, AsymCheck, Units, UnitCheck, Threshold, Award, Determ, DetermCheck, Run, Report, Iron, IronUnits, Make, Drill}
 use Rattle.md_cli_words.specs.Words.{Order, command_of}
-use Rattle.md_mech.specs.declared.mechanism.Mechanism.{Mechanism}
 use Rattle.md_border.specs.declared.interim.Interim.{Interim}
 use Rattle.md_answer.specs.declared.answer.Answer.{Answer}
 use Rattle.md_answer.specs.declared.pivots_file.Pivots.{Pivots}
@@ -12,13 +11,14 @@ use Rattle.md_asym.specs.declared.sale_answer.SaleAnswer.{SaleAnswer}
 use Rattle.md_fair.specs.declared.answer.FairAnswer.{FairAnswer}
 use Rattle.md_require.specs.declared.condition.Condition.{Condition}
 use Rattle.md_require_text.specs.Told.{Told}
+use Rattle.md_mechanism_text.specs.Proposals.{Proposed}
 use Rattle.md_cli_driver.specs.declared.refusal.Refusal.TheVariants as refusal
 use Rattle.md_cli_driver.specs.Saying.{Saying}
 use Rattle.md_cli_driver.specs.Reading.{answer_in, is_any, is_auction, is_general}
 use Rattle.md_cli_driver.specs.Refused.{refused}
 use Rattle.md_cli_driver.specs.Works.{Work, no_file, one_file, two_files, sale_files, number_refused, IsReplyTo, HasFaultedIn}
 use Rattle.md_cli_best.specs.Headline.{IsSolveStatus}
-use Rattle.md_cli_judge.specs.Auditing.{mechanism_in, IsAudit, IsAuditStatus}
+use Rattle.md_cli_judge.specs.Auditing.{proposal_in, IsAudit, IsAuditStatus}
 use Rattle.md_cli_tell.specs.Listing.{IsRows, IsRowsStatus}
 use Rattle.md_cli_judge.specs.Checking.{IsCheck}
 use Rattle.md_cli_judge.specs.AsymChecking.{IsAsymCheck, IsSaleFile, sale_answer_in}
@@ -79,7 +79,7 @@ draw_work profile first second = two_files Answer is_any drawable_in (IsRun prof
 
 -- the commands: the files of each, what it says of them, and its statuses
 abbrev pub work_by : Command → Order → Work
-work_by Audit order = two_files Mechanism is_general mechanism_in IsAudit IsAuditStatus
+work_by Audit order = two_files Proposed is_general proposal_in IsAudit IsAuditStatus
 work_by Rows order = one_file is_any IsRows IsRowsStatus
 work_by Check order = two_files Answer is_any answer_in IsCheck IsCheckStatus
 work_by Solve order = one_file is_any (IsSolve order.width) IsSolveStatus

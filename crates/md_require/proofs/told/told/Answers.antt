@@ -41,4 +41,7 @@ returns c =
     let count : c.profiles-rank-end.result ≡ profile_count (sizes_of s) = c.profiles-rank-end.ensures.count ∙ ap profile_count c.space.ensures.sizes in
     let end : c.loop-rank.rank ≡ profile_count (sizes_of s) = omega (arith, count) in
     let sum = subst (λ n. to_z w128 c.loop-rank.sum-bits ≡ sum_to n (rank_adds s c.args.mechanism.now c.args.scaled.now.scale (named s c.args.scaled.now.amount))) end c.loop-rank.invariant in
-    record { value = sum ∙ scaled-amount s c.args.mechanism.now c.args.scaled.now.scale (named s c.args.scaled.now.amount) (inside-placed s c.args.scaled.now.amount c.requires.scaled.inside) }
+    record {
+      value = sum ∙ scaled-amount s c.args.mechanism.now c.args.scaled.now.scale (named s c.args.scaled.now.amount) (inside-placed s c.args.scaled.now.amount c.requires.scaled.inside);
+      size = rw c.loop-rank.invariant (ranks-within s c.args.mechanism.now c.args.scaled.now.scale (named s c.args.scaled.now.amount) c.requires.scaled.narrow c.requires.accepted c.loop-rank.rank (omega (arith, count)) c.space.ensures.shaped);
+    }
