@@ -6,7 +6,7 @@ import { folded, head, make, number, table } from "./dom.js";
 import { Fraction, counted, sum } from "./fraction.js";
 import { barsFigure, legend, lotteryFigure } from "./pictures.js";
 import { byProfile, firstWith, fractionsOf, withWord } from "./records.js";
-import { profilesOf } from "./setting.js";
+import { profilesOf, weightOfProfile } from "./setting.js";
 import {
   cutNames,
   foldedTable,
@@ -291,24 +291,17 @@ function bidderPart(records, { name, types }, denominator) {
   );
 }
 
-/** How often each bidder has the item, by what all report. The weight of a profile is the product of those of its types, so that what
- * is left is no number of the text: it is left out. */
-function salesPart(records, { agents }, denominator) {
-  const weights = new Map(profilesOf(agents).map((types) => [types.join(","), profileWeight(agents, types)]));
+/** How often each bidder has the item, by what all report, and how often it is kept. */
+function salesPart(records, setting, denominator) {
+  const { agents } = setting;
   const rows = withWord(records, "mass").map((fields) => {
     const types = fields.slice(0, agents.length);
-    const weight = weights.get(types.join(","));
+    const weight = weightOfProfile(setting, types);
     const shares = fields.slice(agents.length).map((mass) => (weight ? new Fraction(BigInt(mass), weight * BigInt(denominator)) : null));
     return [...types.map(head), ...shares.map((share) => (share ? number(share) : "")), weight ? number(rest(1n, shares)) : ""];
   });
   const heads = [...agents.map(({ name }) => name), ...agents.map(({ name }) => `#${name} has it`), "#Is kept"];
   return foldedTable("Who has the item, by report", heads, rows);
-}
-
-/** The weight of a profile, or null where the setting has joint weights, or it never comes. */
-function profileWeight(agents, types) {
-  const parts = agents.map(({ types: all, weights }, agent) => weights?.[all.indexOf(types[agent])]);
-  return parts.some((part) => part === undefined) ? null : parts.reduce((product, part) => product * part, 1n) || null;
 }
 
 /** The names of the conditions of a sale, in the order of its program. */

@@ -45,11 +45,19 @@ export const SECONDS = {
     hint: "What solve, find, iron, require, fair or findfair printed, or a rule of your own",
     of: ["answer", "required", "fairest"],
   },
+  drawn: {
+    label: "Answer",
+    file: "answer.csv",
+    hint: "What solve, find, iron, require, fair, findfair, asym, units or ironunits printed, or a rule of your own",
+    of: ["answer", "required", "fairest", "mechanism", "sale", "units"],
+  },
   reported: {
     label: "Answer",
     file: "answer.csv",
-    hint: "What solve, find, iron, require, fair or findfair printed, or a rule of your own; of an auction its odds and pays will do",
-    of: ["answer", "required", "fairest", "mechanism"],
+    hint:
+      "What solve, find, iron, require, fair, findfair, asym, units or ironunits printed, or a rule of your own; " +
+      "of an auction its odds and pays will do",
+    of: ["answer", "required", "fairest", "mechanism", "drawn", "sale", "units"],
   },
   rule: { label: "Answer", file: "rule.csv", hint: "What determ printed" },
   sale: { label: "Answer", file: "sale.csv", hint: "What asym printed" },
@@ -58,14 +66,23 @@ export const SECONDS = {
   odds: { label: "Odds", file: "odds.csv", hint: "interim,DEN, then odds with a number for each value, then end" },
 };
 
-/** The further words of commands. The program judges what is typed. One that `isOption` stands behind its name, is left out where it is
- * empty, and is folded away; `profile` is chosen, a report for each agent. */
+/** The further words of commands. The program judges what is typed. One that `isOption` stands behind its name (`word`, where that is
+ * another one), is left out where it is empty, and is folded away; `kind` is the kind of setting that it is for, where it is not for all;
+ * `profile` is chosen, a report for each agent. */
 export const FIELDS = {
   width: { label: "Width in bits", hint: "4 to 62; left empty it is 62", initial: "", isOption: true },
   units: { label: "Units", hint: "1 to 12, all alike; each bidder wants one", initial: "1" },
+  ofUnits: {
+    label: "Units",
+    hint: "How many the answer is about, where units or ironunits printed it; else left empty",
+    initial: "",
+    isOption: true,
+    word: "units",
+    kind: "auction",
+  },
   profile: { label: "Reports", initial: "" },
   first: { label: "First draw", hint: "from 0 to one below the denominator", initial: "0" },
-  second: { label: "Second draw", hint: "0, but for an auction whose item is sold", initial: "0" },
+  second: { label: "Second draw", hint: "0, but for an auction whose one item is sold", initial: "0" },
   draw: { label: "Draw", hint: "0, but where bidders share the last units", initial: "0" },
   number: { label: "Number", hint: "0 to 999999", initial: "2" },
 };
@@ -293,8 +310,8 @@ export const COMMANDS = [
     asks: "Which outcome do two draws give at some reports, and who pays what?",
     button: "Run",
     next: "Draw an outcome",
-    second: "mechanism",
-    fields: ["profile", "first", "second"],
+    second: "drawn",
+    fields: ["profile", "first", "second", "ofUnits"],
     draws: { first: rangeOfFirst, second: rangeOfSecond },
     view: runView,
   },
@@ -318,7 +335,7 @@ export const COMMANDS = [
     button: "Report",
     next: "Report on it",
     second: "reported",
-    fields: [],
+    fields: ["ofUnits"],
     view: reportView,
   },
   {
@@ -364,7 +381,7 @@ export function commandOf(word) {
   return COMMANDS.find((command) => command.word === word);
 }
 
-/** Whether a command is for a setting. Where none is known, each may be. */
+/** Whether a command or a field is for a setting. Where none is known, each may be. */
 export function fits({ kind }, setting) {
   return kind === undefined || !setting || setting.kinds.includes(kind);
 }
@@ -392,13 +409,15 @@ export function takenAs(kind) {
   return Object.keys(SECONDS).filter((each) => each === kind || SECONDS[each].of?.includes(kind));
 }
 
-/** The words of a call, as they would stand behind the program's name. How many units there are stands before a second file. */
-export function wordsOf({ word, second, fields, takesNoSetting }, values) {
+/** The words of a call, as they would stand behind the program's name, without fields that are not for the setting. How many units there
+ * are stands before a second file. */
+export function wordsOf({ word, second, fields, takesNoSetting }, values, setting) {
   const given = (field) => {
-    if (!FIELDS[field].isOption) {
+    const { isOption, word: name = field } = FIELDS[field];
+    if (!isOption) {
       return [values[field]];
     }
-    return values[field] === "" ? [] : [`--${field}`, values[field]];
+    return values[field] === "" || !fits(FIELDS[field], setting) ? [] : [`--${name}`, values[field]];
   };
   const units = fields.filter((field) => field === "units");
   const others = fields.filter((field) => field !== "units");

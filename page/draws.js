@@ -1,12 +1,20 @@
 // Draws by chance: how many there are, and one of them, each as likely as any other.
 
 import { firstWith, recordsOf, withWord } from "./records.js";
+import { weightOfProfile } from "./setting.js";
 
-/** Of `run`: the denominator of the answer's table; in an auction times the weight of the profiles with the same counts as the reports. */
+const UNIT_PARTS = 27720n; // of a mass, where there are several units: each number of bidders divides it
+
+/** Of `run`: the denominator of the answer's table; in an auction times the weight of the profiles with the same counts as the reports, of
+ * several units in parts, and in a sale times the weight of the profile. */
 export function rangeOfFirst({ setting, reports, second }) {
   const records = recordsOf(second);
+  const [, kind] = firstWith(records, "answer") ?? [];
   const [denominator] = firstWith(records, "table") ?? firstWith(records, "interim") ?? ["0"];
-  return BigInt(denominator) * (setting?.kind === "auction" ? weightOfReports(setting, reports) : 1n);
+  if (setting?.kind === "auction") {
+    return BigInt(denominator) * weightOfReports(setting, reports) * (kind === "units" ? UNIT_PARTS : 1n);
+  }
+  return BigInt(denominator) * (setting && kind === "asym" ? weightOfProfile(setting, reports) : 1n);
 }
 
 /** Of `run` in an auction: how many bidders report what the bidder reports who would have the item with the second draw 0. */

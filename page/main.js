@@ -158,7 +158,7 @@ class Page {
     this.asked = asked.settingText;
     this.busy(true);
     try {
-      const told = await this.engine.call(wordsOf(command, values), asked.settingText, second);
+      const told = await this.engine.call(wordsOf(command, values, this.question.setting), asked.settingText, second);
       await this.shows(asked, told);
       if (!isQuiet) {
         comesIntoView(byId("answer"));
@@ -193,7 +193,7 @@ class Page {
 
   /** Shows a text of the program: what it says in a few words, its pictures and tables, and the text itself. */
   async shows(asked, told) {
-    const { command, settingText, name } = asked;
+    const { command, values, settingText, name } = asked;
     const isRefused = told.status >= REFUSED_FROM;
     const text = isRefused ? told.err : told.out;
     this.printed = { text, file: fileOf(command, name) };
@@ -214,7 +214,7 @@ class Page {
     byId("progress").textContent = `${found.large}. Status ${told.status}, after ${secondsText(told.seconds)}.`;
     byId("moved").textContent = found.large;
     if (told.out.startsWith("answer,")) {
-      this.question.takes(command.makes, told.out);
+      this.question.takes(command.makes, told.out, command.makes === "units" ? values.units : "");
     }
   }
 

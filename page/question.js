@@ -46,7 +46,10 @@ export class Question {
       event.preventDefault();
       this.onAsk();
     });
-    byId("second").addEventListener("input", () => this.takes(this.command.second, byId("second").value));
+    byId("second").addEventListener("input", () => {
+      const units = this.command.fields.includes("ofUnits") ? this.values.ofUnits : "";
+      this.takes(this.command.second, byId("second").value, units);
+    });
     byId("samples").addEventListener("change", ({ target }) => this.takesSample(target.value));
     byId("second-save").addEventListener("click", () => save(SECONDS[this.command.second].file, byId("second").value));
     opensFile(byId("second-open"), (text) => this.takes(this.command.second, text ?? ""));
@@ -84,7 +87,8 @@ export class Question {
   }
 
   fillFields() {
-    const { fields, draws } = this.command;
+    const { draws } = this.command;
+    const fields = this.command.fields.filter((name) => fits(FIELDS[name], this.setting));
     const [options, plain] = [true, false].map((isOption) => fields.filter((name) => (FIELDS[name].isOption ?? false) === isOption));
     byId("fields").replaceChildren(
       ...(plain.includes("profile") ? [this.reportsField()] : []),
@@ -138,12 +142,15 @@ export class Question {
     this.values.profile = reporters.map(({ types }, agent) => types[this.picked[agent]]).join(",");
   }
 
-  /** Takes the text of a second file, for all commands that read it. */
-  takes(kind, text) {
+  /** Takes the text of a second file, for all commands that read it. `units` says how many units it is about, where that is known. */
+  takes(kind, text, units = "") {
     const kinds = takenAs(kind);
     kinds.forEach((each) => {
       this.texts[each] = text;
     });
+    if (kinds.includes("reported")) {
+      this.setsField("ofUnits", units);
+    }
     if (kinds.includes(this.command.second) && byId("second").value !== text) {
       byId("second").value = text;
     }
@@ -245,7 +252,7 @@ export class Question {
     const { command, second } = this;
     Object.keys(command.draws).forEach((name) => this.setsField(name, "0"));
     for (const [name, rangeOf] of Object.entries(command.draws)) {
-      const { out } = await this.call(wordsOf(command, this.values), second);
+      const { out } = await this.call(wordsOf(command, this.values, this.setting), second);
       const range = rangeOf({ setting: this.setting, reports: this.values.profile.split(","), second, printed: out });
       this.setsField(name, String(drawnBelow(range > 0n ? range : 1n)));
     }

@@ -19,6 +19,7 @@ function generalOf(file) {
     kind: "general",
     outcomes: file.outcomes.map(String),
     agents: file.agent.map(({ name, types, weights }) => ({ name: String(name), types: types.map(String), weights: weights?.map(BigInt) })),
+    prior: file.prior?.map(BigInt),
     hasPayments: file.payments === true,
     truth: file.truth,
     rational: file.rational,
@@ -41,6 +42,15 @@ export function reportersOf(setting) {
 /** All profiles in their order: the last agent's type changes fastest. */
 export function profilesOf(agents) {
   return agents.reduce((profiles, { types }) => profiles.flatMap((front) => types.map((type) => [...front, type])), [[]]);
+}
+
+/** The weight of the profile of some types; 0 where they are none. */
+export function weightOfProfile({ agents, prior }, profile) {
+  const places = agents.map(({ types }, agent) => types.indexOf(profile[agent]));
+  if (prior) {
+    return prior[places.reduce((rank, place, agent) => rank * agents[agent].types.length + place, 0)] ?? 0n;
+  }
+  return agents.reduce((product, { weights }, agent) => product * (weights?.[places[agent]] ?? 0n), 1n);
 }
 
 /** A setting in a few words. */

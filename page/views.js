@@ -23,9 +23,15 @@ function violatedView(records, setting) {
   return view(verdict("Violated", [words, breakable(`${new Fraction(excess, denominator)}`), " in profiles, by weight."], "bad"));
 }
 
+/** The members of a set: values of an auction, or types of agents of a sale. */
+function membersOf(set, setting) {
+  const pairs = (setting?.agents ?? []).flatMap(({ name, types }) => types.map((type) => `${name} ${type}`));
+  const all = setting?.values?.map(String) ?? pairs;
+  return all.filter((_, place) => (BigInt(set) >> BigInt(place)) & 1n);
+}
+
 function setWords(set, setting) {
-  const values = setting?.values ?? [];
-  const found = values.filter((_, place) => (BigInt(set) >> BigInt(place)) & 1n).map(String);
+  const found = membersOf(set, setting);
   return found.length > 0 ? `the value${found.length > 1 ? "s" : ""} ${found.join(", ")}` : `the set ${set}`;
 }
 
@@ -144,20 +150,33 @@ export function replayView(records) {
   );
 }
 
-/** What `run` prints. */
+/** What `run` prints: an outcome, or where there are several units who gets one. */
 export function runView(records, { setting }) {
-  const [outcome] = firstWith(records, "outcome");
+  const outcome = firstWith(records, "outcome");
   const pays = firstWith(records, "pays");
-  const isAuction = setting?.kind === "auction";
-  const large = isAuction && outcome !== "keep" ? `Bidder ${outcome}` : outcome;
-  const words = isAuction ? (outcome === "keep" ? "The item is kept." : "This bidder gets the item.") : "This outcome comes.";
+  const found = outcome ? outcomeVerdict(outcome[0], setting) : winnersVerdict(withWord(records, "wins").flat());
   if (!pays) {
-    return view(verdict(large, words));
+    return view(found);
   }
   const amounts = fractionsOf(pays.slice(1), pays[0]);
   const names = setting?.agents?.map(({ name }) => name) ?? amounts.map((_, place) => `bidder ${place + 1}`);
   const rows = amounts.map((amount, place) => [head(names[place]), number(amount)]);
-  return view(verdict(large, words), table("Payments", ["Agent", "#Pays"], rows));
+  return view(found, table("Payments", ["Agent", "#Pays"], rows));
+}
+
+function outcomeVerdict(outcome, setting) {
+  if (setting?.kind !== "auction") {
+    return verdict(outcome, "This outcome comes.");
+  }
+  return outcome === "keep" ? verdict(outcome, "The item is kept.") : verdict(`Bidder ${outcome}`, "This bidder gets the item.");
+}
+
+function winnersVerdict(winners) {
+  if (winners.length === 0) {
+    return verdict("Nobody", "All units are kept.");
+  }
+  const isOne = winners.length === 1;
+  return verdict(`Bidder${isOne ? "" : "s"} ${winners.join(", ")}`, isOne ? "This bidder gets a unit." : "Each of them gets a unit.");
 }
 
 /** What `report` prints: in each record names come first, and then fractions as pairs of fields. */
@@ -172,7 +191,7 @@ export function reportView(records, { setting }) {
   });
   const worst = ["gain", "loss", "deficit"].flatMap((word) => withWord(records, word).map((fields) => worstRow(word, fields)));
   const stands = withWord(records, "condition").map(standingRow);
-  const tight = withWord(records, "tight").map(([name]) => make("li", {}, make("code", {}, brokenName(name))));
+  const tight = withWord(records, "tight").map(([name]) => make("li", {}, make("code", {}, brokenName(name)), cutWords(name, setting)));
   return view(
     verdict(valueText(value), `Revenue ${revenue}, welfare ${welfare}.`),
     table("What each type gets and pays on average", ["Type", "#Gets", "#Pays"], types),
@@ -180,6 +199,12 @@ export function reportView(records, { setting }) {
     stands.length > 0 && table("Your conditions", ["Condition", "#Amount", ""], stands.slice(0, MOST_ROWS)),
     tight.length > 0 && folded(`Conditions that hold with equality: ${tight.length}`, make("ul", {}, tight.slice(0, MOST_ROWS))),
   );
+}
+
+/** What the set of a cut has, by the name of the condition; nothing of another one. */
+function cutWords(name, setting) {
+  const [word, set] = name.split("/");
+  return word === "cut" && `: ${membersOf(set, setting).join(", ")}`;
 }
 
 const WORST = { gain: "most gained by a false report", loss: "most missed of the outside utility", deficit: "least that all pay together" };

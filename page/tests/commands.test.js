@@ -25,7 +25,7 @@ test("each command of the program has an entry, whose parts are known", () => {
 test("the words of each command are those of docs/FORMATS.md", () => {
   const [, listed] = /\n((?: {4}mechdes .*\n)+)/.exec(repository("docs/FORMATS.md"));
   const names = { PROFILE: "p", DRAW1: "d1", DRAW2: "d2", DRAW: "d", W: "w", SETTING: "setting", ANSWER: "second", PIVOTS: "second", ODDS: "second", CONDITIONS: "second" };
-  const values = { width: "w", units: "n", number: "n", profile: "p", first: "d1", second: "d2", draw: "d" };
+  const values = { width: "w", units: "n", ofUnits: "n", number: "n", profile: "p", first: "d1", second: "d2", draw: "d" };
   for (const line of listed.trim().split("\n")) {
     const [, ...words] = line.replace(/[[\]]/g, "").trim().split(/\s+/);
     const expected = words.map((word) => (word === "NUMBER" ? "n" : names[word] ?? word));
@@ -33,12 +33,22 @@ test("the words of each command are those of docs/FORMATS.md", () => {
   }
 });
 
-test("a width that is left empty is left out", () => {
-  const values = { width: "", units: "3", number: "7" };
+test("an option that is left empty is left out", () => {
+  const values = { width: "", units: "3", ofUnits: "", number: "7" };
   assert.equal(wordsOf(commandOf("solve"), values).join(" "), "solve setting");
   assert.equal(wordsOf(commandOf("units"), values).join(" "), "units setting 3");
   assert.equal(wordsOf(commandOf("units"), { ...values, width: "9" }).join(" "), "units setting 3 --width 9");
+  assert.equal(wordsOf(commandOf("report"), values).join(" "), "report setting second");
   assert.equal(wordsOf(commandOf("make"), values).join(" "), "make 7");
+});
+
+test("how many units an answer is about is said of auctions alone", () => {
+  const values = { profile: "a,b", first: "5", second: "0", ofUnits: "3" };
+  for (const setting of [auction, null]) {
+    assert.equal(wordsOf(commandOf("run"), values, setting).join(" "), "run setting second a,b 5 0 --units 3");
+    assert.equal(wordsOf(commandOf("report"), values, setting).join(" "), "report setting second --units 3");
+  }
+  assert.equal(wordsOf(commandOf("run"), values, sale).join(" "), "run setting second a,b 5 0");
 });
 
 test("commands that do not fit a setting are not offered", () => {
@@ -87,9 +97,9 @@ test("what may follow an answer, and where numbers grow too wide", () => {
     ["require", 11, general, "requirecheck audit run report"],
     ["require", 10, general, "requirecheck"],
     ["require", 22, general, ""],
-    ["asym", 0, sale, "asymcheck"],
-    ["units", 0, auction, "unitcheck"],
-    ["ironunits", 0, auction, "unitcheck"],
+    ["asym", 0, sale, "asymcheck run report"],
+    ["units", 0, auction, "unitcheck run report"],
+    ["ironunits", 0, auction, "unitcheck run report"],
     ["determ", 0, general, "determcheck"],
     ["threshold", 0, auction, "award"],
     ["solve", 65, general, ""],
@@ -101,15 +111,18 @@ test("what may follow an answer, and where numbers grow too wide", () => {
 });
 
 test("a text is there for each command that reads it", () => {
-  assert.deepEqual(takenAs("answer"), ["answer", "mechanism", "reported"]);
-  assert.deepEqual(takenAs("fairest"), ["fairest", "mechanism", "reported"]);
-  for (const kind of ["reported", "rule", "sale", "units", "pivots", "odds"]) {
+  assert.deepEqual(takenAs("answer"), ["answer", "mechanism", "drawn", "reported"]);
+  assert.deepEqual(takenAs("fairest"), ["fairest", "mechanism", "drawn", "reported"]);
+  for (const kind of ["reported", "rule", "pivots", "odds"]) {
     assert.deepEqual(takenAs(kind), [kind]);
   }
   const readers = (kind) => COMMANDS.filter(({ second }) => takenAs(kind).includes(second)).map(({ word }) => word);
   assert.deepEqual(readers("answer"), ["check", "audit", "run", "report"]);
   assert.deepEqual(readers("fairest"), ["faircheck", "audit", "run", "report"]);
   assert.deepEqual(readers("mechanism"), ["audit", "run", "report"]);
+  assert.deepEqual(readers("sale"), ["asymcheck", "run", "report"]);
+  assert.deepEqual(readers("units"), ["unitcheck", "run", "report"]);
+  assert.deepEqual(readers("drawn"), ["run", "report"]);
   assert.deepEqual(readers("reported"), ["report"]);
 });
 

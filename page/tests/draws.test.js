@@ -17,11 +17,28 @@ test("an auction has as many as the weight of the profiles with the same counts"
   assert.equal(rangeOfFirst({ setting: auction, reports: ["3", "6"], second }), 16n);
 });
 
+test("with several units there are as many as the parts of the masses", () => {
+  // The draws of examples/seats.md.
+  const seats = { kind: "auction", values: [1n, 2n, 3n], weights: [1n, 1n, 1n] };
+  const second = "answer,1,units,optimal\nvalue,484,81\ninterim,135\nend\n";
+  assert.equal(rangeOfFirst({ setting: seats, reports: ["2", "2", "2", "2", "3"], second }), 18711000n);
+});
+
+test("a sale has as many as the weight of the profile", () => {
+  const agents = [{ name: "x", types: ["l", "h"], weights: [1n, 2n] }, { name: "y", types: ["m", "k"], weights: [3n, 1n] }];
+  const second = "answer,1,asym,optimal\nvalue,5,1\ninterim,2\nend\n";
+  assert.equal(rangeOfFirst({ setting: { kind: "general", agents }, reports: ["h", "m"], second }), 12n);
+  const joint = agents.map(({ name, types }) => ({ name, types }));
+  assert.equal(rangeOfFirst({ setting: { kind: "general", agents: joint, prior: [3n, 1n, 6n, 2n] }, reports: ["h", "k"], second }), 4n);
+  assert.equal(rangeOfFirst({ setting: { kind: "general", agents }, reports: ["h", "m"], second: "table,4\n" }), 4n);
+});
+
 test("the second draw is among those who report what the winner reports", () => {
   const reports = ["6", "3", "6"];
   assert.equal(rangeOfSecond({ setting: auction, reports, printed: "outcome,1\npays,8,1,1,1\n" }), 2n);
   assert.equal(rangeOfSecond({ setting: auction, reports, printed: "outcome,2\n" }), 1n);
   assert.equal(rangeOfSecond({ setting: auction, reports, printed: "outcome,keep\n" }), 1n);
+  assert.equal(rangeOfSecond({ setting: auction, reports, printed: "wins,1\nwins,3\npays,8,1,1,1\n" }), 1n);
 });
 
 test("an award is drawn among those whose chance is neither 0 nor 1", () => {

@@ -112,6 +112,29 @@ test("a report tells what is broken, and a run who has the item", () => {
   assert.equal(runView(recordsOf("outcome,2\npays,10,15,33\n"), { setting: AUCTION }).large, "Bidder 2");
 });
 
+test("a run tells who gets a unit", () => {
+  const view = (text) => runView(recordsOf(text), { setting: AUCTION });
+  const both = view("wins,1\nwins,2\npays,4,2,5\n");
+  assert.deepEqual([both.large, both.words], ["Bidders 1, 2", "Each of them gets a unit."]);
+  assert.deepEqual(cellsOfTables(both), [[["bidder 1", "1/2"], ["bidder 2", "5/4"]]]);
+  assert.equal(view("wins,2\npays,4,2,5\n").large, "Bidder 2");
+  assert.equal(view("pays,4,0,0\n").large, "Nobody");
+});
+
+test("a run of a sale names who has the item", () => {
+  const view = runView(recordsOf("outcome,b\npays,2,0,3\n"), { setting: SALE });
+  assert.deepEqual([view.large, ...cellsOfTables(view)], ["b", [["x", "0"], ["y", "3/2"]]]);
+});
+
+test("a report tells the sets of cuts that hold with equality", () => {
+  const told = (type, tight, setting) => {
+    const text = `value,1,1\nrevenue,1,1\nwelfare,1,1\ntype,${type},0,1,0,1\n${tight}end\n`;
+    return reportView(recordsOf(text), { setting }).content.at(-1).querySelectorAll("li").map(({ textContent }) => textContent);
+  };
+  assert.deepEqual(told("x,l", "tight,rational/x/l\ntight,cut/1\ntight,cut/6\n", SALE), ["rational/x/l", "cut/1: x l", "cut/6: x h, y m"]);
+  assert.deepEqual(told("1", "tight,cut/2\ntight,cut/3\n", AUCTION), ["cut/2: 3", "cut/3: 1, 3"]);
+});
+
 test("a report under conditions of the designer tells which are met", () => {
   // The price 3 brings it half of the time.
   const text = "value,3,2\nrevenue,3,2\nwelfare,3,2\ntype,buyer,low,0,1,0,1\ncondition,0,met,3,2\ncondition,1,missed,3,1\nend\n";

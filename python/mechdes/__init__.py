@@ -50,6 +50,7 @@ from .answers import (
     TypeReport,
     Unbounded,
     Undecided,
+    UnitsDraw,
     UnitsOptimal,
     Verdict,
     Violated,
@@ -104,7 +105,7 @@ from .errors import (
     WordRefused,
 )
 from .frontiers import Corner, Edge, Frontier, draw_frontier, frontier
-from .mechanisms import AuctionMechanism, Mechanism, SaleMechanism
+from .mechanisms import AuctionMechanism, Mechanism, SaleMechanism, UnitsMechanism
 from .reading import parse
 from .records import Printed
 from .settings import Agent, AnySetting, Auction, Objective, Profile, Setting, SettingLike, read_setting
@@ -176,6 +177,8 @@ __all__ = [
     "TypeReport",
     "Unbounded",
     "Undecided",
+    "UnitsDraw",
+    "UnitsMechanism",
     "UnitsOptimal",
     "UnknownAnswer",
     "UsageRefused",

@@ -15,6 +15,7 @@ from .mechanisms import (
     Mechanism,
     Payments,
     SaleMechanism,
+    UnitsMechanism,
     _frame,
     by_profile,
     interim_records,
@@ -188,6 +189,8 @@ class AuctionOptimal(Bounded):
 @dataclasses.dataclass(frozen=True, kw_only=True)
 class UnitsOptimal(AuctionOptimal):
     """A best mechanism of an auction of several units; `mechanism.units` says how many."""
+
+    mechanism: UnitsMechanism
 
 
 @dataclasses.dataclass(frozen=True, kw_only=True)
@@ -590,7 +593,7 @@ class Report(Printed):
 
 @dataclasses.dataclass(frozen=True)
 class Draw(Printed):
-    """What `run` draws.
+    """What `run` draws, where it is no answer about several units.
 
     outcome      the name of the outcome; of an auction `keep`, or the number of the bidder who gets the item, from 1
     payments     what each agent pays, by name, or each bidder, by its number; empty where the setting has no payments
@@ -609,7 +612,30 @@ class Draw(Printed):
     def records(self) -> Iterator[Record]:
         yield "outcome", self.outcome
         if self.payments:
-            yield "pays", self.denominator, *(units(paid, self.denominator) for paid in self.payments.values())
+            yield _pays_record(self.payments, self.denominator)
+
+
+@dataclasses.dataclass(frozen=True)
+class UnitsDraw(Printed):
+    """What `run` draws of an answer about several units. Bidders are counted from 1.
+
+    winners      the bidders who get a unit, in their order
+    payments     what each bidder pays, by its number, whether it gets a unit or not
+    denominator  that of the payments as they are printed
+    """
+
+    winners: tuple[int, ...]
+    payments: Mapping[int, Fraction]
+    denominator: int = 1
+
+    def records(self) -> Iterator[Record]:
+        for bidder in self.winners:
+            yield "wins", bidder
+        yield _pays_record(self.payments, self.denominator)
+
+
+def _pays_record(payments: Mapping[Any, Fraction], denominator: int) -> Record:
+    return "pays", denominator, *(units(paid, denominator) for paid in payments.values())
 
 
 @dataclasses.dataclass(frozen=True)

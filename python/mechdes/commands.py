@@ -44,6 +44,7 @@ from .answers import (
     TooWide,
     Unbounded,
     Undecided,
+    UnitsDraw,
     UnitsOptimal,
     Verdict,
     Violated,
@@ -140,6 +141,16 @@ def _answered(
     if type(answer) not in kinds or not is_its:
         raise AnswerNotRead(f"an answer that {words[0]} does not give: {answer.kind}, {type(answer).__name__}")
     return answer
+
+
+def _units_option(answer: AnswerLike, units: int | None) -> tuple[list[str], int | None]:
+    """The option that says how many units an answer is about, where it is about several, and the number: an answer that has its own
+    says it as well. Raises `ValueError` where another one is given."""
+    own = answer.mechanism.units if isinstance(answer, UnitsOptimal) else None
+    number = own if units is None else units
+    if own not in (None, number):
+        raise ValueError(f"the answer is about {own} units, not {number}")
+    return [] if number is None else [f"--units={number}"], number
 
 
 def _width(width: int) -> list[str]:
@@ -345,63 +356,109 @@ def realise(setting: SettingLike, odds: AnswerLike | Mapping[int, Fraction]) -> 
     return read_realised(auction, text)
 
 
-def run(setting: SettingLike, answer: AnswerLike, profile: Sequence[str] | Sequence[int], first: int, second: int = 0) -> Draw:
-    """The outcome that two draws give at a profile of reports: type names, or of an auction values.
+@overload
+def run(
+    setting: Setting,
+    answer: AnswerLike,
+    profile: Sequence[str] | Sequence[int],
+    first: int,
+    second: int = 0,
+    *,
+    units: None = None,
+) -> Draw:
+    ...
+
+
+@overload
+def run(
+    setting: SettingLike,
+    answer: AnswerLike,
+    profile: Sequence[str] | Sequence[int],
+    first: int,
+    second: int = 0,
+    *,
+    units: int | None = None,
+) -> Draw | UnitsDraw:
+    ...
+
+
+def run(
+    setting: SettingLike,
+    answer: AnswerLike,
+    profile: Sequence[str] | Sequence[int],
+    first: int,
+    second: int = 0,
+    *,
+    units: int | None = None,
+) -> Draw | UnitsDraw:
+    """What two draws give at a profile of reports: type names, or of an auction values. Of several units it is a `UnitsDraw`.
 
     first, second  draws as docs/FORMATS.md has them: `mechanism.draws(profile)` says how many first ones there are; the second
-                   is 0, or in an auction says which of the bidders with the value that wins gets the item
+                   is 0, or in an auction of one item says which of the bidders with the value that wins gets it
+    units          how many units the answer is about, where it is a text of `units` or `ironunits`; a `UnitsOptimal` says it
+                   itself
 
-    Raises `WordRefused` for what is no profile or out of range. `draw` makes both draws.
+    Raises `WordRefused` for what is no profile or out of range, and `ValueError` where the answer is about another number of units.
+    `draw` makes both draws.
     """
-    words = ["run", "--", "setting", "answer", ",".join(map(str, profile)), str(first), str(second)]
+    option, number = _units_option(answer, units)
+    words = ["run", *option, "--", "setting", "answer", ",".join(map(str, profile)), str(first), str(second)]
     text = _printed({0}, words, setting_bytes(setting), _mechanism_bytes(setting, answer))
-    return read_draw(read_setting(setting), text)
+    return read_draw(read_setting(setting), text, number)
 
 
 def draw(
-    setting: SettingLike, answer: AnswerLike, profile: Sequence[str] | Sequence[int], random: randomness.Random | None = None
-) -> Draw:
-    """An outcome at a profile of reports, with both draws made evenly: by the system's source of chance, or by `random`.
+    setting: SettingLike,
+    answer: AnswerLike,
+    profile: Sequence[str] | Sequence[int],
+    random: randomness.Random | None = None,
+    *,
+    units: int | None = None,
+) -> Draw | UnitsDraw:
+    """What comes at a profile of reports, with both draws made evenly: by the system's source of chance, or by `random`. `units` is
+    the number that `run` wants of a text of `units` or `ironunits`.
 
-    Draw only after all reports are in, by a source of chance that all trust. Raises `ValueError` for an answer of `asym` or
-    `units`, which `run` does not read.
+    Draw only after all reports are in, by a source of chance that all trust. Raises what `run` raises, and `ValueError` where the
+    reports are no profile of the auction or sale.
     """
     below = (randomness.SystemRandom() if random is None else random).randrange
-    found = answer if isinstance(answer, Mechanism) else read(setting, answer)
-    if isinstance(found, (SaleOptimal, UnitsOptimal)):
-        raise ValueError(f"`run` draws no {type(found).__name__}: docs/FORMATS.md says how its mechanism goes")
+    found = answer if isinstance(answer, Mechanism) else read(setting, answer, units)
     mechanism: Any = found if isinstance(found, Mechanism) else getattr(found, "mechanism", None)
     first = below(mechanism.draws(profile)) if mechanism is not None else 0
-    drawn = run(setting, answer, profile, first)
-    if not isinstance(found, AuctionOptimal) or drawn.winner is None:
+    drawn = run(setting, answer, profile, first, units=units)
+    if isinstance(drawn, UnitsDraw) or not isinstance(found, AuctionOptimal) or drawn.winner is None:
         return drawn
     same = sum(report == profile[drawn.winner - 1] for report in profile)
     return run(setting, answer, profile, first, below(same))
 
 
 @overload
-def report(setting: Setting, answer: AnswerLike) -> Report:
+def report(setting: Setting, answer: AnswerLike, units: None = None) -> Report:
     ...
 
 
 @overload
-def report(setting: SettingLike, answer: AnswerOfCommand | Table | Mechanism) -> Report:
+def report(setting: SettingLike, answer: AnswerOfCommand | Table | Mechanism, units: int | None = None) -> Report:
     ...
 
 
 @overload
-def report(setting: SettingLike, answer: AnswerLike) -> Report | Violated:
+def report(setting: SettingLike, answer: AnswerLike, units: int | None = None) -> Report | Violated:
     ...
 
 
-def report(setting: SettingLike, answer: AnswerLike) -> Report | Violated:
+def report(setting: SettingLike, answer: AnswerLike, units: int | None = None) -> Report | Violated:
     """What the mechanism of an answer does, and how far it is from truthful. The mechanism need not be admissible, and claims of
-    the answer are not looked at.
+    the answer are not looked at. `units` is how many units the answer is about, where it is a text of `units` or `ironunits`; a
+    `UnitsOptimal` says it itself.
 
     Of an auction an `AuctionTable` may be given in place of an answer, or its text. Where no auction has its odds, what comes is
-    the set of values that asks for too much, which is false. Raises `ValueError` where the table has other values than the auction.
+    the set of values that asks for too much, which is false. Raises `ValueError` where the table has other values than the auction,
+    or the answer is about another number of units.
     """
-    text = _printed({0, 21}, ["report", "setting", "answer"], setting_bytes(setting), _mechanism_bytes(setting, answer))
+    option, _ = _units_option(answer, units)
+    words = ["report", *option, "setting", "answer"]
+    text = _printed({0, 21}, words, setting_bytes(setting), _mechanism_bytes(setting, answer))
     return read_report(read_setting(setting), text)
 
 

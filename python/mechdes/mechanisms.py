@@ -17,6 +17,7 @@ if TYPE_CHECKING:
 Lotteries: TypeAlias = Mapping[Profile, Mapping[str, Fraction]]
 Payments: TypeAlias = Mapping[Profile, Mapping[str, Fraction]]
 Counts: TypeAlias = tuple[int, ...]
+_PARTS = 27720  # of a mass, where several units are drawn: each number of bidders divides it
 
 
 def _frame(rows: Mapping[Any, Mapping[Any, Any]], names: Sequence[str]) -> pandas.DataFrame:
@@ -177,6 +178,16 @@ class AuctionMechanism:
 
 
 @dataclasses.dataclass(frozen=True)
+class UnitsMechanism(AuctionMechanism):
+    """A mechanism of an auction of several units (`units`), by values."""
+
+    def draws(self, profile: Sequence[int]) -> int:
+        """How many first draws there are for `run` with the number of units: the first draw is from 0 to one below, each as
+        likely."""
+        return _PARTS * super().draws(profile)
+
+
+@dataclasses.dataclass(frozen=True)
 class SaleMechanism:
     """A mechanism of a sale of one item to bidders who differ.
 
@@ -192,6 +203,14 @@ class SaleMechanism:
     pays: Mapping[str, Mapping[str, Fraction]]
     masses: Mapping[Profile, Mapping[str, Fraction]]
     denominator: int
+
+    def draws(self, profile: Sequence[str]) -> int:
+        """How many first draws there are for `run`: the first draw is from 0 to one below, each as likely. Raises `ValueError`
+        where the reports are no profile."""
+        weight = self.weights.get(tuple(profile))
+        if weight is None:
+            raise ValueError(f"no profile of these agents: {list(profile)}")
+        return self.denominator * weight
 
     def chances(self, profile: Sequence[str]) -> dict[str, Fraction]:
         """How likely each agent is to have the item at a profile. Raises `ValueError` where the profile never comes."""

@@ -40,6 +40,7 @@ from .answers import (
     TypeReport,
     Unbounded,
     Undecided,
+    UnitsDraw,
     UnitsOptimal,
     Verdict,
     Violated,
@@ -49,7 +50,7 @@ from .answers import (
 )
 from .conditions import take_conditions
 from .errors import AnswerNotRead, UnknownAnswer
-from .mechanisms import AuctionMechanism, Counts, Mechanism, SaleMechanism
+from .mechanisms import AuctionMechanism, Counts, Mechanism, SaleMechanism, UnitsMechanism
 from .records import Over, Printed, Records
 from .settings import AnySetting, Auction, Profile, Setting, SettingLike, read_setting
 
@@ -302,10 +303,10 @@ def _auction(records: Records, auction: Auction, kind: str, word: str, version: 
     if word != "optimal":
         raise UnknownAnswer(f"an answer of an unknown kind: {kind}, {word}")
     value = records.fraction(records.take("value", 2))
-    mechanism, cuts = _auction_mechanism(records, auction, units if kind == "units" else 1), _cuts(records, auction)
+    mechanism, cuts = _auction_mechanism(records, auction, kind, units), _cuts(records, auction)
     bound, multipliers = _bound(records)
     records.end()
-    made = UnitsOptimal if kind == "units" else AuctionOptimal
+    made: Callable[..., Answer] = UnitsOptimal if kind == "units" else AuctionOptimal
     return made(setting=auction, kind=kind, value=value, mechanism=mechanism, cuts=cuts, bound=bound, multipliers=multipliers)
 
 
@@ -316,11 +317,14 @@ def _interim(records: Records, auction: Auction) -> tuple[dict[int, Fraction], d
     return odds, pays, denominator
 
 
-def _auction_mechanism(records: Records, auction: Auction, units: int | None) -> AuctionMechanism:
+def _auction_mechanism(records: Records, auction: Auction, kind: str, units: int | None) -> AuctionMechanism:
     """The records from `interim` to the last mass."""
     odds, pays, denominator = _interim(records, auction)
     weights = dict(zip(auction.values, auction.weights, strict=True))
-    return AuctionMechanism(auction.bidders, weights, odds, pays, _masses(records, auction, denominator), denominator, units)
+    masses = _masses(records, auction, denominator)
+    if kind == "units":
+        return UnitsMechanism(auction.bidders, weights, odds, pays, masses, denominator, units)
+    return AuctionMechanism(auction.bidders, weights, odds, pays, masses, denominator)
 
 
 def _by_type(records: Records, word: str, setting: Setting, denominator: int) -> dict[str, dict[str, Fraction]]:
@@ -463,18 +467,36 @@ def _violated(records: Records, auction: Auction) -> Violated:
     return Violated(setting=auction, values=values, excess=found, denominator=records.number(over))
 
 
-def read_draw(setting: AnySetting, text: str) -> Draw:
-    """What `run` prints."""
+def read_draw(setting: AnySetting, text: str, units: int | None = None) -> Draw | UnitsDraw:
+    """What `run` prints, of an answer about so many units where a number is given."""
     records = Records(text)
+    if units is not None and isinstance(setting, Auction):
+        winners = _winners(records, setting.bidders, units)
+        return UnitsDraw(winners, *_paid(records, range(1, setting.bidders + 1)))
     (outcome,) = records.take("outcome", 1)
     if isinstance(setting, Setting) and not setting.payments:
         records.nothing()
         return Draw(outcome, {})
     names = range(1, setting.bidders + 1) if isinstance(setting, Auction) else setting.agent_names
+    return Draw(outcome, *_paid(records, names))
+
+
+def _winners(records: Records, bidders: int, units: int) -> tuple[int, ...]:
+    """The bidders who get a unit, in ascending order, of whom there are at most as many as units."""
+    found: list[int] = []
+    for (bidder,) in records.all("wins", 1):
+        if not (found[-1] if found else 0) < records.number(bidder) <= bidders or len(found) == units:
+            raise records.wrong("no such bidder, or not the next one, or more than there are units")
+        found.append(records.number(bidder))
+    return tuple(found)
+
+
+def _paid(records: Records, names: Sequence[Any]) -> tuple[dict[Any, Fraction], int]:
+    """The last record, of what each of some names pays, and its denominator."""
     denominator, *paid = records.take("pays", 1 + len(names))
     over = Over(records, records.positive(denominator))
     records.nothing()
-    return Draw(outcome, dict(zip(names, map(over.__getitem__, paid), strict=True)), records.number(denominator))
+    return dict(zip(names, map(over.__getitem__, paid), strict=True)), records.number(denominator)
 
 
 def read_threshold(text: str) -> Threshold:
@@ -604,7 +626,7 @@ def _worst(records: Records, setting: AnySetting, fields: list[str], is_gain: bo
 
 
 _ANSWERS = ("solve", "find", "require", "fair", "findfair", "asym", "units", "determ", "iron", "ironunits")
-_OF_SETTINGS: dict[str, Callable[[Any, str], Printed]] = {"realise": read_realised, "run": read_draw, "report": read_report}
+_OF_SETTINGS: dict[str, Callable[[Any, str], Printed]] = {"realise": read_realised, "report": read_report}
 _ALONE: dict[str, Callable[[str], Printed]] = {
     "check": read_verdict,
     "requirecheck": read_verdict,
@@ -625,16 +647,18 @@ def parse(command: str, text: str, setting: SettingLike | None = None, units: in
     """What a command printed, as a value, of which `text()` is the text again.
 
     setting  what the command was asked about, where its text has names or numbers of that
-    units    the number that `units` or `ironunits` was asked for
+    units    the number that `units` or `ironunits` was asked for, or `run` of an answer about several units
 
     Raises `UnknownAnswer` for what this package does not know, `AnswerNotRead` where the text is none of the command, and
     `ValueError` where there is no such command or the setting is missing. The text of `make` is a setting: see `read_setting`.
     """
     if command in _ALONE:
         return _ALONE[command](text)
-    if command not in (*_ANSWERS, *_OF_SETTINGS):
+    if command not in (*_ANSWERS, "run", *_OF_SETTINGS):
         raise ValueError(f"no command prints answers by the name {command!r}")
     named = None if setting is None else read_setting(setting)
     if named is None or command == "realise" and not isinstance(named, Auction):
         raise ValueError(f"{command} is about a setting, which is missing or of another kind")
+    if command == "run":
+        return read_draw(named, text, units)
     return read_answer(named, text, units) if command in _ANSWERS else _OF_SETTINGS[command](named, text)

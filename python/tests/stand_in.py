@@ -28,7 +28,9 @@ from second_opinion import (  # noqa: E402
     reporting,
     require_checking,
     requiring,
+    sale_answer,
     sale_checking,
+    selling,
     setting,
     threshold,
     unit_checking,
@@ -45,12 +47,24 @@ def _read(names: Sequence[str]) -> tuple[setting.Setting, bytes]:
 
 
 def run(words: Sequence[str]) -> Told:
-    """The command `run SETTING ANSWER PROFILE DRAW1 DRAW2`."""
-    its, data = _read(words)
-    reports, first, second = words[2].split(","), int(words[3]), int(words[4])
+    """The command `run SETTING ANSWER PROFILE DRAW1 DRAW2 [--units NUMBER]`."""
+    names, number = command.taken_option(list(words), "--units")
+    units = None if number is None else unit_checking.units_of(number)
+    its, data = _read(names)
+    asked = names[2].split(","), int(names[3]), int(names[4])
+    if units is not None:
+        if not isinstance(its, setting.AuctionSetting):
+            raise Refused(65, "setting refused: other kind")
+        return 0, _units_draw(its, auction_answer.read_unit_answer(data, its, units), *asked)
     if isinstance(its, setting.AuctionSetting):
-        return 0, _auction_draw(its, auction_answer.read_answer(data, its), reports, first, second)
-    return 0, _general_draw(its, mechanisms.mechanism_in(data, its), reports, first, second)
+        return 0, _auction_draw(its, auction_answer.read_answer(data, its), *asked)
+    try:
+        mechanism = mechanisms.mechanism_in(data, its)
+    except Refused as refused:
+        if refused.line != answer.ANOTHER_KIND or next(selling.failing(its), None) is not None:
+            raise
+        return 0, _sale_draw(its, sale_answer.read_answer(data, its), *asked)
+    return 0, _general_draw(its, mechanism, *asked)
 
 
 def find(words: Sequence[str]) -> Told:
@@ -98,19 +112,50 @@ def _try(holds: bool, what: str) -> None:
 def _general_draw(
     its: setting.GeneralSetting, mechanism: answer.Mechanism, reports: Sequence[str], first: int, second: int
 ) -> str:
-    names = {tuple(agent.types[kind] for agent, kind in zip(its.agents, profile)): profile for profile in its.profiles()}
-    _try(tuple(reports) in names, "profile")
-    profile = names[tuple(reports)]
+    profile = _profile(its, reports)
     _try(0 <= first < mechanism.den and second == 0, "draw")
     drawn = f"outcome,{its.outcomes[_first_over(mechanism.lotteries[profile], first)]}\n"
     paid = ",".join(map(str, mechanism.pays.get(profile, [])))
     return drawn + (f"pays,{mechanism.den},{paid}\n" if its.payments else "")
 
 
-def _auction_draw(its: setting.AuctionSetting, said: object, reports: Sequence[str], first: int, second: int) -> str:
-    interim, values = said.interim, list(map(str, its.values))
+def _profile(its: setting.GeneralSetting, reports: Sequence[str]) -> tuple[int, ...]:
+    """The profile that reports name."""
+    names = {tuple(agent.types[kind] for agent, kind in zip(its.agents, profile)): profile for profile in its.profiles()}
+    _try(tuple(reports) in names, "profile")
+    return names[tuple(reports)]
+
+
+def _sale_draw(its: setting.GeneralSetting, said: object, reports: Sequence[str], first: int, second: int) -> str:
+    interim, profile = said.interim, _profile(its, reports)
+    _try(0 <= first < interim.den * its.weight(profile) and second == 0, "draw")
+    place = _first_over(said.masses[profile], first)
+    pairs = sale_answer.pairs_of(its)
+    paid = ",".join(str(interim.pays[pairs.index(pair)]) for pair in enumerate(profile))
+    return f"outcome,{its.outcomes[0 if place is None else place + 1]}\npays,{interim.den},{paid}\n"
+
+
+def _counts(its: setting.AuctionSetting, reports: Sequence[str]) -> tuple[int, ...]:
+    """How many bidders report each value."""
+    values = list(map(str, its.values))
     _try(len(reports) == its.bidders and set(reports) <= set(values), "profile")
-    counts = tuple(reports.count(value) for value in values)
+    return tuple(reports.count(value) for value in values)
+
+
+def _units_draw(its: setting.AuctionSetting, said: object, reports: Sequence[str], first: int, second: int) -> str:
+    interim, values, counts = said.interim, list(map(str, its.values)), _counts(its, reports)
+    whole = 27720 * interim.den * auction.weight_of(its, counts)
+    _try(0 <= first < whole and second == 0, "draw")
+    stretches = [27720 * said.masses[counts][place] // counts[place] for place in map(values.index, reports)]
+    # How many of first, first + whole, .. lie below where each stretch ends.
+    below = [(end - first + whole - 1) // whole for end in itertools.accumulate(stretches, initial=0)]
+    wins = "".join(f"wins,{bidder}\n" for bidder, (start, end) in enumerate(itertools.pairwise(below), 1) if start < end)
+    paid = ",".join(str(interim.pays[values.index(report)]) for report in reports)
+    return f"{wins}pays,{interim.den},{paid}\n"
+
+
+def _auction_draw(its: setting.AuctionSetting, said: object, reports: Sequence[str], first: int, second: int) -> str:
+    interim, values, counts = said.interim, list(map(str, its.values)), _counts(its, reports)
     _try(0 <= first < interim.den * auction.weight_of(its, counts), "draw")
     place = _first_over(said.masses[counts], first)
     having = [number for number, report in enumerate(reports, 1) if place is not None and report == values[place]]

@@ -3,6 +3,7 @@
 The expected numbers are those of the pages of examples/ and docs/.
 """
 
+import functools
 import importlib.util
 import pickle
 import random
@@ -228,6 +229,26 @@ class Telling(unittest.TestCase):
         with self.assertRaises(TypeError):
             mechdes.AuctionTable(odds={2: 0.5}, pays={2: 1})
 
+    def test_a_report_of_several_units(self) -> None:
+        # The page seats.md: a fan with 3 has a seat in 131 of 135 cases, and pays 302/135.
+        setting, path = example("seats"), stored("seats-three")
+        answer = mechdes.read(setting, path, units=3)
+        for given, units in ((answer, None), (answer, 3), (mechdes.read(setting, path), 3), (path, 3), (path.read_text(), 3)):
+            told = mechdes.report(setting, given, units)
+            self.assertEqual((told.value, told.revenue, told.welfare), (Fraction(484, 81), Fraction(484, 81), Fraction(575, 81)))
+            self.assertEqual(told.types[3], mechdes.TypeReport(gets=Fraction(91, 135), pays=Fraction(302, 135)))
+            self.assertEqual((told.admissible, told.tight[-2:]), (True, ("cut/4", "cut/6")))
+
+    def test_a_report_of_a_sale(self) -> None:
+        # The page strong-and-weak.md: the strong bidder with 6 always has the item, and pays 5.
+        setting, path = example("strong-and-weak"), stored("strong-and-weak-by-hand")
+        for given in (mechdes.read(setting, path), path, path.read_text()):
+            told = mechdes.report(setting, given)
+            self.assertEqual((told.value, told.revenue, told.welfare), (Fraction(17, 4), Fraction(17, 4), Fraction(19, 4)))
+            self.assertEqual(told.types["strong", "v6"], mechdes.TypeReport(gets=Fraction(1), pays=Fraction(5)))
+            self.assertEqual(told.gains, (mechdes.Worst("weak", "v3", 0, "v2"), mechdes.Worst("strong", "v6", 0, "v4")))
+            self.assertEqual((told.admissible, told.tight[-4:]), (True, ("rational/strong/v4", "cut/8", "cut/10", "cut/15")))
+
     def test_a_run(self) -> None:
         setting, answer = example("class-trip"), stored("class-trip-answer")
         for profile, first, outcome in (
@@ -267,17 +288,59 @@ class Telling(unittest.TestCase):
         nobody = mechdes.award(example("used-car"), 1, [4000, 4000, 4000])
         self.assertEqual((nobody.winners, nobody.prices, nobody.draws, set(nobody.payments.values())), ((), {}, 1, {0}))
 
-    def test_what_run_does_not_read_is_not_drawn(self) -> None:
-        setting = mechdes.Auction(bidders=2, values=[1, 2], weights=[1, 1])
-        told = "answer,1,units,optimal\nvalue,2,1\ninterim,1\nodds,1,1\npays,1,1\n"
-        told += "mass,0,2,0,2\nmass,1,1,2,2\nmass,2,0,2,0\nbound,1\nend\n"
-        with self.assertRaisesRegex(ValueError, "UnitsOptimal"):
-            mechdes.draw(setting, mechdes.read(setting, told), [1, 2])
+    def test_several_units_are_drawn(self) -> None:
+        # The page seats.md: each fan with 2 has a seat at half of the draws.
+        setting, path, bids = example("seats"), stored("seats-three"), [2, 2, 2, 2, 3]
+        answer = mechdes.read(setting, path, units=3)
+        self.assertEqual(answer.mechanism.draws(bids), 18711000)
+        paid = {**dict.fromkeys(range(1, 5), Fraction(182, 135)), 5: Fraction(302, 135)}
+        for first, winners in ((0, (1, 3, 5)), (9355499, (1, 3, 5)), (9355500, (2, 4, 5)), (18710999, (2, 4, 5))):
+            for given, units in ((answer, None), (path, 3)):
+                told = mechdes.run(setting, given, bids, first, units=units)
+                self.assertEqual(told, mechdes.UnitsDraw(winners, paid, 135))
+        for given, units in ((answer, None), (answer, 3), (path, 3)):
+            drawn = mechdes.draw(setting, given, bids, units=units)
+            self.assertEqual((drawn.winners in ((1, 3, 5), (2, 4, 5)), drawn.payments), (True, paid))
+        nobody = mechdes.draw(setting, answer, [1, 1, 1, 1, 1], random.Random(1))
+        self.assertEqual((nobody.winners, set(nobody.payments.values())), ((), {0}))
+
+    def test_one_unit_is_drawn_as_several_are(self) -> None:
+        auction, printed = example("auction-ironed"), text("auction-ironed-answer.csv")
+        answer = mechdes.read(auction, printed.replace("answer,1,auction", "answer,1,units"), units=1)
+        draws = answer.mechanism.draws([3, 3])
+        self.assertEqual(draws, 27720 * mechdes.solve(auction).mechanism.draws([3, 3]))
+        self.assertEqual([mechdes.run(auction, answer, [3, 3], draw).winners for draw in (0, draws // 2)], [(1,), (2,)])
+        with self.assertRaises(mechdes.WordRefused):
+            mechdes.run(auction, answer, [3, 3], draws)
+
+    def test_a_sale_is_drawn(self) -> None:
+        # The page strong-and-weak.md: the weak bidder has the item with 3 where the strong one has 4, and never else.
+        setting, path = example("strong-and-weak"), stored("strong-and-weak-by-hand")
+        answer = mechdes.read(setting, path)
+        for profile, outcome in ((["v3", "v4"], "weak"), (["v2", "v4"], "strong"), (["v3", "v6"], "strong")):
+            self.assertEqual(answer.mechanism.draws(profile), 2)
+            drawn = [mechdes.run(setting, path, profile, first) for first in (0, 1)] + [mechdes.draw(setting, answer, profile)]
+            self.assertEqual([told.outcome for told in drawn], 3 * [outcome])
+        self.assertEqual(drawn[0].payments, {"weak": Fraction(3, 2), "strong": 5})
+        with self.assertRaisesRegex(ValueError, "no profile of these agents"):
+            mechdes.draw(setting, answer, ["v2", "v3"])
+
+    def test_an_item_that_is_sometimes_kept_is_drawn(self) -> None:
         sale = example("strong-and-weak")
-        told = "answer,1,asym,optimal\nvalue,0,1\ninterim,1\nodds,weak,0,0\nodds,strong,0,0\npays,weak,0,0\npays,strong,0,0\n"
-        told += "mass,v2,v4,0,0\nmass,v2,v6,0,0\nmass,v3,v4,0,0\nmass,v3,v6,0,0\nbound,1\nend\n"
-        with self.assertRaisesRegex(ValueError, "SaleOptimal"):
-            mechdes.draw(sale, mechdes.read(sale, told), ["v2", "v4"])
+        told = "answer,1,asym,optimal\nvalue,0,1\ninterim,2\nodds,weak,0,0\nodds,strong,0,0\npays,weak,0,0\npays,strong,0,0\n"
+        told += "mass,v2,v4,0,1\nmass,v2,v6,0,0\nmass,v3,v4,0,0\nmass,v3,v6,0,0\nbound,1\nend\n"
+        self.assertEqual([mechdes.run(sale, told, ["v2", "v4"], draw).outcome for draw in (0, 1)], ["strong", "keep"])
+
+    def test_the_number_of_units_is_that_of_the_answer(self) -> None:
+        setting, path, bids = example("seats"), stored("seats-three"), [2, 2, 2, 2, 3]
+        answer = mechdes.read(setting, path, units=3)
+        for call in (
+            lambda: mechdes.run(setting, answer, bids, 0, units=2),
+            lambda: mechdes.draw(setting, answer, bids, units=2),
+            lambda: mechdes.report(setting, answer, 2),
+        ):
+            with self.assertRaisesRegex(ValueError, "about 3 units, not 2"):
+                call()
 
     def test_the_program_of_an_auction(self) -> None:
         auction = mechdes.Auction(bidders=1, values=[1, 3], weights=[1, 1], keep=2)
@@ -405,6 +468,25 @@ class Refused(unittest.TestCase):
         self.refuses(mechdes.AnswerRefused, 66, line, lambda: mechdes.check(example("auction-reserve"), own))
         self.refuses(mechdes.AnswerRefused, 66, line, lambda: mechdes.run(example("auction-reserve"), own, [1, 2], 0))
         self.refuses(mechdes.AnswerRefused, 66, line, lambda: mechdes.draw(example("auction-reserve"), own, [1, 2]))
+        seats, three, bids = example("seats"), stored("seats-three"), [2, 2, 2, 2, 3]
+        for number in (0, 13):
+            self.refuses(mechdes.WordRefused, 67, "number refused", lambda: mechdes.run(seats, three, bids, 0, units=number))
+            self.refuses(mechdes.WordRefused, 67, "number refused", lambda: mechdes.report(seats, three, number))
+        self.refuses(mechdes.WordRefused, 67, "draw refused", lambda: mechdes.run(seats, three, bids, 18711000, units=3))
+        self.refuses(mechdes.WordRefused, 67, "draw refused", lambda: mechdes.run(seats, three, bids, 0, 1, units=3))
+        self.refuses(mechdes.WordRefused, 67, "profile refused", lambda: mechdes.run(seats, three, bids[1:], 0, units=3))
+        self.refuses(mechdes.AnswerRefused, 66, "answer refused: line 6: sum", lambda: mechdes.report(seats, three, 2))
+        self.refuses(mechdes.SettingRefused, 65, "setting refused: other kind", lambda: mechdes.report(setting, three, 3))
+        line = "answer refused: line 1: field 3"
+        self.refuses(mechdes.AnswerRefused, 66, line, lambda: mechdes.run(seats, three, bids, 0))
+        self.refuses(mechdes.AnswerRefused, 66, line, lambda: mechdes.draw(seats, three, bids))
+        self.refuses(mechdes.AnswerRefused, 66, line, lambda: mechdes.report(seats, three))
+        by_hand = stored("strong-and-weak-by-hand")
+        self.refuses(mechdes.AnswerRefused, 66, line, lambda: mechdes.run(fair, by_hand, ["needs", "any"], 0))
+        self.refuses(mechdes.AnswerRefused, 66, line, lambda: mechdes.report(fair, by_hand))
+        sale = example("strong-and-weak")
+        self.refuses(mechdes.WordRefused, 67, "draw refused", lambda: mechdes.run(sale, by_hand, ["v2", "v6"], 2))
+        self.refuses(mechdes.WordRefused, 67, "profile refused", lambda: mechdes.run(sale, by_hand, ["v2", "v3"], 0))
         self.refuses(mechdes.WordRefused, 67, "profile refused", lambda: mechdes.run(setting, answer, ["middle"], 0))
         self.refuses(mechdes.WordRefused, 67, "draw refused", lambda: mechdes.run(setting, answer, ["low"], -1))
         auction, line = example("auction-ironed"), "setting refused: other kind"
@@ -460,6 +542,7 @@ class Wiring(unittest.TestCase):
     def test_questions_and_answers(self) -> None:
         auction, sale, goods = (example(name).read_bytes() for name in ("seats", "strong-and-weak", "two-goods"))
         rule, fairest, by_hand = map(text, ("two-goods-rule.csv", "fair-split-fairest.csv", "strong-and-weak-by-hand.csv"))
+        seats = text("seats-three.csv")
         wide = "cut,1\nwide,0,0,9,1\nagain\nwide,0,0,9,1\nend\n"
         split, drilled = example("fair-split").read_bytes(), "drill,2,general,optimal,91,4\ncheck,valid\n"
         for status, printed, command, words, kind, question in (
@@ -550,10 +633,34 @@ class Wiring(unittest.TestCase):
                 mechdes.Violated,
                 (["realise", "setting", "odds"], auction, b"interim,6\nodds,0,3,4\nend\n"),
             ),
+            (
+                0,
+                "outcome,weak\npays,2,3,4\n",
+                mechdes.run,
+                [sale, by_hand, ["v3", "v4"], 1],
+                mechdes.Draw,
+                (["run", "--", "setting", "answer", "v3,v4", "1", "0"], sale, by_hand.encode()),
+            ),
+            (
+                0,
+                "wins,5\npays,1,1,1,1,1,1\n",
+                functools.partial(mechdes.run, units=3),
+                [auction, seats, [2, 2, 2, 2, 3], -1],
+                mechdes.UnitsDraw,
+                (["run", "--units=3", "--", "setting", "answer", "2,2,2,2,3", "-1", "0"], auction, seats.encode()),
+            ),
+            (
+                0,
+                "value,1,1\nrevenue,1,1\nwelfare,1,1\ntype,1,0,1,0,1\ntype,2,0,1,0,1\ntype,3,0,1,0,1\nend\n",
+                mechdes.report,
+                [auction, seats, -3],
+                mechdes.Report,
+                (["report", "--units=-3", "setting", "answer"], auction, seats.encode()),
+            ),
             (0, auction.decode(), mechdes.make, [1], mechdes.Auction, (["make", "--", "1"], b"", b"")),
             (0, drilled, mechdes.drill, [2], mechdes.Drill, (["drill", "--", "2"], b"", b"")),
         ):
-            with self.subTest(command.__name__):
+            with self.subTest(question[0]):
                 found, asked = self.told(mechdes.Reply(status, printed.encode(), b""), command, *words)
                 self.assertIs(type(found), kind)
                 self.assertEqual(asked, question)

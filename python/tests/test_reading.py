@@ -121,6 +121,7 @@ class Answers(unittest.TestCase):
         )
         self.assertEqual(found.mechanism.pays["strong"], {"v4": 2, "v6": 5})
         self.assertEqual(found.mechanism.chances(["v3", "v4"]), {"weak": 1, "strong": 0})
+        self.assertEqual(found.mechanism.draws(["v3", "v4"]), 2)
         self.assertEqual(found.cuts[-1], frozenset({("weak", "v3"), ("strong", "v6")}))
 
     def test_a_sale_of_units(self) -> None:
@@ -133,6 +134,7 @@ class Answers(unittest.TestCase):
         self.assertIsInstance(found, mechdes.AuctionOptimal)
         self.assertEqual((found.value, found.mechanism.units), (2, 2))
         self.assertEqual(found.mechanism.chances([2, 1]), (1, 1))
+        self.assertEqual((type(found.mechanism), found.mechanism.draws([2, 1])), (mechdes.UnitsMechanism, 27720 * 2))
 
     def test_the_mechanism_of_determ_is_no_leaf(self) -> None:
         found = read("two-goods", "two-goods-rule")

@@ -50,19 +50,21 @@ def shown(page: str) -> Iterator[tuple[str, list[str], str]]:
         yield command, words, "".join(printed)
 
 
-def shown_whole() -> Iterator[tuple[str, AnySetting, str]]:
-    """What the pages show whole: the command, its setting, and what it prints. What comes behind the end is another text's."""
+def shown_whole() -> Iterator[tuple[str, AnySetting, str, int | None]]:
+    """What the pages show whole: the command, its setting, what it prints, and a number of units where an option has one. What comes
+    behind the end is another text's."""
     one_line, to_end = ("audit", "check"), ("report", "realise", "solve", "fair", "threshold", "award")
     for path in sorted(EXAMPLES.glob("*.md")):
         for command, words, printed in shown(path.read_text()):
             setting = mechdes.read_setting(TOP / words[0])
+            units = int(words[words.index("--units") + 1]) if "--units" in words else None
             if command == "run":
-                yield command, setting, re.match(r"outcome.*\n(pays.*\n)?", printed)[0]
+                yield command, setting, re.match(r"outcome.*\n(pays.*\n)?|(wins.*\n)*pays.*\n", printed)[0], units
             elif printed and command in one_line or printed.startswith("violated"):
-                yield command, setting, printed.splitlines(keepends=True)[0]
+                yield command, setting, printed.splitlines(keepends=True)[0], units
             elif command in to_end and "end\n" in printed and not printed.startswith("end\n"):
                 first = re.search("^(answer|value|realise|threshold|chance),", printed, re.M).start()
-                yield command, setting, printed[first : printed.index("end\n") + 4]
+                yield command, setting, printed[first : printed.index("end\n") + 4], units
 
 
 class Texts(unittest.TestCase):
@@ -101,9 +103,9 @@ class Shown(Texts):
 
     def test_what_pages_show(self) -> None:
         commands = set()
-        for command, setting, printed in shown_whole():
+        for command, setting, printed, units in shown_whole():
             with self.subTest(command, printed=printed):
-                self.again(command, printed, setting)
+                self.again(command, printed, setting, units)
                 commands.add(command)
         self.assertEqual(commands, {"audit", "check", "run", "report", "realise", "solve", "fair", "threshold", "award"})
 
@@ -240,6 +242,39 @@ class Made(Texts):
         self.again("run", "outcome,keep\npays,2,0,4\n", mechdes.read_setting(example("auction-ironed")))
         found = self.again("run", "outcome,sell\npays,2,4\n", mechdes.read_setting(example("posted-price")))
         self.assertEqual(found.payments, {"buyer": 2})
+        found = self.again("run", "outcome,weak\npays,2,3,4\n", mechdes.read_setting(example("strong-and-weak")))
+        self.assertEqual((found.outcome, found.payments), ("weak", {"weak": Fraction(3, 2), "strong": 2}))
+
+    def test_draws_of_several_units(self) -> None:
+        auction = mechdes.read_setting(example("auction-ironed"))
+        for winners in ((), (1,), (2,), (1, 2)):
+            found = self.again("run", "".join(f"wins,{bidder}\n" for bidder in winners) + "pays,2,1,4\n", auction, 2)
+            self.assertEqual(found, mechdes.UnitsDraw(winners, {1: Fraction(1, 2), 2: Fraction(2)}, 2))
+        for printed, units in (
+            ("wins,1\nwins,2\npays,2,1,4\n", 1),
+            ("wins,2\nwins,1\npays,2,1,4\n", 2),
+            ("wins,1\nwins,1\npays,2,1,4\n", 2),
+            ("wins,0\npays,2,1,4\n", 2),
+            ("wins,3\npays,2,1,4\n", 2),
+            ("wins,1\npays,2,1\n", 2),
+            ("wins,1\n", 2),
+            ("wins,1\npays,0,1,4\n", 2),
+            ("wins,1\npays,2,1,4\nend\n", 2),
+            ("outcome,1\npays,2,1,4\n", 2),
+            ("wins,1\npays,2,1,4\n", None),
+        ):
+            with self.subTest(printed, units=units), self.assertRaises(mechdes.AnswerNotRead):
+                mechdes.parse("run", printed, auction, units)
+
+    def test_reports_of_sales_and_of_several_units(self) -> None:
+        for name, answer, option, cuts in (
+            ("strong-and-weak", "strong-and-weak-by-hand", [], ("cut/8", "cut/10", "cut/15")),
+            ("seats", "seats-three", ["--units=3"], ("cut/4", "cut/6")),
+        ):
+            words = ["report", *option, "setting", "answer"]
+            told = SecondOpinion().call(words, example(name).read_bytes(), stored(answer).read_bytes()).out.decode()
+            found = self.again("report", told, mechdes.read_setting(example(name)))
+            self.assertEqual((found.tight[-len(cuts) :], found.regret), (cuts, 0))
 
     def test_verdicts(self) -> None:
         for printed, truth in (

@@ -34,6 +34,22 @@ def file_names(words: list[str], count: int) -> list[str]:
     return names
 
 
+def taken_option(words: list[str], option: str) -> tuple[list[str], str | None]:
+    """The words without an option and its value, and the value, or None where the option is not there. It may stand anywhere before
+    `--`, once, with the value behind it or behind a `=`."""
+    end = words.index("--") if "--" in words else len(words)
+    places = [place for place, word in enumerate(words[:end]) if word.split("=")[0] == option]
+    if not places:
+        return words, None
+    place = places[0]
+    joined = "=" in words[place]
+    behind = place + (1 if joined else 2)
+    value = words[place].partition("=")[2] if joined else next(iter(words[place + 1:end]), "-")
+    if len(places) > 1 or not value or (value.startswith("-") and not joined):
+        raise Refused(64, "usage")
+    return words[:place] + words[behind:], value
+
+
 def number_of(word: str) -> int:
     """The whole number of at most 126 bits that a word is. A number has one text."""
     if not re.fullmatch("0|-?[1-9][0-9]*", word, re.ASCII) or abs(int(word)) >= 2**126:

@@ -1,6 +1,6 @@
 """Compares `report` and `audit` with mechdes on the answers of examples/, and on texts that are made at random: tables of mechanisms,
-answers about the fairest one and under conditions of the designer, answers about auctions, and auctions of one's own, of which some
-have odds that no auction has.
+answers about the fairest one and under conditions of the designer, answers about sales, about auctions and about several units, and
+auctions of one's own, of which some have odds that no auction has.
 
 Some texts are changed after they were made, and most of these are refused. The seed is fixed, so that the texts are the same at
 each call. What is printed, the line on standard error and the status must be the same. The program is that of the variable
@@ -40,11 +40,13 @@ def main(words: list[str]) -> NoReturn:
     path = needed_program(words)
     numbers, statuses, differing = random.Random(5), collections.Counter[int](), 0
     for toml in sorted(TOP.glob("examples/*.toml")):
-        for csv in [*stored(toml), *made(numbers, setting.read_setting(toml.read_bytes()))]:
-            for word, function in COMMANDS.items():
-                status, is_same = compared(path, word, function, toml, csv)
-                statuses[status] += 1
-                differing += not is_same
+        its = setting.read_setting(toml.read_bytes())
+        calls = [(csv, word, ()) for csv in [*stored(toml), *made(numbers, its)] for word in COMMANDS]
+        calls += [(csv, "report", units_words(numbers)) for csv in [*stored(toml), *made_units(numbers, its)]]
+        for csv, word, options in calls:
+            status, is_same = compared(path, word, toml, csv, options)
+            statuses[status] += 1
+            differing += not is_same
     print("".join(f"{count:6} with the status {status}\n" for status, count in sorted(statuses.items())), end="")
     print(f"{statuses.total()} compared, {differing} differ")
     sys.exit(1 if differing else 0)
@@ -56,28 +58,45 @@ def stored(toml: Path) -> Iterator[bytes]:
         yield file.read_bytes()
 
 
-def compared(path: str, word: str, function: command.Command, toml: Path, csv: bytes) -> tuple[int, bool]:
+def units_words(numbers: random.Random) -> tuple[str, str]:
+    """The option of a number of units, of which some cannot be sold."""
+    return "--units", str(numbers.choice([1, 2, 3, 12, 13]))
+
+
+def compared(path: str, word: str, toml: Path, csv: bytes, options: tuple[str, ...]) -> tuple[int, bool]:
     """The status of a command, and whether the two say the same; where they do not, the files are kept and named."""
     with tempfile.NamedTemporaryFile(prefix=f"{word}-", suffix=".csv", delete=False) as file:
         file.write(csv)
-    ran = subprocess.run([path, word, toml, file.name], capture_output=True, text=True)
-    status, text, line = command.outcome(function, [str(toml), file.name])
+    words = [str(toml), file.name, *options]
+    ran = subprocess.run([path, word, *words], capture_output=True, text=True)
+    status, text, line = command.outcome(COMMANDS[word], words)
     is_same = (ran.returncode, ran.stdout, ran.stderr) == (status, text, f"mechdes: {line}\n" if line else "")
     if is_same:
         os.unlink(file.name)
     else:
-        print(f"differ: {toml} {file.name}")
+        print("differ:", word, *words)
     return status, is_same
 
 
 def made(numbers: random.Random, its: setting.Setting) -> Iterator[bytes]:
     """Texts about a setting with numbers made at random, small ones and some of the greatest; some are changed."""
     for maker in AUCTION_MAKERS if isinstance(its, AuctionSetting) else GENERAL_MAKERS:
-        for _ in range(MADE):
-            records = [list(map(str, record)) for record in maker(numbers, its)]
-            if numbers.random() < CHANGED:
-                mutate.record_change(numbers, records)
-            yield "".join(",".join(record) + "\n" for record in records).encode()
+        yield from made_by(maker, numbers, its)
+
+
+def made_units(numbers: random.Random, its: setting.Setting) -> Iterator[bytes]:
+    """The same about several units."""
+    if isinstance(its, AuctionSetting):
+        yield from made_by(unit_answer, numbers, its)
+
+
+def made_by(maker: Maker, numbers: random.Random, its: setting.Setting) -> Iterator[bytes]:
+    """Texts of one sort."""
+    for _ in range(MADE):
+        records = [list(map(str, record)) for record in maker(numbers, its)]
+        if numbers.random() < CHANGED:
+            mutate.record_change(numbers, records)
+        yield "".join(",".join(record) + "\n" for record in records).encode()
 
 
 def denominator(numbers: random.Random) -> int:
@@ -153,7 +172,27 @@ def names(its: GeneralSetting, profile: Profile) -> list[str]:
     return [agent.types[kind] for agent, kind in zip(its.agents, profile)]
 
 
-GENERAL_MAKERS: list[Maker] = [general_table, fair_answer, required_answer]
+def sale_answer(numbers: random.Random, its: GeneralSetting) -> Rows:
+    """An answer about a sale, of which nothing needs to be so, the setting being one neither: `report` takes its odds and pays as they
+    stand, and the masses are 0."""
+    yield ["answer", 1, "asym", numbers.choice(["optimal", "optimal", "optimal", "toowide"])]
+    den = denominator(numbers)
+    yield ["value", 0, 1]
+    yield ["interim", den]
+    for agent in its.agents:
+        yield ["odds", agent.name, *(numbers.choice([0, den, numbers.randint(0, den)]) for _ in agent.types)]
+    for agent in its.agents:
+        yield ["pays", agent.name, *(pay(numbers) for _ in agent.types)]
+    for profile in its.profiles():
+        yield ["mass", *names(its, profile), *(0 for _ in its.agents)]
+    sets = range(1, 2 ** min(12, sum(len(agent.types) for agent in its.agents)))
+    for cut in sorted(numbers.sample(sets, min(5, len(sets)))):
+        yield ["cut", cut]
+    yield ["bound", 1]
+    yield ["end"]
+
+
+GENERAL_MAKERS: list[Maker] = [general_table, fair_answer, required_answer, sale_answer]
 
 
 # ---- auctions
@@ -161,8 +200,17 @@ GENERAL_MAKERS: list[Maker] = [general_table, fair_answer, required_answer]
 
 def auction_answer(numbers: random.Random, its: AuctionSetting) -> Rows:
     """Odds and pays of no mechanism, as it may be: `report` takes those of an answer as they stand, and the masses are 0."""
+    return answer_about(numbers, its, "auction")
+
+
+def unit_answer(numbers: random.Random, its: AuctionSetting) -> Rows:
+    """The same about several units."""
+    return answer_about(numbers, its, "units")
+
+
+def answer_about(numbers: random.Random, its: AuctionSetting, sold: str) -> Rows:
     kinds = len(its.values)
-    yield ["answer", 1, "auction", "optimal"]
+    yield ["answer", 1, sold, "optimal"]
     yield ["value", 0, 1]
     yield from interim(numbers, its, *any_odds(numbers, its))
     for counts in auction.count_lists(its.bidders, kinds):

@@ -1,17 +1,30 @@
 """Tells what the mechanism of an answer does, and how far it is from truthful: docs/FORMATS.md, "What `report` prints".
 
-Of a general setting all is computed from the lotteries and payments, profile by profile; of an auction from the odds and pays of an
-answer, or of an auction of one's own.
+Of a general setting all is computed from the lotteries and payments, profile by profile; of a sale from the odds and pays of an answer,
+and so of an auction, of an answer, also of one about several units, or of an auction of one's own.
 """
 
 from collections.abc import Callable, Iterable, Iterator, Sequence
 from fractions import Fraction
 
-from second_opinion import answer, auction, auction_answer, command, mechanisms, program, setting
+from second_opinion import (
+    answer,
+    auction,
+    auction_answer,
+    command,
+    mechanisms,
+    program,
+    sale_answer,
+    sale_checking,
+    selling,
+    setting,
+    unit_checking,
+)
 from second_opinion.answer import Mechanism
 from second_opinion.auction import Interim
 from second_opinion.auction_answer import AuctionAnswer
 from second_opinion.conditions import DesignerCondition, measured, scale_of
+from second_opinion.sale_answer import SaleAnswer, pairs_of
 from second_opinion.setting import Agent, AuctionSetting, GeneralSetting, Profile, Refused
 
 Field = str | int
@@ -19,14 +32,21 @@ DONE, VIOLATED = 0, 21
 
 
 def report(words: list[str]) -> tuple[int, str]:
-    """The command `report SETTING ANSWER`. The setting is read and refused before the answer is opened."""
-    setting_name, answer_name = command.file_names(words, 2)
+    """The command `report SETTING ANSWER [--units NUMBER]`. The number is refused first; the setting is read and refused before the
+    answer is opened."""
+    names, number = command.taken_option(words, "--units")
+    setting_name, answer_name = command.file_names(names, 2)
+    units = None if number is None else unit_checking.units_of(number)
     its = setting.read_setting(command.read_file(setting_name, setting.FILE_LIMIT))
+    if units is not None and not isinstance(its, AuctionSetting):
+        raise Refused(65, "setting refused: other kind")
     data = command.read_file(answer_name, answer.FILE_LIMIT)
-    if isinstance(its, AuctionSetting):
+    if units is not None and isinstance(its, AuctionSetting):
+        status, records = DONE, unit_records(its, units, data)
+    elif isinstance(its, AuctionSetting):
         status, records = auction_report(its, data)
     else:
-        status, records = DONE, general_records(its, *mechanisms.proposal_in(data, its))
+        status, records = DONE, general_report(its, data)
     return status, "".join(",".join(map(str, record)) + "\n" for record in records)
 
 
@@ -42,6 +62,21 @@ def first_greatest(parts: Iterable[tuple[list[Field], Fraction]]) -> list[Field]
 
 
 # ---- a general setting
+
+
+def general_report(its: GeneralSetting, data: bytes) -> Iterable[list[Field]]:
+    """The records of the mechanism of an answer. A text that names another kind of answer is one about a sale, where the setting is
+    one."""
+    try:
+        mechanism, asked = mechanisms.proposal_in(data, its)
+    except Refused as refused:
+        if refused.line != answer.ANOTHER_KIND or next(selling.failing(its), None) is not None:
+            raise
+        said = sale_answer.read_answer(data, its)
+        if not isinstance(said, SaleAnswer):
+            raise Refused(66, answer.NO_TABLE) from None
+        return sale_records(its, said.interim, said.cuts)
+    return general_records(its, mechanism, asked)
 
 
 def general_records(its: GeneralSetting, mechanism: Mechanism, asked: Sequence[DesignerCondition]) -> Iterator[list[Field]]:
@@ -159,6 +194,47 @@ def room(its: GeneralSetting, mechanism: Mechanism, condition: program.Condition
     return amount(condition.left) - amount(condition.right) - condition.constant * mechanism.den
 
 
+# ---- a sale
+
+
+def sale_records(its: GeneralSetting, interim: Interim, cuts: list[int]) -> Iterator[list[Field]]:
+    """What odds and pays of the pairs of an agent and a type do."""
+    pairs = pairs_of(its)
+    weights = [sale_checking.marginal(its, pair) for pair in pairs]
+    worths = [sale_checking.worth(its, pair) for pair in pairs]
+    whole = sum(map(its.weight, its.profiles())) * interim.den
+
+    def gets(true: int, told: int) -> Fraction:
+        return Fraction(worths[true] * interim.odds[told] - interim.pays[told], interim.den)
+
+    yield ["value", *number(sale_checking.value_of(its, interim))]
+    yield ["revenue", *number(Fraction(sum(weight * pay for weight, pay in zip(weights, interim.pays)), whole))]
+    had = sum(weight * worth * odds for weight, worth, odds in zip(weights, worths, interim.odds))
+    yield ["welfare", *number(Fraction(had, whole))]
+    names: list[list[Field]] = [[its.agents[agent].name, its.agents[agent].types[kind]] for agent, kind in pairs]
+    for place, name in enumerate(names):
+        yield ["type", *name, *number(gets(place, place)), *number(Fraction(interim.pays[place], interim.den))]
+    places = range(len(pairs))
+    false = [(true, told) for true in places for told in places if true != told and pairs[true][0] == pairs[told][0]]
+    for agent in range(len(its.agents)):
+        more = [([*names[true], names[told][1]], gets(true, told) - gets(true, true)) for true, told in false if pairs[true][0] == agent]
+        if more:
+            yield ["gain", *first_greatest(more)]
+    for agent in range(len(its.agents)):
+        yield ["loss", *first_greatest((names[place], -gets(place, place)) for place in places if pairs[place][0] == agent)]
+    for true, told in false:
+        if gets(true, told) == gets(true, true):
+            yield ["tight", "/".join(map(str, ["truth", *names[true], names[told][1]]))]
+    for place, name in enumerate(names):
+        if gets(place, place) == 0:
+            yield ["tight", "/".join(map(str, ["rational", *name]))]
+    for cut in cuts:
+        demands = sum(weights[place] * interim.odds[place] for place in places if cut >> place & 1)
+        if demands == interim.den * sale_checking.right_side(its, cut):
+            yield ["tight", f"cut/{cut}"]
+    yield ["end"]
+
+
 # ---- an auction
 
 
@@ -176,7 +252,15 @@ def auction_report(its: AuctionSetting, data: bytes) -> tuple[int, Iterable[list
     return VIOLATED, [["violated", worst, auction.excess(its, said, worst), said.den]]
 
 
-def auction_records(its: AuctionSetting, interim: Interim, cuts: list[int]) -> Iterator[list[Field]]:
+def unit_records(its: AuctionSetting, units: int, data: bytes) -> Iterable[list[Field]]:
+    """The records of an answer about so many units."""
+    said = auction_answer.read_unit_answer(data, its, units)
+    if not isinstance(said, AuctionAnswer):
+        raise Refused(66, answer.NO_TABLE)
+    return auction_records(its, said.interim, said.cuts, units)
+
+
+def auction_records(its: AuctionSetting, interim: Interim, cuts: list[int], units: int = 1) -> Iterator[list[Field]]:
     kinds = range(len(its.values))
     whole = sum(its.weights) * interim.den
 
@@ -186,7 +270,7 @@ def auction_records(its: AuctionSetting, interim: Interim, cuts: list[int]) -> I
     def gets(kind: int, told: int) -> int:
         return its.values[kind] * interim.odds[told] - interim.pays[told]
 
-    yield ["value", *number(auction.value_of(its, interim))]
+    yield ["value", *number(auction.value_of(its, interim, units))]
     yield ["revenue", *number(of_all(lambda kind: interim.pays[kind]))]
     yield ["welfare", *number(of_all(lambda kind: its.values[kind] * interim.odds[kind]))]
     for kind in kinds:
@@ -205,6 +289,6 @@ def auction_records(its: AuctionSetting, interim: Interim, cuts: list[int]) -> I
         if gets(kind, kind) == 0:
             yield ["tight", f"rational/{its.values[kind]}"]
     for cut in cuts:
-        if auction.excess(its, interim, cut) == 0:
+        if auction.excess(its, interim, cut, units) == 0:
             yield ["tight", f"cut/{cut}"]
     yield ["end"]

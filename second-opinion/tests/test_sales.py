@@ -1,9 +1,9 @@
-"""Tries `asymcheck` on an answer that was worked out by hand, with one thing changed at a time."""
+"""Tries `asymcheck` and `report` on an answer that was worked out by hand, with one thing changed at a time."""
 
 import tempfile
 import unittest
 
-from second_opinion import command, sale_checking
+from second_opinion import command, reporting, sale_checking
 from second_opinion.places import EXAMPLES
 
 SETTING = EXAMPLES / "strong-and-weak.toml"
@@ -49,18 +49,53 @@ REFUSED = [
 ]
 
 
-def told(text, setting=SETTING):
-    """What `asymcheck` comes to of an answer."""
+def told(text, setting=SETTING, function=sale_checking.asymcheck):
+    """What `asymcheck`, or another command, comes to of an answer."""
     with tempfile.NamedTemporaryFile("w", suffix=".csv") as file:
         file.write(text)
         file.flush()
-        return command.outcome(sale_checking.asymcheck, [str(setting), file.name])
+        return command.outcome(function, [str(setting), file.name])
 
 
 def changed(old, new):
     """The answer with some of its text replaced."""
     assert BY_HAND.count(old) == 1, old
     return BY_HAND.replace(old, new)
+
+
+# The strong one with 6 pays 11/2. Each value is as likely, so that the revenue is (3/2 + 2 + 11/2)/2, and the welfare (3/2 + 2 + 6)/2. With
+# 6 it gets 12 - 11 halves, and by telling 4 it would get 6 - 4. The cut of the strong one with 6 alone is tight; 9 has the weak one with
+# 2 besides, who asks for nothing and comes at one more of the profiles.
+TOO_DEAR = """value,9,2
+revenue,9,2
+welfare,19,4
+type,weak,v2,0,1,0,1
+type,weak,v3,0,1,3,2
+type,strong,v4,0,1,2,1
+type,strong,v6,1,2,11,2
+gain,weak,v3,v2,0,1
+gain,strong,v6,v4,1,2
+loss,weak,v2,0,1
+loss,strong,v4,0,1
+tight,truth/weak/v3/v2
+tight,rational/weak/v2
+tight,rational/weak/v3
+tight,rational/strong/v4
+tight,cut/8
+end
+"""
+
+
+class Reports(unittest.TestCase):
+    def test_what_odds_and_pays_do(self):
+        answer = changed("pays,strong,4,10", "pays,strong,4,11").replace("cut,10\ncut,15\n", "cut,9\n").replace("row,10,0,4\n", "")
+        self.assertEqual(told(answer, function=reporting.report), (0, TOO_DEAR, None))
+
+    def test_refusals(self):
+        wide = "answer,1,asym,toowide\ncut,1\nwide,0,0,9,1\nagain\nwide,0,0,9,1\nend\n"
+        self.assertEqual(told(wide, function=reporting.report), (66, "", "answer refused: no table"))
+        self.assertEqual(told(changed("end\n", ""), function=reporting.report), (66, "", "answer refused: line 22: ended"))
+        self.assertEqual(told(BY_HAND, EXAMPLES / "divorce.toml", reporting.report), (66, "", "answer refused: line 1: field 3"))
 
 
 class Sales(unittest.TestCase):

@@ -2,7 +2,7 @@
 
 import unittest
 
-from second_opinion import auction_answer, command, unit_checking
+from second_opinion import auction_answer, command, reporting, unit_checking
 from second_opinion.places import EXAMPLES
 from second_opinion.setting import AuctionSetting, Refused
 
@@ -46,6 +46,15 @@ class Units(unittest.TestCase):
             (2, "value,6,2", "valid"),
         ):
             self.assertEqual(self.says(2, *self.with_record(TWO, place, record)), line)
+
+    def test_reports(self):
+        # Two units are enough for two bidders, so that the cut of the value 3 says no more than that its odds are at most 1; of one unit
+        # the odds are just what there is, and two could give more.
+        for units, records, value, pays, tight in ((2, TWO, "3,1", "3,1", ["tight,cut/2"]), (1, ONE, "9,4", "9,4", ["tight,cut/2"]), (2, ONE, "9,4", "9,4", [])):
+            said = reporting.unit_records(AUCTION, units, "\n".join([*records, "end"]).encode())
+            lines = [",".join(map(str, record)) for record in said]
+            self.assertEqual(lines[:5], [f"value,{value}", f"revenue,{value}", f"welfare,{value}", "type,1,0,1,0,1", f"type,3,0,1,{pays}"])
+            self.assertEqual(lines[5:-1], ["gain,3,1,0,1", "loss,1,0,1", "tight,truth/3/1", "tight,rational/1", "tight,rational/3", *tight])
 
     def test_another_number_of_units(self):
         self.assertEqual(self.says(1, *TWO), "answer refused: line 6: sum")

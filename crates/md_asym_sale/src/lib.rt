@@ -20,4 +20,5 @@ pub use pairs::{Pair, pair_at, pair_count, pair_number};
 pub use sale::is_sale;
 pub use sale_program::program;
 pub use shape::{agents, profiles, type_at};
+pub use sides::{has_pair, right_side};
 pub use worth::{marginal_at, surplus_at};

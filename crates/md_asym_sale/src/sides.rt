@@ -12,8 +12,8 @@ use crate::pairs::pair_number;
 use crate::shape::{agents, profiles, type_at};
 use md_setting::Setting;
 
-/// The weight of the profiles with some pair in a set.
-pub(crate) fn right_side(setting: &Setting, set: u32) -> i128
+/// The weight of the profiles with some pair in a set. Sets are numbers: the bit of a pair's number is 1 where the set has the pair.
+pub fn right_side(setting: &Setting, set: u32) -> i128
     requires { pairs_of setting.now ≤ 12 }
     ensures value { result ≡ right_of setting.now set }
     ensures size { IsWithin (2 ^ 44) result }
@@ -66,7 +66,7 @@ fn has_pair_of(setting: &Setting, set: u32, rank: u32, agent: u8) -> bool
 
 /// Whether a set has the pair with a number.
 #[tactic(auto, unfolding(md_math::specs::Sets::member))]
-pub(crate) fn has_pair(set: u32, number: u32) -> bool
+pub fn has_pair(set: u32, number: u32) -> bool
     requires { number < 12 }
     ensures { result ≡ member set number }
 {

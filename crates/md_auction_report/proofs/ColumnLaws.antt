@@ -9,7 +9,7 @@ use Rattle.md_math.proofs.SumLaws.{sum_to-same}
 use Rattle.md_setting.specs.Auction.{SymmetricAuction, value_count}
 use Rattle.md_border.specs.declared.interim.Interim.{Interim}
 use Rattle.md_border.specs.Odds.{IsInterim, weight_given, demands_in}
-use Rattle.md_border.proofs.SideLaws.{right_of-counts}
+use Rattle.md_border.specs.Sides.{right_by_counts}
 use Rattle.md_reduced.specs.declared.condition.ReducedCondition.{ReducedCondition}
 use Rattle.md_reduced.specs.declared.condition.ReducedCondition.TheVariants.{Truth, Rational, Cut}
 use Rattle.md_reduced.specs.Conditions.{IsInside}
@@ -57,28 +57,30 @@ there kinds (Cut set) h = tt
 less-nothing : (x o : ℤ) → o ≡ pos 0 → x -ℤ o ≡ x
 less-nothing x o e = omega (arith, linear, e)
 
-pub missed-sides : (a : SymmetricAuction) (interim : Interim) (c : ReducedCondition) → IsInterim a interim → IsThere (value_count a) c
-    → left_side a c (columns_of interim) -ℤ interim.den *ℤ right_side a 1 c ≡ missed a interim c
-missed-sides a interim (Truth v w) h (l, k) =
+pub missed-sides : (a : SymmetricAuction) (units : ℕ) (interim : Interim) (c : ReducedCondition) → IsInterim a interim → IsThere (value_count a) c
+    → left_side a c (columns_of interim) -ℤ interim.den *ℤ right_side a units c ≡ missed a units interim c
+missed-sides a units interim (Truth v w) h (l, k) =
     ap₂ (λ x y. (x -ℤ y) -ℤ interim.den *ℤ pos 0) (utility-column a interim v w h k) (utility-column a interim v v h l)
     ∙ less-nothing (utility_at a interim v w -ℤ utility_at a interim v v) (interim.den *ℤ pos 0) (*ℤ-zero interim.den)
-missed-sides a interim (Rational v) h l =
+missed-sides a units interim (Rational v) h l =
     ap (λ x. neg_ℤ x -ℤ interim.den *ℤ pos 0) (utility-column a interim v v h l)
     ∙ less-nothing (neg_ℤ (utility_at a interim v v)) (interim.den *ℤ pos 0) (*ℤ-zero interim.den)
-missed-sides a interim (Cut set) h l = ap₂ (λ x y. x -ℤ interim.den *ℤ y) (demands-column a interim set h) (sym (right_of-counts a set))
+missed-sides a units interim (Cut set) h l = ap (λ x. x -ℤ interim.den *ℤ right_by_counts a units set) (demands-column a interim set h)
 
 at_most_0 : (l r x : ℤ) → l -ℤ r ≡ x → (l ≤ℤ r) ↔ (x ≤ℤ pos 0)
 at_most_0 l r x e = ((λ h. omega (arith, linear, e, h)), (λ h. omega (arith, linear, e, h)))
 
 -- it holds exactly where nothing is missed of it
-pub holds-missed : (a : SymmetricAuction) (interim : Interim) (c : ReducedCondition) → IsInterim a interim → IsThere (value_count a) c
-    → (left_side a c (columns_of interim) ≤ℤ (interim.den *ℤ right_side a 1 c)) ↔ (missed a interim c ≤ℤ pos 0)
-holds-missed a interim c h l = at_most_0 (left_side a c (columns_of interim)) (interim.den *ℤ right_side a 1 c) (missed a interim c) (missed-sides a interim c h l)
+pub holds-missed : (a : SymmetricAuction) (units : ℕ) (interim : Interim) (c : ReducedCondition) → IsInterim a interim → IsThere (value_count a) c
+    → (left_side a c (columns_of interim) ≤ℤ (interim.den *ℤ right_side a units c)) ↔ (missed a units interim c ≤ℤ pos 0)
+holds-missed a units interim c h l =
+    at_most_0 (left_side a c (columns_of interim)) (interim.den *ℤ right_side a units c) (missed a units interim c) (missed-sides a units interim c h l)
 
 same-0 : (y x : ℤ) → y ≡ x → (x ≡ pos 0) ↔ (y ≡ pos 0)
 same-0 y x e = ((λ h. e ∙ h), (λ h. sym e ∙ h))
 
 -- and with equality where what is missed is 0
-pub tight-missed : (a : SymmetricAuction) (interim : Interim) (c : ReducedCondition) → IsInterim a interim → IsThere (value_count a) c
-    → (missed a interim c ≡ pos 0) ↔ (left_side a c (columns_of interim) -ℤ interim.den *ℤ right_side a 1 c ≡ pos 0)
-tight-missed a interim c h l = same-0 (left_side a c (columns_of interim) -ℤ interim.den *ℤ right_side a 1 c) (missed a interim c) (missed-sides a interim c h l)
+pub tight-missed : (a : SymmetricAuction) (units : ℕ) (interim : Interim) (c : ReducedCondition) → IsInterim a interim → IsThere (value_count a) c
+    → (missed a units interim c ≡ pos 0) ↔ (left_side a c (columns_of interim) -ℤ interim.den *ℤ right_side a units c ≡ pos 0)
+tight-missed a units interim c h l =
+    same-0 (left_side a c (columns_of interim) -ℤ interim.den *ℤ right_side a units c) (missed a units interim c) (missed-sides a units interim c h l)

@@ -18,38 +18,38 @@ use Rattle.md_auction_report.specs.Shortfalls.{missed, missed_in, missed_at}
 less-then : (a b c : ℤ) → a ≤ℤ b → b <ℤ c → a <ℤ c
 less-then a b c h k = omega (arith, linear, h, k)
 
-pub greatest-first : (a : SymmetricAuction) (interim : Interim) (cuts : List ℕ) (start : ℕ) → IsGreatestRow a interim cuts start (start + 1) start
-greatest-first a interim cuts start = record {
+pub greatest-first : (a : SymmetricAuction) (units : ℕ) (interim : Interim) (cuts : List ℕ) (start : ℕ) → IsGreatestRow a units interim cuts start (start + 1) start
+greatest-first a units interim cuts start = record {
   from = omega arith;
   below = omega arith;
-  most = λ k l h. (let e : k ≡ start = omega (arith, l, h) in le_from_same (missed_at a interim cuts k) (missed_at a interim cuts start) (ap (missed_at a interim cuts) e));
+  most = λ k l h. (let e : k ≡ start = omega (arith, l, h) in le_from_same (missed_at a units interim cuts k) (missed_at a units interim cuts start) (ap (missed_at a units interim cuts) e));
   first = λ k l h. absurd (omega (arith, l, h));
 }
 
-pub greatest-more : (a : SymmetricAuction) (interim : Interim) (cuts : List ℕ) (start end old new : ℕ) → IsGreatestRow a interim cuts start end old
-    → ((new ≡ old) × (missed_at a interim cuts end ≤ℤ missed_at a interim cuts old)) ⊎ ((new ≡ end) × (missed_at a interim cuts old <ℤ missed_at a interim cuts end))
-    → IsGreatestRow a interim cuts start (end + 1) new
-greatest-more a interim cuts start end old new h (inl kept) = subst (IsGreatestRow a interim cuts start (end + 1)) (sym kept.0) (record {
+pub greatest-more : (a : SymmetricAuction) (units : ℕ) (interim : Interim) (cuts : List ℕ) (start end old new : ℕ) → IsGreatestRow a units interim cuts start end old
+    → ((new ≡ old) × (missed_at a units interim cuts end ≤ℤ missed_at a units interim cuts old)) ⊎ ((new ≡ end) × (missed_at a units interim cuts old <ℤ missed_at a units interim cuts end))
+    → IsGreatestRow a units interim cuts start (end + 1) new
+greatest-more a units interim cuts start end old new h (inl kept) = subst (IsGreatestRow a units interim cuts start (end + 1)) (sym kept.0) (record {
   from = h.from;
   below = omega (arith, h.below);
   most = λ k low high. elim (cases_lt k end) [
     | inl before ↦ h.most k low before
-    | inr last ↦ (let e : end ≡ k = omega (arith, high, last) in subst (λ j. missed_at a interim cuts j ≤ℤ missed_at a interim cuts old) e kept.1)
+    | inr last ↦ (let e : end ≡ k = omega (arith, high, last) in subst (λ j. missed_at a units interim cuts j ≤ℤ missed_at a units interim cuts old) e kept.1)
   ];
   first = h.first;
 })
-greatest-more a interim cuts start end old new h (inr more) = subst (IsGreatestRow a interim cuts start (end + 1)) (sym more.0) (record {
+greatest-more a units interim cuts start end old new h (inr more) = subst (IsGreatestRow a units interim cuts start (end + 1)) (sym more.0) (record {
   from = omega (arith, h.from, h.below);
   below = omega arith;
   most = λ k low high. elim (cases_lt k end) [
-    | inl before ↦ le_from_lt (missed_at a interim cuts k) (missed_at a interim cuts end) (less k low before)
-    | inr last ↦ (let e : k ≡ end = omega (arith, high, last) in le_from_same (missed_at a interim cuts k) (missed_at a interim cuts end) (ap (missed_at a interim cuts) e))
+    | inl before ↦ le_from_lt (missed_at a units interim cuts k) (missed_at a units interim cuts end) (less k low before)
+    | inr last ↦ (let e : k ≡ end = omega (arith, high, last) in le_from_same (missed_at a units interim cuts k) (missed_at a units interim cuts end) (ap (missed_at a units interim cuts) e))
   ];
   first = less;
 })
   where
-    less : (k : ℕ) → start ≤ k → k < end → missed_at a interim cuts k <ℤ missed_at a interim cuts end
-    less k low before = less-then (missed_at a interim cuts k) (missed_at a interim cuts old) (missed_at a interim cuts end) (h.most k low before) more.1
+    less : (k : ℕ) → start ≤ k → k < end → missed_at a units interim cuts k <ℤ missed_at a units interim cuts end
+    less k low before = less-then (missed_at a units interim cuts k) (missed_at a units interim cuts old) (missed_at a units interim cuts end) (h.most k low before) more.1
 
 -- ---- among the conditions of one kind
 
@@ -64,9 +64,9 @@ stands-rationals kinds cuts = record {
   number = refl;
 }
 
-pub greatest-block : (a : SymmetricAuction) (interim : Interim) (cuts : List ℕ) (block : List ReducedCondition) (start end : ℕ) (told : Greatest)
-    → StandsAt start block (conditions_of (value_count a) cuts) → end ≡ start + length block → IsGreatestIn a interim cuts start end told → IsGreatest a interim block told
-greatest-block a interim cuts block start end told at size h =
+pub greatest-block : (a : SymmetricAuction) (units : ℕ) (interim : Interim) (cuts : List ℕ) (block : List ReducedCondition) (start end : ℕ) (told : Greatest)
+    → StandsAt start block (conditions_of (value_count a) cuts) → end ≡ start + length block → IsGreatestIn a units interim cuts start end told → IsGreatest a units interim block told
+greatest-block a units interim cuts block start end told at size h =
     let low : start ≤ h.row = h.greatest.from in
     let high : h.row < end = h.greatest.below in
     let place : start + (h.row - start) ≡ h.row = omega (arith, low) in
@@ -77,22 +77,22 @@ greatest-block a interim cuts block start end told at size h =
       is_missed = h.is_missed;
       most = λ k c e.
           (let l : k < length block = slice_get_within block k c e in
-          subst (λ z. z ≤ℤ missed a interim told.condition) (same k c e)
-          (subst (λ z. missed_at a interim cuts (start + k) ≤ℤ z) whole (h.greatest.most (start + k) (omega arith) (omega (arith, l, size)))));
+          subst (λ z. z ≤ℤ missed a units interim told.condition) (same k c e)
+          (subst (λ z. missed_at a units interim cuts (start + k) ≤ℤ z) whole (h.greatest.most (start + k) (omega arith) (omega (arith, l, size)))));
       first = λ k c b e.
           (let l : k < length block = slice_get_within block k c e in
-          subst (λ z. z <ℤ missed a interim told.condition) (same k c e)
-          (subst (λ z. missed_at a interim cuts (start + k) <ℤ z) whole (h.greatest.first (start + k) (omega arith) (omega (arith, b, low)))));
+          subst (λ z. z <ℤ missed a units interim told.condition) (same k c e)
+          (subst (λ z. missed_at a units interim cuts (start + k) <ℤ z) whole (h.greatest.first (start + k) (omega arith) (omega (arith, b, low)))));
     }
   where
     rows : List ReducedCondition
     rows = conditions_of (value_count a) cuts
 
-    same : (k : ℕ) (c : ReducedCondition) → slice_get block k ≡ Some c → missed_at a interim cuts (start + k) ≡ missed a interim c
-    same k c e = (let l : k < length block = slice_get_within block k c e in ap (missed_in a interim) (get-inside start k block rows at l ∙ e))
+    same : (k : ℕ) (c : ReducedCondition) → slice_get block k ≡ Some c → missed_at a units interim cuts (start + k) ≡ missed a units interim c
+    same k c e = (let l : k < length block = slice_get_within block k c e in ap (missed_in a units interim) (get-inside start k block rows at l ∙ e))
 
-    whole : missed_at a interim cuts h.row ≡ missed a interim told.condition
-    whole = ap (missed_in a interim) h.here
+    whole : missed_at a units interim cuts h.row ≡ missed a units interim told.condition
+    whole = ap (missed_in a units interim) h.here
 
 pub no-conditions : (conditions : List ReducedCondition) → length conditions ≡ 0 → conditions ≡ []
 no-conditions [] e = refl

@@ -27,13 +27,13 @@ conditions-there kinds cuts =
 zero-same : (x y : ℤ) → x ≡ y → (x ≡ pos 0) ↔ (y ≡ pos 0)
 zero-same x y e = ((λ h. sym e ∙ h), (λ h. e ∙ h))
 
-pub tight-told : (a : SymmetricAuction) (interim : Interim) (cuts : List ℕ) (row : ℕ) (b : Bool) (x : ℤ) → IsInterim a interim → row < length (conditions_of (value_count a) cuts)
-    → x ≡ missed_at a interim cuts row → IsTrue b ↔ (x ≡ pos 0) → b ≡ is_tight a interim (slice_get (conditions_of (value_count a) cuts) row)
-tight-told a interim cuts row b x fits inside same zero =
+pub tight-told : (a : SymmetricAuction) (units : ℕ) (interim : Interim) (cuts : List ℕ) (row : ℕ) (b : Bool) (x : ℤ) → IsInterim a interim → row < length (conditions_of (value_count a) cuts)
+    → x ≡ missed_at a units interim cuts row → IsTrue b ↔ (x ≡ pos 0) → b ≡ is_tight a units interim (slice_get (conditions_of (value_count a) cuts) row)
+tight-told a units interim cuts row b x fits inside same zero =
     let rows = conditions_of (value_count a) cuts in
     let c = get_or rows row (Cut 0) in
     let e : slice_get rows row ≡ Some c = slice_get-get_or rows row (Cut 0) inside in
-    let here : x ≡ missed a interim c = (rw e at same) in
+    let here : x ≡ missed a units interim c = (rw e at same) in
     rw e
-    (tests_zero b (left_side a c (columns_of interim) -ℤ interim.den *ℤ right_side a 1 c)
-    (both zero (both (zero-same x (missed a interim c) here) (tight-missed a interim c fits (conditions-there (value_count a) cuts row (Cut 0) inside)))))
+    (tests_zero b (left_side a c (columns_of interim) -ℤ interim.den *ℤ right_side a units c)
+    (both zero (both (zero-same x (missed a units interim c) here) (tight-missed a units interim c fits (conditions-there (value_count a) cuts row (Cut 0) inside)))))

@@ -26,28 +26,28 @@ truths-none a shaped =
     let none = no-false_report n n shaped.some_value shaped.some_value in
     ((λ e. none.0 (sym long ∙ e)), (λ e. long ∙ none.1 e))
 
-told-where : (a : SymmetricAuction) (interim : Interim) (conditions : List ReducedCondition) (told : Option Greatest) → IsGreatestOf a interim conditions told → IsNone told ↔ (length conditions ≡ 0)
-told-where a interim conditions None none = ((λ _. nil-length conditions none), (λ _. refl))
-told-where a interim conditions (Some told) is = ((λ e. cc), (λ none. absurd (some-rows conditions is.place _ is.here none)))
+told-where : (a : SymmetricAuction) (units : ℕ) (interim : Interim) (conditions : List ReducedCondition) (told : Option Greatest) → IsGreatestOf a units interim conditions told → IsNone told ↔ (length conditions ≡ 0)
+told-where a units interim conditions None none = ((λ _. nil-length conditions none), (λ _. refl))
+told-where a units interim conditions (Some told) is = ((λ e. cc), (λ none. absurd (some-rows conditions is.place _ is.here none)))
 
-pub told-whole : (a : SymmetricAuction) (interim : Interim) (cuts : List ℕ) (report : AuctionReport) → IsAuction a → IsAuctionReportOf a interim cuts report → IsToldWhole a report
-told-whole a interim cuts report shaped is = record { gain = both (told-where a interim (truths (value_count a)) report.gain is.gain) (truths-none a shaped) }
+pub told-whole : (a : SymmetricAuction) (units : ℕ) (interim : Interim) (cuts : List ℕ) (report : AuctionReport) → IsAuction a → IsAuctionReportOf a units interim cuts report → IsToldWhole a report
+told-whole a units interim cuts report shaped is = record { gain = both (told-where a units interim (truths (value_count a)) report.gain is.gain) (truths-none a shaped) }
 
 -- ---- what is told is about the auction
 
-one-about : (a : SymmetricAuction) (interim : Interim) (conditions : List ReducedCondition) (told : Option Greatest) → IsGreatestOf a interim conditions told → IsTold a told
-one-about a interim conditions None is = tt
-one-about a interim conditions (Some told) is = is.is_missed.inside
+one-about : (a : SymmetricAuction) (units : ℕ) (interim : Interim) (conditions : List ReducedCondition) (told : Option Greatest) → IsGreatestOf a units interim conditions told → IsTold a told
+one-about a units interim conditions None is = tt
+one-about a units interim conditions (Some told) is = is.is_missed.inside
 
-tight-about : (a : SymmetricAuction) (interim : Interim) (cuts : List ℕ) → All (λ r. r < length (conditions_of (value_count a) cuts)) (tight_rows a interim cuts)
-tight-about a interim cuts =
+tight-about : (a : SymmetricAuction) (units : ℕ) (interim : Interim) (cuts : List ℕ) → All (λ r. r < length (conditions_of (value_count a) cuts)) (tight_rows a units interim cuts)
+tight-about a units interim cuts =
     let rows = conditions_of (value_count a) cuts in
-    All-up_to (λ r. r < length rows) (length rows) (tight_at a interim cuts) (λ r h. tight-row (length rows) r (is_tight a interim (slice_get rows r)) h)
+    All-up_to (λ r. r < length rows) (length rows) (tight_at a units interim cuts) (λ r h. tight-row (length rows) r (is_tight a units interim (slice_get rows r)) h)
 
-pub about : (a : SymmetricAuction) (interim : Interim) (cuts : List ℕ) (report : AuctionReport) → IsAuctionReportOf a interim cuts report → IsAbout a cuts report
-about a interim cuts report is = record {
+pub about : (a : SymmetricAuction) (units : ℕ) (interim : Interim) (cuts : List ℕ) (report : AuctionReport) → IsAuctionReportOf a units interim cuts report → IsAbout a cuts report
+about a units interim cuts report is = record {
   types = λ k d h. (is.types.each k d h).kind_in;
-  gain = one-about a interim (truths (value_count a)) report.gain is.gain;
+  gain = one-about a units interim (truths (value_count a)) report.gain is.gain;
   loss = is.loss.is_missed.inside;
-  tight = subst (All (λ r. r < length (conditions_of (value_count a) cuts))) (sym is.tight) (tight-about a interim cuts);
+  tight = subst (All (λ r. r < length (conditions_of (value_count a) cuts))) (sym is.tight) (tight-about a units interim cuts);
 }

@@ -1,5 +1,5 @@
 -- When a report shows interim odds and payments to be truthful and rational, and which of its parts it tells.
-use Rattle.std.specs.Prelude.{◌≡◌, ◌↔◌, pos, ◌≤ℤ◌, ◌++◌, Option, None, Some, IsNone}
+use Rattle.std.specs.Prelude.{◌≡◌, ℕ, ◌↔◌, pos, ◌≤ℤ◌, ◌++◌, Option, None, Some, IsNone}
 use Rattle.std.specs.List.{All}
 use Rattle.md_setting.specs.Auction.{SymmetricAuction, value_count}
 use Rattle.md_forms.specs.Forms.{Holds}
@@ -11,13 +11,13 @@ use Rattle.md_auction_report.specs.declared.auction_report.AuctionReport.{Auctio
 use Rattle.md_auction_report.specs.declared.greatest.Greatest.{Greatest}
 use Rattle.md_auction_report.specs.Tight.{columns_of}
 
--- the condition holds at the odds and payments
-abbrev pub HoldsAt : SymmetricAuction → Interim → ReducedCondition → Type 0
-HoldsAt a interim c = Holds interim.den (columns_of interim) (form_of a 1 c)
+-- the condition of the reduced program of so many units holds at the odds and payments
+abbrev pub HoldsAt : SymmetricAuction → ℕ → Interim → ReducedCondition → Type 0
+HoldsAt a units interim c = Holds interim.den (columns_of interim) (form_of a units c)
 
 -- each condition on truth does, and each on taking part
-abbrev pub IsTruthfulAndRational : SymmetricAuction → Interim → Type 0
-IsTruthfulAndRational a interim = All (HoldsAt a interim) (truths (value_count a) ++ rationals (value_count a))
+abbrev pub IsTruthfulAndRational : SymmetricAuction → ℕ → Interim → Type 0
+IsTruthfulAndRational a units interim = All (HoldsAt a units interim) (truths (value_count a) ++ rationals (value_count a))
 
 -- what is missed is at most 0
 abbrev pub IsNoneMissed : Option Greatest → Type 0

@@ -7,6 +7,7 @@ pub mod Tight
 pub mod Types
 pub mod ReportOf
 pub mod Admissible
+pub mod Supplies
 pub mod Mechanisms
 pub mod Tellable
 pub mod Records

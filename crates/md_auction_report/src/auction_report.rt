@@ -12,7 +12,7 @@ pub struct AuctionReport {
     pub value: Frac,
     /// The expected payments of all bidders.
     pub revenue: Frac,
-    /// What the item is expected to be worth to all bidders, payments left out.
+    /// What the item, or the units, are expected to be worth to all bidders, payments left out.
     pub welfare: Frac,
     /// What a bidder with each value gets and pays, by kind.
     pub types: Vec<ValueNumbers>,

@@ -1,6 +1,6 @@
-//! What interim odds and payments of an auction do, and how far they are from truthful: their value, revenue and welfare, what
-//! a bidder with each value gets and pays, what it gains at most by telling another value and misses at most of nothing, and
-//! which conditions bind.
+//! What interim odds and payments of an auction do, where one item is sold or several units, and how far they are from truthful:
+//! their value, revenue and welfare, what a bidder with each value gets and pays, what it gains at most by telling another value
+//! and misses at most of nothing, and which conditions bind.
 #![tactic(auto)]
 
 mod amount;

@@ -1,10 +1,10 @@
 //! What is measured of bidders by the kinds of their values.
-ghost use Rattle.std.specs.Prelude.{◌≡◌, ◌<◌, ◌^◌, pos, ◌<ℤ◌, ◌*ℤ◌, neg_ℤ};
+ghost use Rattle.std.specs.Prelude.{◌≡◌, ◌<◌, ◌≤◌, ◌^◌, pos, ◌<ℤ◌, ◌*ℤ◌, neg_ℤ};
 ghost use Rattle.md_math.specs.Lists.{number_at};
 ghost use Rattle.md_math.specs.Sizes.{IsWithin};
 ghost use Rattle.md_setting.specs.Auction.{value_count};
 ghost use Rattle.md_mech.specs.Accepted.{number_limit};
-ghost use Rattle.md_border.specs.Odds.{IsInterim};
+ghost use Rattle.md_border.specs.Odds.{IsInterim, unit_excess_of};
 ghost use Rattle.md_reduced.specs.Conditions.{IsInside};
 ghost use Rattle.md_report.specs.Ratio.{IsRatio};
 ghost use Rattle.md_auction_report.specs.Amounts.{amount_of};
@@ -12,22 +12,28 @@ ghost use Rattle.md_auction_report.specs.Shortfalls.{missed};
 ghost use Rattle.md_auction_report.specs.Utility.{utility_at, regret_at, missing_at};
 
 use crate::amount::Amount;
-use md_border::{Interim, excess};
+use md_border::{Interim, excess, right_side_for};
 use md_num::{Frac, product};
 use md_reduced::ReducedCondition;
 use md_setting::Auction;
 
-/// What is missed of a condition.
-pub(crate) fn missed(auction: &Auction, interim: &Interim, condition: ReducedCondition) -> i128
+/// What is missed of a condition where so many units are sold.
+pub(crate) fn missed(
+    auction: &Auction,
+    units: u32,
+    interim: &Interim,
+    condition: ReducedCondition,
+) -> i128
+    requires few_units { units ≤ 12 }
     requires fits { IsInterim auction.now interim.now }
     requires inside { IsInside (value_count auction.now) condition }
-    ensures value { result ≡ missed auction.now interim.now condition }
+    ensures value { result ≡ missed auction.now units interim.now condition }
     ensures size { IsWithin (2 ^ 110) result }
 {
     match condition {
         ReducedCondition::Truth { kind, other } => regret(auction, interim, kind, other),
         ReducedCondition::Rational { kind } => missing(auction, interim, kind),
-        ReducedCondition::Cut { set } => excess(auction, interim, set),
+        ReducedCondition::Cut { set } => unit_excess(auction, units, interim, set),
     }
 }
 
@@ -77,6 +83,19 @@ fn item(auction: &Auction, interim: &Interim, kind: u32, told: u32) -> i128
 {
     let value = i128::from(auction.value(kind));
     product(value, interim.odds.get(told as usize))
+}
+
+// By how much the demands of a set of values are above as often as so many units can go to bidders with these values: as much
+// as where one item is sold, less what further units serve.
+fn unit_excess(auction: &Auction, units: u32, interim: &Interim, set: u32) -> i128
+    requires few_units { units ≤ 12 }
+    requires fits { IsInterim auction.now interim.now }
+    requires set_in { set < 2 ^ value_count auction.now }
+    ensures value { result ≡ unit_excess_of auction.now units interim.now set }
+    ensures size { IsWithin (2 ^ 110) result }
+{
+    let further = right_side_for(auction, units, set) - right_side_for(auction, 1, set);
+    excess(auction, interim, set) - product(interim.den, further)
 }
 
 // What it gains by telling another value than its own.

@@ -1,5 +1,5 @@
 //! Which conditions hold with equality.
-ghost use Rattle.std.specs.Prelude.{◌≡◌, ◌<◌, ◌↔◌, ◌++◌, pos, IfOk, OnOk, IsTrue, length, slice_get};
+ghost use Rattle.std.specs.Prelude.{◌≡◌, ◌<◌, ◌≤◌, ◌↔◌, ◌++◌, pos, IfOk, OnOk, IsTrue, length, slice_get};
 ghost use Rattle.md_setting.specs.Auction.{value_count};
 ghost use Rattle.md_lp.specs.Cuts.{AreCuts};
 ghost use Rattle.md_border.specs.Odds.{IsInterim};
@@ -14,20 +14,22 @@ use md_reduced::row_count;
 use md_setting::Auction;
 use std::alloc::Global;
 
-/// The rows of the conditions of the reduced program with these cuts that hold with equality, ascending.
+/// The rows of the conditions of the reduced program of so many units, with these cuts, that hold with equality, ascending.
 pub(crate) fn tight(
     alloc: Global,
     auction: &Auction,
+    units: u32,
     interim: &Interim,
     cuts: &Sets,
 ) -> Result<Vec<u32>, NoMemory>
+    requires few_units { units ≤ 12 }
     requires fits { IsInterim auction.now interim.now }
     requires cuts { AreCuts (value_count auction.now) cuts.now }
-    ensures { IfOk result (λ rows. rows.items ≡ tight_rows auction.now interim.now cuts.now) }
+    ensures { IfOk result (λ rows. rows.items ≡ tight_rows auction.now units interim.now cuts.now) }
 {
     let mut rows = Vec::new(alloc);
     for row in 0..row_count(auction, cuts) {
-        push_if_tight(&mut rows, auction, interim, cuts, row)?;
+        push_if_tight(&mut rows, auction, units, interim, cuts, row)?;
     }
     Ok(rows)
 }
@@ -36,16 +38,18 @@ pub(crate) fn tight(
 fn push_if_tight(
     rows: &mut Vec<u32>,
     auction: &Auction,
+    units: u32,
     interim: &Interim,
     cuts: &Sets,
     row: u32,
 ) -> Result<(), NoMemory>
+    requires few_units { units ≤ 12 }
     requires fits { IsInterim auction.now interim.now }
     requires cuts { AreCuts (value_count auction.now) cuts.now }
     requires inside { row < length (conditions_of (value_count auction.now) cuts.now) }
-    ensures { OnOk result (rows.new.items ≡ rows.old.items ++ tight_at auction.now interim.now cuts.now row) }
+    ensures { OnOk result (rows.new.items ≡ rows.old.items ++ tight_at auction.now units interim.now cuts.now row) }
 {
-    if !is_tight(auction, interim, cuts, row) {
+    if !is_tight(auction, units, interim, cuts, row) {
         return Ok(());
     }
     rows.push(row)?;
@@ -53,13 +57,14 @@ fn push_if_tight(
 }
 
 // Whether the condition of a row holds with equality.
-fn is_tight(auction: &Auction, interim: &Interim, cuts: &Sets, row: u32) -> bool
+fn is_tight(auction: &Auction, units: u32, interim: &Interim, cuts: &Sets, row: u32) -> bool
+    requires few_units { units ≤ 12 }
     requires fits { IsInterim auction.now interim.now }
     requires cuts { AreCuts (value_count auction.now) cuts.now }
     requires inside { row < length (conditions_of (value_count auction.now) cuts.now) }
-    ensures { result ≡ is_tight auction.now interim.now (slice_get (conditions_of (value_count auction.now) cuts.now) row) }
+    ensures { result ≡ is_tight auction.now units interim.now (slice_get (conditions_of (value_count auction.now) cuts.now) row) }
 {
-    is_zero(missed_in_row(auction, interim, cuts, row))
+    is_zero(missed_in_row(auction, units, interim, cuts, row))
 }
 
 fn is_zero(number: i128) -> bool

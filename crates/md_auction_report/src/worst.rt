@@ -14,26 +14,40 @@ use md_lp::Sets;
 use md_setting::Auction;
 
 /// The value that is told for another one by which most is gained, where there are several values.
-pub(crate) fn gain(auction: &Auction, interim: &Interim, cuts: &Sets) -> Option<Greatest>
+pub(crate) fn gain(
+    auction: &Auction,
+    units: u32,
+    interim: &Interim,
+    cuts: &Sets,
+) -> Option<Greatest>
+    requires few_units { units ≤ 12 }
     requires fits { IsInterim auction.now interim.now }
     requires cuts { AreCuts (value_count auction.now) cuts.now }
-    ensures { IsGreatestOf auction.now interim.now (truths (value_count auction.now)) result }
+    ensures { IsGreatestOf auction.now units interim.now (truths (value_count auction.now)) result }
 {
     let truths = truth_rows(auction);
     if truths == 0 {
         return None;
     }
-    Some(greatest_of(auction, interim, cuts, 0, truths))
+    Some(greatest_of(auction, units, interim, cuts, 0, truths))
 }
 
 /// The value with which a bidder misses most of nothing.
-pub(crate) fn loss(auction: &Auction, interim: &Interim, cuts: &Sets) -> Greatest
+pub(crate) fn loss(auction: &Auction, units: u32, interim: &Interim, cuts: &Sets) -> Greatest
+    requires few_units { units ≤ 12 }
     requires fits { IsInterim auction.now interim.now }
     requires cuts { AreCuts (value_count auction.now) cuts.now }
-    ensures { IsGreatest auction.now interim.now (rationals (value_count auction.now)) result }
+    ensures { IsGreatest auction.now units interim.now (rationals (value_count auction.now)) result }
 {
     let start = truth_rows(auction);
-    greatest_of(auction, interim, cuts, start, start + auction.kinds())
+    greatest_of(
+        auction,
+        units,
+        interim,
+        cuts,
+        start,
+        start + auction.kinds(),
+    )
 }
 
 // How many conditions there are on truth.

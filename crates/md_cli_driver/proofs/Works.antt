@@ -10,7 +10,7 @@ use Rattle.md_cli_driver.specs.Reading.{file_said, second_in, served_by, setting
 use Rattle.md_cli_driver.specs.Refused.{status_of}
 use Rattle.md_cli_driver.specs.Saying.{Saying}
 use Rattle.md_ports.specs.Faults.{Rose}
-use Rattle.md_cli_driver.specs.Works.{HasFaultedIn, IsCarriedOut, no_file, two_files, IsOutcome, IsReplyToNone, IsReplyToOne, IsReplyToTwo, IsWorked, IsWorkedOnOne}
+use Rattle.md_cli_driver.specs.Works.{HasFaultedIn, IsCarriedOut, no_file, two_files, IsOutcome, IsReplyToNone, IsReplyToOne, IsReplyToTwo, IsWorked, IsWorkedOn}
 
 -- what was read is no refusal
 pub read-not_refused : {T E : Type 0} (x : T) (e : E) → Ok x ≢ Err e
@@ -64,24 +64,34 @@ worked-no_fault Says IsOwn (Ok answered) h failed = cc
 worked-no_fault Says IsOwn (Err e) (inl memory) failed = let same : e ≡ refusal.ReadFault = cc in absurd (let both : refusal.Memory ≡ refusal.ReadFault = sym memory ∙ same in cc)
 worked-no_fault Says IsOwn (Err e) (inr worked) failed = not_fault e 67 (omega arith) worked.1.1 (let same : e ≡ refusal.ReadFault = cc in same)
 
--- the same of work on a setting alone
-refused-no_fault : (IsOwn : ℕ → Type 0) (e : Refusal) → (IsOwn 67 × (status_of e ≡ 67)) ⊎ (status_of e ≡ 65) → e ≢ refusal.ReadFault
-refused-no_fault IsOwn e (inl h) = not_fault e 67 (omega arith) h.1
-refused-no_fault IsOwn e (inr h) = not_fault e 65 (omega arith) h
+-- the same of work on files
+refused-no_fault : (IsOwn : ℕ → Type 0) (refusing : ℕ) (e : Refusal) → refusing < 70 → (IsOwn 67 × (status_of e ≡ 67)) ⊎ (status_of e ≡ refusing) → e ≢ refusal.ReadFault
+refused-no_fault IsOwn refusing e below (inl h) = not_fault e 67 (omega arith) h.1
+refused-no_fault IsOwn refusing e below (inr h) = not_fault e refusing below h
 
-pub one-no_fault : (Says : Saying → Type 0) (IsOwn : ℕ → Type 0) (result : Result Answered Refusal) → IsWorkedOnOne Says IsOwn result → result ≢ Err refusal.ReadFault
-one-no_fault Says IsOwn (Ok answered) h failed = cc
-one-no_fault Says IsOwn (Err e) (inl memory) failed = let same : e ≡ refusal.ReadFault = cc in absurd (let both : refusal.Memory ≡ refusal.ReadFault = sym memory ∙ same in cc)
-one-no_fault Says IsOwn (Err e) (inr worked) failed = refused-no_fault IsOwn e worked.1 (let same : e ≡ refusal.ReadFault = cc in same)
+pub on-no_fault : (refusing : ℕ) (Says : Saying → Type 0) (IsOwn : ℕ → Type 0) (result : Result Answered Refusal) → refusing < 70 → IsWorkedOn refusing Says IsOwn result → result ≢ Err refusal.ReadFault
+on-no_fault refusing Says IsOwn (Ok answered) below h failed = cc
+on-no_fault refusing Says IsOwn (Err e) below (inl memory) failed = let same : e ≡ refusal.ReadFault = cc in absurd (let both : refusal.Memory ≡ refusal.ReadFault = sym memory ∙ same in cc)
+on-no_fault refusing Says IsOwn (Err e) below (inr worked) failed = refused-no_fault IsOwn refusing e below worked.1 (let same : e ≡ refusal.ReadFault = cc in same)
 
 -- the statuses of answers lie below 64
 pub worked-status : (Says : Saying → Type 0) (IsOwn : ℕ → Type 0) (result : Result Answered Refusal) → IsWorked Says IsOwn result → IfOk result (λ answered. answered.status < 64)
 worked-status Says IsOwn (Ok answered) h = h.1.1
 worked-status Says IsOwn (Err e) h = tt
 
-pub one-status : (Says : Saying → Type 0) (IsOwn : ℕ → Type 0) (result : Result Answered Refusal) → IsWorkedOnOne Says IsOwn result → IfOk result (λ answered. answered.status < 64)
-one-status Says IsOwn (Ok answered) h = h.1.1
-one-status Says IsOwn (Err e) h = tt
+pub on-status : (refusing : ℕ) (Says : Saying → Type 0) (IsOwn : ℕ → Type 0) (result : Result Answered Refusal) → IsWorkedOn refusing Says IsOwn result → IfOk result (λ answered. answered.status < 64)
+on-status refusing Says IsOwn (Ok answered) h = h.1.1
+on-status refusing Says IsOwn (Err e) h = tt
+
+-- a refusal has a status of the command's own, or that of the file
+refused-own : (IsOwn : ℕ → Type 0) (refusing : ℕ) (e : Refusal) → (IsOwn 67 × (status_of e ≡ 67)) ⊎ (status_of e ≡ refusing) → IsOwn (status_of e) ⊎ (status_of e ≡ refusing)
+refused-own IsOwn refusing e (inl h) = inl (subst IsOwn (sym h.1) h.0)
+refused-own IsOwn refusing e (inr h) = inr h
+
+-- it is not that of a setting
+not_of_setting : (IsOwn : ℕ → Type 0) (e : Refusal) → (IsOwn 67 × (status_of e ≡ 67)) ⊎ (status_of e ≡ 66) → status_of e ≢ 65
+not_of_setting IsOwn e (inl h) same = absurd (omega (arith, same, h.1))
+not_of_setting IsOwn e (inr h) same = absurd (omega (arith, same, h))
 
 -- ---- no file
 
@@ -111,15 +121,11 @@ module _ (serves : SettingFile → Bool) (P : SettingFile → Saying → Type 0)
       inl (record { status = inr own.0; said_of = λ bytes told. rw (own.1 bytes told) refl }, not_fault e 65 (omega arith) own.0)
 
   pub one-worked : (file : SettingFile) (result : Result Answered Refusal) → ForSome (content a) (λ bytes. setting_in serves bytes ≡ Ok file)
-      → IsWorkedOnOne (P file) IsOwn result → IsOutcome (IsReplyToOne serves P IsOwn a content) result
+      → IsWorkedOn 65 (P file) IsOwn result → IsOutcome (IsReplyToOne serves P IsOwn a content) result
   one-worked file (Ok answered) read worked = record { status = inl worked.1.0; said_of = λ bytes told. rw (read bytes told) worked.0 }
   one-worked file (Err e) read (inl memory) = inr (inr memory)
   one-worked file (Err e) read (inr worked) =
-      inl (record { status = own worked.1; said_of = λ bytes told. rw (read bytes told) worked.0 }, refused-no_fault IsOwn e worked.1)
-    where
-      own : (IsOwn 67 × (status_of e ≡ 67)) ⊎ (status_of e ≡ 65) → IsOwn (status_of e) ⊎ (status_of e ≡ 65)
-      own (inl h) = inl (subst IsOwn (sym h.1) h.0)
-      own (inr h) = inr h
+      inl (record { status = refused-own IsOwn 65 e worked.1; said_of = λ bytes told. rw (read bytes told) worked.0 }, refused-no_fault IsOwn 65 e (omega arith) worked.1)
 
 -- ---- two files
 
@@ -144,7 +150,7 @@ module _ {T : Type 0} (serves : SettingFile → Bool) (reading : SettingFile →
         )
 
     pub two-worked : (x : T) (result : Result Answered Refusal) → ForSome (content b) (λ bytes. second_in (reading file) bytes ≡ Ok x)
-        → IsWorked (P file x) IsOwn result → IsOutcome (IsReplyToTwo serves reading P IsOwn a b content) result
+        → IsWorkedOn 66 (P file x) IsOwn result → IsOutcome (IsReplyToTwo serves reading P IsOwn a b content) result
     two-worked x (Ok answered) second worked =
         record {
           status = inl worked.1.0;
@@ -154,11 +160,15 @@ module _ {T : Type 0} (serves : SettingFile → Bool) (reading : SettingFile →
     two-worked x (Err e) second (inr worked) =
         inl (
           record {
-            status = inl (subst IsOwn (sym worked.1.1) worked.1.0);
-            said_of = λ bytes told. rw (read bytes told) (λ same. absurd (omega (arith, same, worked.1.1)), λ more told_too. rw (second more told_too) worked.0);
+            status = own (refused-own IsOwn 66 e worked.1);
+            said_of = λ bytes told. rw (read bytes told) (not_of_setting IsOwn e worked.1, λ more told_too. rw (second more told_too) worked.0);
           },
-          not_fault e 67 (omega arith) worked.1.1,
+          refused-no_fault IsOwn 66 e (omega arith) worked.1,
         )
+      where
+        own : IsOwn (status_of e) ⊎ (status_of e ≡ 66) → IsOwn (status_of e) ⊎ ((status_of e ≡ 65) ⊎ (status_of e ≡ 66))
+        own (inl h) = inl h
+        own (inr h) = inr (inr h)
 
     -- the second file, whose faults are those that no setting file explains
     module _ (before mid after : List ℕ → ℕ) (quiet : (n : List ℕ) → mid n ≡ before n) where
@@ -180,11 +190,11 @@ module _ {T : Type 0} (serves : SettingFile → Bool) (reading : SettingFile →
 
       -- the work on both
       pub both-worked : (x : T) → ForSome (content b) (λ all. second_in (reading file) all ≡ Ok x) → ((n : List ℕ) → after n ≡ mid n)
-          → (result : Result Answered Refusal) → IsWorked (P file x) IsOwn result
+          → (result : Result Answered Refusal) → IsWorkedOn 66 (P file x) IsOwn result
           → IsCarriedOut (two_files T serves reading P IsOwn) a b content before after result
       both-worked x second still result worked = record {
         outcome = two-worked x result second worked;
-        fault = λ failed. absurd (worked-no_fault (P file x) IsOwn result worked failed);
+        fault = λ failed. absurd (on-no_fault 66 (P file x) IsOwn result (omega arith) worked failed);
         quiet = λ n fine. still n ∙ quiet n;
-        status = worked-status (P file x) IsOwn result worked;
+        status = on-status 66 (P file x) IsOwn result worked;
       }

@@ -95,11 +95,11 @@ abbrev pub IsWorked : (Saying → Type 0) → (ℕ → Type 0) → Result Answer
 IsWorked Says IsOwn (Ok answered) = Says (said answered) × (IsOwn answered.status × (answered.status < 64))
 IsWorked Says IsOwn (Err e) = (e ≡ refusal.Memory) ⊎ (Says (refused e) × (IsOwn 67 × (status_of e ≡ 67)))
 
--- The same of a setting alone, which may be refused with 65 too, where it is of the kind that the command serves and yet none
--- that it can work on.
-abbrev pub IsWorkedOnOne : (Saying → Type 0) → (ℕ → Type 0) → Result Answered Refusal → Type 0
-IsWorkedOnOne Says IsOwn (Ok answered) = Says (said answered) × (IsOwn answered.status × (answered.status < 64))
-IsWorkedOnOne Says IsOwn (Err e) = (e ≡ refusal.Memory) ⊎ (Says (refused e) × ((IsOwn 67 × (status_of e ≡ 67)) ⊎ (status_of e ≡ 65)))
+-- The same of files, the last of which may be refused with its own status too: a setting that the command serves and yet cannot work
+-- on, with 65, and a second file that says nothing of such a setting, with 66.
+abbrev pub IsWorkedOn : ℕ → (Saying → Type 0) → (ℕ → Type 0) → Result Answered Refusal → Type 0
+IsWorkedOn refusing Says IsOwn (Ok answered) = Says (said answered) × (IsOwn answered.status × (answered.status < 64))
+IsWorkedOn refusing Says IsOwn (Err e) = (e ≡ refusal.Memory) ⊎ (Says (refused e) × ((IsOwn 67 × (status_of e ≡ 67)) ⊎ (status_of e ≡ refusing)))
 
 -- What came of a command: an answer or a refusal that belongs to its reply, or a fault, or that memory ran out.
 abbrev pub IsOutcome : (Saying → Type 0) → Result Answered Refusal → Type 0

@@ -2,6 +2,7 @@
 //! all of this is done.
 #![tactic(auto)]
 
+mod answer_text;
 mod answered;
 mod no_file;
 mod one_file;
@@ -12,6 +13,7 @@ mod setting_file;
 mod status;
 mod two_files;
 
+pub use answer_text::AnswerText;
 pub use answered::Answered;
 pub use no_file::{NoFile, NumberRefused, of_none};
 pub use one_file::{OneFile, of_one};

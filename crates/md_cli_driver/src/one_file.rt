@@ -2,7 +2,7 @@
 ghost use Rattle.std.specs.Prelude.{◌≡◌, ℕ, Bool, true, List, IsTrue};
 ghost use Rattle.md_setting.specs.declared.file.SettingFile.{SettingFile};
 ghost use Rattle.md_cli_driver.specs.Saying.{Saying};
-ghost use Rattle.md_cli_driver.specs.Works.{IsCarriedOut, IsWorkedOnOne, one_file};
+ghost use Rattle.md_cli_driver.specs.Works.{IsCarriedOut, IsWorkedOn, one_file};
 
 use crate::answered::Answered;
 use crate::refusal::Refusal;
@@ -29,7 +29,7 @@ pub trait OneFile {
     /// What it says of a setting that it serves.
     fn answer(&self, alloc: Global, file: &SettingFile) -> Result<Answered, Refusal>
         requires { is_served file.now ≡ true }
-        ensures { IsWorkedOnOne (says self.now file.now) own result };
+        ensures { IsWorkedOn 65 (says self.now file.now) own result };
 }
 
 /// Reads the setting and carries the command out.

@@ -9,7 +9,7 @@ ghost use Rattle.md_cli_driver.specs.declared.refusal.Refusal.TheVariants as ref
 ghost use Rattle.md_cli_driver.specs.Reading.{Follows, is_general, second_in, setting_in};
 ghost use Rattle.md_cli_driver.specs.Refused.{status_of};
 ghost use Rattle.md_cli_driver.specs.Saying.{Saying};
-ghost use Rattle.md_cli_driver.specs.Works.{IsCarriedOut, IsWorked, sale_files};
+ghost use Rattle.md_cli_driver.specs.Works.{IsCarriedOut, IsWorkedOn, sale_files};
 
 use crate::answered::Answered;
 use crate::read::read_file;
@@ -68,7 +68,7 @@ pub trait SaleFiles {
         requires general { IsGeneral file.now }
         requires sale { is_sale file.now }
         requires fits { fits file.now second.now }
-        ensures { IsWorked (says file.now second.now) own result };
+        ensures { IsWorkedOn 66 (says file.now second.now) own result };
 }
 
 // What the second file says of a sale.

@@ -8,7 +8,7 @@ ghost use Rattle.md_cli_driver.specs.declared.refusal.Refusal.TheVariants as ref
 ghost use Rattle.md_cli_driver.specs.Reading.{Follows, second_in, setting_in};
 ghost use Rattle.md_cli_driver.specs.Refused.{status_of};
 ghost use Rattle.md_cli_driver.specs.Saying.{Saying};
-ghost use Rattle.md_cli_driver.specs.Works.{IsCarriedOut, IsWorked, two_files};
+ghost use Rattle.md_cli_driver.specs.Works.{IsCarriedOut, IsWorkedOn, two_files};
 
 use crate::answered::Answered;
 use crate::read::read_file;
@@ -66,7 +66,7 @@ pub trait TwoFiles {
     ) -> Result<Answered, Refusal>
         requires served { is_served file.now ≡ true }
         requires fits { fits self.now file.now second.now }
-        ensures { IsWorked (says self.now file.now second.now) own result };
+        ensures { IsWorkedOn 66 (says self.now file.now second.now) own result };
 }
 
 // What the second file says of a setting that is served.

@@ -12,9 +12,10 @@ ghost use Rattle.md_cli_judge.specs.DetermChecking.{IsDetermCheck, IsDetermCheck
 ghost use Rattle.md_cli_judge.specs.DetermVerdicts.{IsRejected};
 ghost use Rattle.md_cli_judge.specs.Verdicts.{rejected};
 
-use crate::answer_text::AnswerText;
 use crate::records::{record_text, rejected_by};
-use md_cli_driver::{Answered, DONE, REJECTED, Refusal, TwoFiles, UNDECIDED, general, is_general};
+use md_cli_driver::{
+    AnswerText, Answered, DONE, REJECTED, Refusal, TwoFiles, UNDECIDED, general, is_general,
+};
 use md_mech::{Broken, row_name};
 use md_num::NoMemory;
 use md_records::Row;

@@ -1,7 +1,6 @@
 //! The commands that judge: whether what an answer claims is so, and whether a mechanism meets all conditions of a setting.
 #![tactic(auto)]
 
-mod answer_text;
 mod asym_check;
 mod audit;
 mod check;
@@ -12,7 +11,6 @@ mod require_check;
 mod unit_check;
 mod verdict_text;
 
-pub use answer_text::AnswerText;
 pub use asym_check::AsymCheck;
 pub use audit::Audit;
 pub use check::Check;

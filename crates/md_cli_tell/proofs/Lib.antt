@@ -4,3 +4,5 @@ pub mod Profiles
 pub mod Judged
 pub mod Awards
 pub mod StandingRecords
+pub mod SaleLaws
+pub mod UnitDraws

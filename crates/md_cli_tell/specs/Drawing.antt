@@ -1,5 +1,5 @@
--- What `run` says of a setting and an answer, at a profile of reports and by two draws.
-use Rattle.std.specs.Prelude.{◌≡◌, ◌≢◌, ◌⊎◌, ◌==◌, ◌<◌, ◌∷◌, [], ℕ, ℤ, zero, suc, pos, Bool, true, false, List, Option, None, Some, Result, Ok, Err, codes, length, replicate, slice_index, slice_index_or, if◌then◌else◌}
+-- What `run` says of a setting and an answer with one lottery, or with masses, for each profile, at a profile of reports and by two draws.
+use Rattle.std.specs.Prelude.{◌≡◌, ◌≢◌, ◌⊎◌, ◌==◌, ◌<◌, ◌∷◌, [], ℕ, ℤ, zero, suc, pos, Bool, true, false, List, Result, Ok, Err, codes, length, replicate, slice_index, slice_index_or, if◌then◌else◌}
 use Rattle.std.specs.List.{slice_split}
 use Rattle.md_math.specs.Lists.{number_at}
 use Rattle.md_num.specs.WholeText.{text_of}
@@ -11,12 +11,8 @@ use Rattle.md_setting.specs.declared.file.SettingFile.{SettingFile}
 use Rattle.md_setting.specs.declared.file.SettingFile.TheVariants.{General, Auction}
 use Rattle.md_records.specs.Written.{text_of_records}
 use Rattle.md_parts.specs.Rows.{number_row}
-use Rattle.md_parts.specs.declared.refusal.AnswerRefusal.{AnswerRefusal}
-use Rattle.md_answer.specs.AuctionAnswers.{auction_answer_of}
 use Rattle.md_answer.specs.declared.answer.Answer.{Answer}
 use Rattle.md_answer.specs.declared.answer.Answer.TheVariants.{Table, Optimal, Infeasible, Unbounded, AuctionOptimal, TooWide}
-use Rattle.md_mechanism_text.specs.MechanismText.{mechanism_text_of}
-use Rattle.md_mechanism_text.specs.Proposals.{Proposed}
 use Rattle.md_run.specs.Drawn.{AreLotteries, IsDrawn}
 use Rattle.md_run.specs.Refusals.{IsRefused}
 use Rattle.md_run.specs.declared.drawn.Drawn.{Drawn}
@@ -24,7 +20,6 @@ use Rattle.md_run.specs.declared.refusal.DrawRefusal.{DrawRefusal}
 use Rattle.md_run.specs.declared.refusal.DrawRefusal.TheVariants as draws
 use Rattle.md_cli_driver.specs.declared.refusal.Refusal.{Refusal}
 use Rattle.md_cli_driver.specs.declared.refusal.Refusal.TheVariants as refusal
-use Rattle.md_cli_driver.specs.Reading.{and_then, answer_or_refusal}
 use Rattle.md_cli_driver.specs.Refused.{refused}
 use Rattle.md_cli_driver.specs.Saying.{Saying}
 
@@ -41,21 +36,6 @@ has_table (TooWide cuts first second) = false
 
 abbrev pub drawable : Answer → Result Answer Refusal
 drawable answer = if has_table answer then Ok answer else Err refusal.NoTable
-
--- a mechanism as an answer; the conditions that it is to meet are left out
-abbrev pub table_or_none : Option Proposed → Result Answer Refusal
-table_or_none (Some proposed) = Ok (Table proposed.mechanism)
-table_or_none None = Err refusal.NoTable
-
-abbrev pub table_or_refusal : Result (Option Proposed) AnswerRefusal → Result Answer Refusal
-table_or_refusal (Ok found) = table_or_none found
-table_or_refusal (Err e) = Err (refusal.Answer e)
-
--- What the second file says of which something can be drawn: of a general setting the mechanism of an answer, whichever command
--- printed it; of an auction an answer with masses.
-abbrev pub drawable_in : SettingFile → List ℕ → Result Answer Refusal
-drawable_in (General s) bytes = table_or_refusal (mechanism_text_of s bytes)
-drawable_in (Auction a) bytes = and_then (answer_or_refusal (auction_answer_of a bytes)) drawable
 
 -- ---- the profile
 
@@ -155,10 +135,3 @@ pub record IsNoDraw (file : SettingFile) (answer : Answer) (profile : List ℕ) 
 abbrev pub IsDrawing : SettingFile → Answer → List ℕ → ℤ → ℤ → Saying → Type 0
 IsDrawing file answer profile first second saying =
     IsDrawnSaying file answer profile first second saying ⊎ (IsNoProfile file profile saying ⊎ IsNoDraw file answer profile first second saying)
-
-abbrev pub IsRun : List ℕ → ℤ → ℤ → SettingFile → Answer → Saying → Type 0
-IsRun profile first second file answer saying = IsDrawing file answer profile first second saying
-
--- the statuses of what is said
-abbrev pub IsRunStatus : ℕ → Type 0
-IsRunStatus status = (status ≡ 0) ⊎ (status ≡ 67)

@@ -4,8 +4,15 @@ pub mod Listing
 pub mod Replaying
 pub mod Realising
 pub mod Drawing
+pub mod SaleAnswers
+pub mod SaleDrawing
+pub mod Running
 pub mod AwardTexts
 pub mod Awarding
 pub mod Reported
 pub mod Standings
+pub mod SaleReporting
 pub mod Reporting
+pub mod UnitAnswers
+pub mod UnitReporting
+pub mod UnitDrawing

@@ -12,7 +12,7 @@ use Rattle.md_answer.specs.AuctionAnswers.{auction_answer_of}
 use Rattle.md_answer.specs.AuctionTables.{auction_table_of}
 use Rattle.md_answer.specs.declared.answer.Answer.{Answer}
 use Rattle.md_answer.specs.declared.answer.Answer.TheVariants as answers
-use Rattle.md_mechanism_text.specs.MechanismText.{mechanism_text_of}
+use Rattle.md_mechanism_text.specs.MechanismText.{mechanism_text_of, names_another_kind}
 use Rattle.md_mechanism_text.specs.Proposals.{IsProposedFor, Proposed}
 use Rattle.md_cli_driver.specs.declared.refusal.Refusal.{Refusal}
 use Rattle.md_cli_driver.specs.declared.refusal.Refusal.TheVariants as refusal
@@ -26,9 +26,10 @@ abbrev pub mechanism_reported : Option Proposed → Result Reported Refusal
 mechanism_reported (Some proposed) = Ok (reported.Mechanism proposed)
 mechanism_reported None = Err refusal.NoTable
 
-abbrev pub mechanism_or_refusal : Result (Option Proposed) AnswerRefusal → Result Reported Refusal
-mechanism_or_refusal (Ok found) = mechanism_reported found
-mechanism_or_refusal (Err e) = Err (refusal.Answer e)
+-- the same of a text, or the text itself, where it names another kind of answer
+abbrev pub mechanism_or_other : List ℕ → Result (Option Proposed) AnswerRefusal → Result Reported Refusal
+mechanism_or_other bytes (Ok found) = mechanism_reported found
+mechanism_or_other bytes (Err e) = if names_another_kind e then Ok (reported.Other bytes) else Err (refusal.Answer e)
 
 -- ---- of an auction
 
@@ -62,10 +63,11 @@ answer_or_own (Err e) own = if names_another_word e then own_or_refusal own else
 abbrev pub auction_reported_in : SymmetricAuction → List ℕ → Result Reported Refusal
 auction_reported_in a bytes = answer_or_own (auction_answer_of a bytes) (auction_table_of a bytes)
 
--- What the second file says to be told of: of a general setting the mechanism of an answer, whichever command printed it; of an
--- auction the odds and payments of an answer, or those of an auction of the designer's own, of which nothing is claimed.
+-- What the second file says to be told of: of a general setting the mechanism of an answer, whichever command printed it, or a text
+-- that names another kind of answer; of an auction the odds and payments of an answer, or those of an auction of the designer's own, of
+-- which nothing is claimed.
 abbrev pub reported_in : SettingFile → List ℕ → Result Reported Refusal
-reported_in (General s) bytes = mechanism_or_refusal (mechanism_text_of s bytes)
+reported_in (General s) bytes = mechanism_or_other bytes (mechanism_text_of s bytes)
 reported_in (Auction a) bytes = auction_reported_in a bytes
 
 -- it has the sizes of the setting, its numbers are in their ranges, and its conditions fit the setting
@@ -73,6 +75,8 @@ abbrev pub IsReportable : SettingFile → Reported → Type 0
 IsReportable (General s) (reported.Mechanism proposed) = IsProposedFor s proposed
 IsReportable (General s) (reported.Odds interim cuts) = ⊥
 IsReportable (General s) (reported.Own interim) = ⊥
+IsReportable (General s) (reported.Other bytes) = Unit {0}
 IsReportable (Auction a) (reported.Mechanism proposed) = ⊥
 IsReportable (Auction a) (reported.Odds interim cuts) = IsInterim a interim × AreCuts (value_count a) cuts
 IsReportable (Auction a) (reported.Own interim) = IsInterim a interim
+IsReportable (Auction a) (reported.Other bytes) = ⊥

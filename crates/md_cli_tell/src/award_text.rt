@@ -95,8 +95,13 @@ fn push_price(
     }
 }
 
-// Adds that a bidder wins, where it does.
-fn push_win(alloc: Global, rows: &mut Vec<Row>, bidder: u32, wins: bool) -> Result<(), NoMemory>
+/// Adds that a bidder wins, where it does.
+pub(crate) fn push_win(
+    alloc: Global,
+    rows: &mut Vec<Row>,
+    bidder: u32,
+    wins: bool,
+) -> Result<(), NoMemory>
     ensures { OnOk result (rows.new.items ≡ rows.old.items ++ win_rows bidder wins) }
 {
     if wins {

@@ -1,19 +1,21 @@
 //! The command `run`: an outcome drawn of an answer at a profile of reports.
-ghost use Rattle.std.specs.Prelude.{◌≡◌, ◌⊎◌, ◌++◌, ◌∷◌, [], true, false, IfOk, IfErr, OnOk, MatchResult};
+ghost use Rattle.std.specs.Prelude.{◌≡◌, ◌⊎◌, ◌++◌, ◌∷◌, [], true, IfOk, IfErr, OnOk};
 ghost use Rattle.md_setting.specs.ByKind.{WhereAuction, WhereGeneral};
 ghost use Rattle.md_records.specs.Written.{text_of_records};
 ghost use Rattle.md_answer.specs.AnswerTo.{IsAnswerTo};
 ghost use Rattle.md_answer.specs.AuctionAnswerTo.{IsAuctionAnswer};
 ghost use Rattle.md_cli_driver.specs.declared.refusal.Refusal.TheVariants as refusal;
-ghost use Rattle.md_cli_tell.specs.Drawing.{IsDrawing, IsOutcomeIn, IsRun, IsRunStatus, draw_refused, drawable_in, drawn_rows, has_pays, has_table, outcome_row, pays_rows, table_or_none, winner_name};
-ghost use Rattle.md_cli_driver.specs.Reading.{Follows, is_any};
+ghost use Rattle.md_cli_driver.specs.Reading.{is_any};
 ghost use Rattle.md_cli_driver.specs.Refused.{refused, status_of};
 ghost use Rattle.md_cli_driver.specs.Saying.{said};
+ghost use Rattle.md_cli_tell.specs.Drawing.{IsDrawing, IsOutcomeIn, draw_refused, drawn_rows, has_pays, has_table, outcome_row, pays_rows, winner_name};
+ghost use Rattle.md_cli_tell.specs.Running.{IsDrawable, IsRun, IsRunStatus, drawable_in};
 
+use crate::drawable::{Drawable, read_drawable};
 use crate::profile::reports_of;
-use md_answer::{Answer, read_answer};
+use crate::sale_draw::draw_other;
+use md_answer::Answer;
 use md_cli_driver::{Answered, DONE, Refusal, TwoFiles};
-use md_mechanism_text::{Proposal, read_mechanism_text};
 use md_num::NoMemory;
 use md_parts::push_numbers;
 use md_records::{Row, write_records};
@@ -33,13 +35,13 @@ pub struct Draw<'a> {
 }
 
 impl TwoFiles for Draw<'_> {
-    type Second = Answer;
+    type Second = Drawable;
 
     ghost is_served = { is_any };
 
     ghost reading = { λ _. drawable_in };
 
-    ghost fits = { λ _ file answer. (WhereGeneral (λ s. IsAnswerTo s answer) file × WhereAuction (λ a. IsAuctionAnswer a answer) file) × (has_table answer ≡ true) };
+    ghost fits = { λ _. IsDrawable };
 
     ghost says = { λ command. IsRun command.profile.now command.first command.second };
 
@@ -49,7 +51,7 @@ impl TwoFiles for Draw<'_> {
         true
     }
 
-    fn second(&self, alloc: Global, file: &SettingFile, bytes: &[u8]) -> Result<Answer, Refusal> {
+    fn second(&self, alloc: Global, file: &SettingFile, bytes: &[u8]) -> Result<Drawable, Refusal> {
         read_drawable(alloc, file, bytes)
     }
 
@@ -57,57 +59,16 @@ impl TwoFiles for Draw<'_> {
         &self,
         alloc: Global,
         file: &SettingFile,
-        answer: &Answer,
+        drawable: &Drawable,
     ) -> Result<Answered, Refusal> {
-        drawn(alloc, file, answer, self.profile, self.first, self.second)
-    }
-}
-
-// What is drawn of: of a general setting the mechanism of an answer, and of an auction an answer with masses.
-fn read_drawable(alloc: Global, file: &SettingFile, bytes: &[u8]) -> Result<Answer, Refusal>
-    ensures follows { Follows (λ answer. answer) result (drawable_in file.now bytes.now) }
-    ensures general { IfOk result (λ answer. WhereGeneral (λ s. IsAnswerTo s answer) file.now) }
-    ensures auction { IfOk result (λ answer. WhereAuction (λ a. IsAuctionAnswer a answer) file.now) }
-    ensures table { IfOk result (λ answer. has_table answer ≡ true) }
-    ensures errors { IfErr result (λ e. (e ≡ refusal.Memory) ⊎ (status_of e ≡ 66)) }
-{
-    match file {
-        SettingFile::General(_) => table_of(read_mechanism_text(alloc, bytes, file)?),
-        SettingFile::Auction(_) => drawable(read_answer(alloc, bytes, file)?),
-    }
-}
-
-// A mechanism as an answer.
-fn table_of(found: Option<Proposal>) -> Result<Answer, Refusal>
-    ensures { result ≡ table_or_none found }
-{
-    match found {
-        Some(proposal) => Ok(Answer::Table(proposal.into_mechanism())),
-        None => Err(Refusal::NoTable),
-    }
-}
-
-// An answer of which something can be drawn.
-fn drawable(answer: Answer) -> Result<Answer, Refusal>
-    ensures { MatchResult result (λ same. (same ≡ answer) × (has_table answer ≡ true)) (λ e. (e ≡ refusal.NoTable) × (has_table answer ≡ false)) }
-{
-    if !has_table(&answer) {
-        return Err(Refusal::NoTable);
-    }
-    Ok(answer)
-}
-
-// Whether an answer has lotteries or masses.
-fn has_table(answer: &Answer) -> bool
-    ensures { result ≡ has_table answer.now }
-{
-    match answer {
-        Answer::Table(_) => true,
-        Answer::Optimal { .. } => true,
-        Answer::Infeasible { .. } => false,
-        Answer::Unbounded { .. } => true,
-        Answer::AuctionOptimal { .. } => true,
-        Answer::TooWide { .. } => false,
+        match drawable {
+            Drawable::Table(answer) => {
+                drawn(alloc, file, answer, self.profile, self.first, self.second)
+            }
+            Drawable::Other(text) => {
+                draw_other(alloc, file, text, self.profile, self.first, self.second)
+            }
+        }
     }
 }
 
@@ -136,8 +97,8 @@ fn drawn(
     }
 }
 
-// What is said where nothing is drawn.
-fn refusal_by(refusal: DrawRefusal) -> Refusal
+/// What is said where nothing is drawn.
+pub(crate) fn refusal_by(refusal: DrawRefusal) -> Refusal
     ensures { result ≡ draw_refused refusal }
 {
     match refusal {
@@ -148,8 +109,8 @@ fn refusal_by(refusal: DrawRefusal) -> Refusal
     }
 }
 
-// The records of what was drawn.
-fn told(alloc: Global, file: &SettingFile, drawn: &Drawn) -> Result<Answered, NoMemory>
+/// The records of what was drawn.
+pub(crate) fn told(alloc: Global, file: &SettingFile, drawn: &Drawn) -> Result<Answered, NoMemory>
     requires { IsOutcomeIn file.now drawn.now.outcome }
     ensures text { IfOk result (λ answered. answered.text.items ≡ text_of_records (drawn_rows file.now drawn.now)) }
     ensures status { IfOk result (λ answered. answered.status ≡ 0) }

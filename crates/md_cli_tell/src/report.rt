@@ -1,5 +1,5 @@
 //! The command `report`: what a mechanism does, and how far it is from truthful.
-ghost use Rattle.std.specs.Prelude.{IfOk};
+ghost use Rattle.std.specs.Prelude.{◌≡◌, ◌⊎◌, IfOk, IfErr};
 ghost use Rattle.md_setting.specs.Auction.{value_count};
 ghost use Rattle.md_setting.specs.declared.file.SettingFile.TheVariants as files;
 ghost use Rattle.md_lp.specs.Cuts.{AreCuts};
@@ -8,11 +8,15 @@ ghost use Rattle.md_mechanism_text.specs.Proposals.{IsProposedFor};
 ghost use Rattle.md_cli_tell.specs.Reported.{IsReportable, reported_in};
 ghost use Rattle.md_cli_driver.specs.Reading.{is_any};
 ghost use Rattle.md_cli_tell.specs.Reporting.{IsInterimText, IsMechanismText, IsOwnReporting, IsReporting, IsReportStatus};
+ghost use Rattle.md_cli_driver.specs.Refused.{refused, status_of};
 ghost use Rattle.md_cli_driver.specs.Saying.{said};
+ghost use Rattle.md_cli_driver.specs.declared.refusal.Refusal.TheVariants as refusal;
 
 use crate::conditions::conditions_told;
 use crate::realise::violated_text;
 use crate::reported::{Reported, read_reported};
+use crate::sale_report::tell_other;
+use md_answer::Supply;
 use md_auction_report::{AuctionReport, auction_report_text};
 use md_border::Interim;
 use md_cli_driver::{Answered, DONE, Refusal, TwoFiles, VIOLATED};
@@ -55,33 +59,36 @@ impl TwoFiles for Tell {
         file: &SettingFile,
         reported: &Reported,
     ) -> Result<Answered, Refusal> {
-        Ok(told(alloc, file, reported)?)
+        told(alloc, file, reported)
     }
 }
 
 // What is told of a mechanism, or of odds and payments.
-fn told(alloc: Global, file: &SettingFile, reported: &Reported) -> Result<Answered, NoMemory>
+fn told(alloc: Global, file: &SettingFile, reported: &Reported) -> Result<Answered, Refusal>
     requires { IsReportable file.now reported.now }
     ensures reporting { IfOk result (λ answered. IsReporting file.now reported.now (said answered)) }
     ensures status { IfOk result (λ answered. IsReportStatus answered.status) }
+    ensures refused { IfErr result (λ e. (e ≡ refusal.Memory) ⊎ (IsReporting file.now reported.now (refused e) × (status_of e ≡ 66))) }
 {
     match file {
         SettingFile::General(setting) => general_told(alloc, setting, reported),
-        SettingFile::Auction(auction) => auction_told(alloc, auction, reported),
+        SettingFile::Auction(auction) => Ok(auction_told(alloc, auction, reported)?),
     }
 }
 
 // The same about a general setting.
-fn general_told(alloc: Global, setting: &Setting, reported: &Reported) -> Result<Answered, NoMemory>
+fn general_told(alloc: Global, setting: &Setting, reported: &Reported) -> Result<Answered, Refusal>
     requires { IsReportable (files.General setting.now) reported.now }
     ensures reporting { IfOk result (λ answered. IsReporting (files.General setting.now) reported.now (said answered)) }
     ensures status { IfOk result (λ answered. IsReportStatus answered.status) }
+    ensures refused { IfErr result (λ e. (e ≡ refusal.Memory) ⊎ (IsReporting (files.General setting.now) reported.now (refused e) × (status_of e ≡ 66))) }
 {
     match reported {
         Reported::Mechanism(proposal) => Ok(Answered {
             status: DONE,
             text: mechanism_text(alloc, setting, proposal)?,
         }),
+        Reported::Other(text) => tell_other(alloc, setting, text),
         Reported::Odds { .. } => unreachable!(),
         Reported::Own(_) => unreachable!(),
     }
@@ -96,10 +103,11 @@ fn auction_told(alloc: Global, auction: &Auction, reported: &Reported) -> Result
     match reported {
         Reported::Odds { interim, cuts } => Ok(Answered {
             status: DONE,
-            text: interim_text(alloc, auction, interim, cuts)?,
+            text: interim_text(alloc, auction, &Supply::Item, interim, cuts)?,
         }),
         Reported::Own(interim) => own_told(alloc, auction, interim),
         Reported::Mechanism(_) => unreachable!(),
+        Reported::Other(_) => unreachable!(),
     }
 }
 
@@ -118,18 +126,19 @@ fn mechanism_text(
     Ok(text)
 }
 
-// The records about odds and payments, with some cuts.
-fn interim_text(
+/// The records about odds and payments of what is sold, with some cuts.
+pub(crate) fn interim_text(
     alloc: Global,
     auction: &Auction,
+    supply: &Supply,
     interim: &Interim,
     cuts: &Sets,
 ) -> Result<Vec<u8>, NoMemory>
     requires fits { IsInterim auction.now interim.now }
     requires cuts { AreCuts (value_count auction.now) cuts.now }
-    ensures { IfOk result (λ text. IsInterimText auction.now interim.now cuts.now text.items) }
+    ensures { IfOk result (λ text. IsInterimText supply.now auction.now interim.now cuts.now text.items) }
 {
-    let report = AuctionReport::new(alloc, auction, interim, cuts)?;
+    let report = AuctionReport::new(alloc, auction, supply, interim, cuts)?;
     let text = auction_report_text(alloc, auction, cuts, &report)?;
     Ok(text)
 }
@@ -143,7 +152,7 @@ fn own_told(alloc: Global, auction: &Auction, interim: &Interim) -> Result<Answe
     match realise(alloc, auction, interim)? {
         RealiseEnd::Table(_) => Ok(Answered {
             status: DONE,
-            text: interim_text(alloc, auction, interim, &Sets::new(alloc))?,
+            text: interim_text(alloc, auction, &Supply::Item, interim, &Sets::new(alloc))?,
         }),
         RealiseEnd::Violated(set) => Ok(Answered {
             status: VIOLATED,

@@ -10,9 +10,9 @@ ghost use Rattle.md_cli_tell.specs.Reported.{IsReportable, auction_reported_in, 
 
 use md_answer::{Answer, AnswerRefusal, Supply, read_auction_answer, read_auction_table};
 use md_border::Interim;
-use md_cli_driver::Refusal;
+use md_cli_driver::{AnswerText, Refusal};
 use md_lp::Sets;
-use md_mechanism_text::{Proposal, read_mechanism_text};
+use md_mechanism_text::{Proposal, names_another_kind, read_mechanism_text};
 use md_setting::{Auction, SettingFile};
 use std::alloc::Global;
 
@@ -25,6 +25,8 @@ pub enum Reported {
     Odds { interim: Interim, cuts: Sets },
     /// The odds and payments of an auction of the designer's own.
     Own(Interim),
+    /// A text about a general setting that names another kind of answer.
+    Other(AnswerText),
 }
 
 /// What a second file says to be told of.
@@ -38,7 +40,12 @@ pub(crate) fn read_reported(
     ensures errors { IfErr result (λ e. (e ≡ refusal.Memory) ⊎ (status_of e ≡ 66)) }
 {
     match file {
-        SettingFile::General(_) => { mechanism_reported(read_mechanism_text(alloc, bytes, file)?) }
+        SettingFile::General(_) => match read_mechanism_text(alloc, bytes, file) {
+            Err(refusal) if names_another_kind(refusal) => {
+                Ok(Reported::Other(AnswerText::copy(alloc, bytes)?))
+            }
+            read => mechanism_reported(read?),
+        },
         SettingFile::Auction(auction) => read_auction_reported(alloc, auction, bytes),
     }
 }

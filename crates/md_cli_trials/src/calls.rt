@@ -66,7 +66,7 @@ static FILES: [(&str, &str); 21] = [
 ];
 
 /// The calls. The last ones are refused.
-pub(crate) static CALLS: [Call; 45] = [
+pub(crate) static CALLS: [Call; 49] = [
     (&["audit", "one", "one-table"], 2, 0, "admissible\n"),
     (
         &["audit", "price", "above"],
@@ -137,6 +137,34 @@ pub(crate) static CALLS: [Call; 45] = [
     ),
     (&["report", "price", "above"], 2, 0, "value,2,1\n"),
     (&["report", "buyer", "buyer-answer"], 2, 0, "value,5,2\n"),
+    (&["report", "sale", "sale-answer"], 2, 0, "value,5,2\n"),
+    (
+        &["run", "sale", "sale-answer", "high", "0", "0"],
+        2,
+        0,
+        "outcome,sell\npays,1,3\n",
+    ),
+    (
+        &["report", "bidders", "bidders-units", "--units", "2"],
+        2,
+        0,
+        "value,2,1\n",
+    ),
+    (
+        &[
+            "run",
+            "bidders",
+            "bidders-units",
+            "2,2",
+            "0",
+            "0",
+            "--units",
+            "2",
+        ],
+        2,
+        0,
+        "wins,1\nwins,2\npays,1,2,2\n",
+    ),
     (
         &["iron", "buyer"],
         1,

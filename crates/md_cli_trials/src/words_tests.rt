@@ -64,7 +64,15 @@ static NUMBERS: [(&[&str], u8, &str); 41] = [
 ];
 
 // The same of other commands, and words that begin with none.
-static WORDS: [(&[&str], u8, &str); 40] = [
+static WORDS: [(&[&str], u8, &str); 48] = [
+    (&["run", "a", "b", "", "0", "7", "--units", "2"], 70, READ),
+    (&["run", "--units=0", "a", "b", "", "0", "7"], 67, NUMBER),
+    (&["run", "a", "b", "", "0", "7", "--units"], 64, USAGE),
+    (&["run", "a", "b", "", "0", "--units", "2"], 64, USAGE),
+    (&["report", "a", "--units", "13", "b"], 67, NUMBER),
+    (&["report", "a", "b", "--units", "02"], 64, USAGE),
+    (&["report", "a", "b", "--units=-1"], 67, NUMBER),
+    (&["check", "a", "b", "--units", "2"], 64, USAGE),
     (&["run", "--", "a", "b", "-l", "-3", "-1"], 70, READ),
     (&["run", "a", "b", "", "0", "7"], 70, READ),
     (&["run", "a", "b", "l", "-3", "0"], 64, USAGE),

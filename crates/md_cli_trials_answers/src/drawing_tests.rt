@@ -37,9 +37,9 @@ type Case = (
     &'static str,
 );
 
-const REFUSED_PROFILE: &str = "mechdes: profile refused\n";
+pub const REFUSED_PROFILE: &str = "mechdes: profile refused\n";
 
-const REFUSED_DRAW: &str = "mechdes: draw refused\n";
+pub const REFUSED_DRAW: &str = "mechdes: draw refused\n";
 
 static SOLD: [Case; 15] = [
     (

@@ -26,6 +26,10 @@ mod replaying_tests;
 #[cfg(test)]
 mod reporting_tests;
 #[cfg(test)]
+mod sales_told_tests;
+#[cfg(test)]
 mod tests;
 #[cfg(test)]
 mod unitcheck_tests;
+#[cfg(test)]
+mod units_told_tests;

@@ -5,17 +5,17 @@ use Rattle.clap.specs.Words.{Text}
 use Rattle.clap.proofs.OnLiterals.{clap_on_literals}
 use Rattle.md_cli_words.specs.Words.{Order, command_of}
 use Rattle.md_cli_words.specs.declared.command.Command.{Command}
-use Rattle.md_cli_words.specs.declared.command.Command.TheVariants.{Audit, Rows, Solve, Replay, Units, UnitCheck, Threshold, Award, Run, Make}
+use Rattle.md_cli_words.specs.declared.command.Command.TheVariants.{Audit, Rows, Solve, Replay, Units, UnitCheck, Threshold, Award, Run, Report, Make}
 
 -- a command of files, within a width
 abbrev of_files : Command → Text → Text → ℕ → Order
 of_files command setting second width =
-    record { command = command; setting = setting; second = second; width = width; profile = []; first_draw = pos 0; second_draw = pos 0; number = pos 0 }
+    record { command = command; setting = setting; second = second; width = width; profile = []; first_draw = pos 0; second_draw = pos 0; number = pos 0; units = None }
 
 -- a command of a number
 abbrev of_number : Command → ℤ → Order
 of_number command number =
-    record { command = command; setting = []; second = []; width = 62; profile = []; first_draw = pos 0; second_draw = pos 0; number = number }
+    record { command = command; setting = []; second = []; width = 62; profile = []; first_draw = pos 0; second_draw = pos 0; number = number; units = None }
 
 audit_of_two : command_of (codes "audit" ∷ codes "a" ∷ codes "b" ∷ []) ≡ Some (of_files Audit (codes "a") (codes "b") 62)
 unfolding clap_on_literals
@@ -58,7 +58,7 @@ no_name = refl
 part_of_a_name : command_of (codes "solv" ∷ codes "x" ∷ []) ≡ None
 part_of_a_name = refl
 
-run_at_two_draws : command_of (codes "run" ∷ codes "x" ∷ codes "y" ∷ codes "l,r" ∷ codes "12" ∷ codes "0" ∷ []) ≡ Some (record { command = Run; setting = codes "x"; second = codes "y"; width = 62; profile = codes "l,r"; first_draw = pos 12; second_draw = pos 0; number = pos 0 })
+run_at_two_draws : command_of (codes "run" ∷ codes "x" ∷ codes "y" ∷ codes "l,r" ∷ codes "12" ∷ codes "0" ∷ []) ≡ Some (record { command = Run; setting = codes "x"; second = codes "y"; width = 62; profile = codes "l,r"; first_draw = pos 12; second_draw = pos 0; number = pos 0; units = None })
 unfolding clap_on_literals
 run_at_two_draws = refl
 
@@ -82,7 +82,7 @@ make_behind_two_dashes : command_of (codes "make" ∷ codes "--" ∷ codes "-1" 
 unfolding clap_on_literals
 make_behind_two_dashes = refl
 
-units_of_two_within_4 : command_of (codes "units" ∷ codes "x" ∷ codes "2" ∷ codes "--width" ∷ codes "4" ∷ []) ≡ Some (record { command = Units; setting = codes "x"; second = []; width = 4; profile = []; first_draw = pos 0; second_draw = pos 0; number = pos 2 })
+units_of_two_within_4 : command_of (codes "units" ∷ codes "x" ∷ codes "2" ∷ codes "--width" ∷ codes "4" ∷ []) ≡ Some (record { command = Units; setting = codes "x"; second = []; width = 4; profile = []; first_draw = pos 0; second_draw = pos 0; number = pos 2; units = None })
 unfolding clap_on_literals
 units_of_two_within_4 = refl
 
@@ -94,7 +94,7 @@ drill_of_zeros : command_of (codes "drill" ∷ codes "01" ∷ []) ≡ None
 unfolding clap_on_literals
 drill_of_zeros = refl
 
-unitcheck_of_two : command_of (codes "unitcheck" ∷ codes "x" ∷ codes "2" ∷ codes "y" ∷ []) ≡ Some (record { command = UnitCheck; setting = codes "x"; second = codes "y"; width = 62; profile = []; first_draw = pos 0; second_draw = pos 0; number = pos 2 })
+unitcheck_of_two : command_of (codes "unitcheck" ∷ codes "x" ∷ codes "2" ∷ codes "y" ∷ []) ≡ Some (record { command = UnitCheck; setting = codes "x"; second = codes "y"; width = 62; profile = []; first_draw = pos 0; second_draw = pos 0; number = pos 2; units = None })
 unfolding clap_on_literals
 unitcheck_of_two = refl
 
@@ -102,7 +102,7 @@ unitcheck_without_an_answer : command_of (codes "unitcheck" ∷ codes "x" ∷ co
 unfolding clap_on_literals
 unitcheck_without_an_answer = refl
 
-threshold_of_two : command_of (codes "threshold" ∷ codes "x" ∷ codes "2" ∷ []) ≡ Some (record { command = Threshold; setting = codes "x"; second = []; width = 62; profile = []; first_draw = pos 0; second_draw = pos 0; number = pos 2 })
+threshold_of_two : command_of (codes "threshold" ∷ codes "x" ∷ codes "2" ∷ []) ≡ Some (record { command = Threshold; setting = codes "x"; second = []; width = 62; profile = []; first_draw = pos 0; second_draw = pos 0; number = pos 2; units = None })
 unfolding clap_on_literals
 threshold_of_two = refl
 
@@ -110,10 +110,26 @@ threshold_within_a_width : command_of (codes "threshold" ∷ codes "x" ∷ codes
 unfolding clap_on_literals
 threshold_within_a_width = refl
 
-award_of_two : command_of (codes "award" ∷ codes "x" ∷ codes "2" ∷ codes "3,5" ∷ codes "1" ∷ []) ≡ Some (record { command = Award; setting = codes "x"; second = []; width = 62; profile = codes "3,5"; first_draw = pos 1; second_draw = pos 0; number = pos 2 })
+award_of_two : command_of (codes "award" ∷ codes "x" ∷ codes "2" ∷ codes "3,5" ∷ codes "1" ∷ []) ≡ Some (record { command = Award; setting = codes "x"; second = []; width = 62; profile = codes "3,5"; first_draw = pos 1; second_draw = pos 0; number = pos 2; units = None })
 unfolding clap_on_literals
 award_of_two = refl
 
 award_without_a_draw : command_of (codes "award" ∷ codes "x" ∷ codes "2" ∷ codes "3,5" ∷ []) ≡ None
 unfolding clap_on_literals
 award_without_a_draw = refl
+
+run_of_two_units : command_of (codes "run" ∷ codes "x" ∷ codes "y" ∷ codes "3,5" ∷ codes "12" ∷ codes "0" ∷ codes "--units" ∷ codes "2" ∷ []) ≡ Some (record { command = Run; setting = codes "x"; second = codes "y"; width = 62; profile = codes "3,5"; first_draw = pos 12; second_draw = pos 0; number = pos 0; units = Some (pos 2) })
+unfolding clap_on_literals
+run_of_two_units = refl
+
+report_of_no_units : command_of (codes "report" ∷ codes "x" ∷ codes "y" ∷ codes "--units" ∷ codes "0" ∷ []) ≡ Some (record { command = Report; setting = codes "x"; second = codes "y"; width = 62; profile = []; first_draw = pos 0; second_draw = pos 0; number = pos 0; units = Some (pos 0) })
+unfolding clap_on_literals
+report_of_no_units = refl
+
+report_of_units_in_words : command_of (codes "report" ∷ codes "x" ∷ codes "y" ∷ codes "--units" ∷ codes "two" ∷ []) ≡ None
+unfolding clap_on_literals
+report_of_units_in_words = refl
+
+report_within_a_width : command_of (codes "report" ∷ codes "x" ∷ codes "y" ∷ codes "--width" ∷ codes "4" ∷ []) ≡ None
+unfolding clap_on_literals
+report_within_a_width = refl

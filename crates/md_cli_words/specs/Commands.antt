@@ -20,8 +20,8 @@
 --   award SETTING NUMBER PROFILE DRAW
 --   determ SETTING [--width W]
 --   determcheck SETTING ANSWER
---   run SETTING ANSWER PROFILE DRAW1 DRAW2
---   report SETTING ANSWER
+--   run SETTING ANSWER PROFILE DRAW1 DRAW2 [--units NUMBER]
+--   report SETTING ANSWER [--units NUMBER]
 --   iron SETTING
 --   ironunits SETTING NUMBER
 --   make NUMBER
@@ -32,7 +32,7 @@ use Rattle.clap.specs.Words.{Text}
 use Rattle.md_cli_words.specs.declared.command.Command.{Command}
 use Rattle.md_cli_words.specs.declared.command.Command.TheVariants.{Audit, Rows, Check, Solve, Replay, Realise, Fair, Find, FindFair, FairCheck, Require, RequireCheck, Asym, AsymCheck, Units, UnitCheck, Threshold, Award, Determ, DetermCheck, Run, Report, Iron, IronUnits, Make, Drill}
 use Rattle.md_cli_words.specs.declared.form.Form.{Form}
-use Rattle.md_cli_words.specs.declared.form.Form.TheVariants.{One, OneWidth, Two, TwoWidth, NumberWidth, OneNumber, TwoNumber, NumberDraw, Draws, Number}
+use Rattle.md_cli_words.specs.declared.form.Form.TheVariants.{One, OneWidth, Two, TwoWidth, TwoUnits, NumberWidth, OneNumber, TwoNumber, NumberDraw, Draws, Number}
 
 -- The command of a name. A text is a list of bytes, and the name is compared byte by byte: a part of a name, or one in
 -- other letters, is none.
@@ -71,7 +71,7 @@ abbrev pub command_in : List Text → Option Command
 command_in [] = None
 command_in (word ∷ more) = command_named word
 
--- which arguments have to be there, and whether a width may be asked for
+-- which arguments have to be there, and whether a width or a number of units may be asked for
 abbrev pub form_of : Command → Form
 form_of Rows = One
 form_of Solve = OneWidth
@@ -94,7 +94,7 @@ form_of Award = NumberDraw
 form_of Determ = OneWidth
 form_of DetermCheck = Two
 form_of Run = Draws
-form_of Report = Two
+form_of Report = TwoUnits
 form_of Iron = One
 form_of IronUnits = OneNumber
 form_of Make = Number

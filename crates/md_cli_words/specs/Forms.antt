@@ -6,7 +6,7 @@
 use Rattle.std.specs.Prelude.{◌==◌, List, length, Option, Some, None, true, codes, if◌then◌else◌}
 use Rattle.clap.specs.Words.{App, Row, Rule, Text, fault_of, matches_of, new_app, new_rule, with_rule}
 use Rattle.md_cli_words.specs.declared.form.Form.{Form}
-use Rattle.md_cli_words.specs.declared.form.Form.TheVariants.{One, OneWidth, Two, TwoWidth, NumberWidth, OneNumber, TwoNumber, NumberDraw, Draws, Number}
+use Rattle.md_cli_words.specs.declared.form.Form.TheVariants.{One, OneWidth, Two, TwoWidth, TwoUnits, NumberWidth, OneNumber, TwoNumber, NumberDraw, Draws, Number}
 
 -- an argument known by its place, which has to be there
 abbrev pub place_rule : Text → Rule
@@ -15,6 +15,10 @@ place_rule id = record (new_rule id) { required = true }
 -- the option --width, which takes one value and need not be there
 abbrev pub width_rule : Rule
 width_rule = record (new_rule (codes "width")) { long = Some (codes "width") }
+
+-- the option --units, likewise
+abbrev pub units_rule : Rule
+units_rule = record (new_rule (codes "units")) { long = Some (codes "units") }
 
 -- no argument
 abbrev pub no_place : App
@@ -43,11 +47,12 @@ app_of_form One = with_place no_place (codes "first")
 app_of_form OneWidth = with_rule (with_place no_place (codes "first")) width_rule
 app_of_form Two = with_files no_place
 app_of_form TwoWidth = with_rule (with_files no_place) width_rule
+app_of_form TwoUnits = with_rule (with_files no_place) units_rule
 app_of_form NumberWidth = with_rule (with_number no_place) width_rule
 app_of_form OneNumber = with_number no_place
 app_of_form TwoNumber = with_place (with_number no_place) (codes "second")
 app_of_form NumberDraw = with_draw (with_number no_place)
-app_of_form Draws = with_draws (with_files no_place)
+app_of_form Draws = with_rule (with_draws (with_files no_place)) units_rule
 app_of_form Number = with_place no_place (codes "number")
 
 -- The arguments that a command of clap finds in the words: a row for each, with its id and values. None where it

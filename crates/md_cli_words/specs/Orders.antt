@@ -12,4 +12,5 @@ asked held = record {
   first_draw = held.first_draw;
   second_draw = held.second_draw;
   number = held.number;
+  units = held.units;
 }

@@ -9,7 +9,7 @@ use Rattle.md_cli_words.specs.Forms.{app_of_form, arguments_of}
 use Rattle.md_cli_words.specs.declared.command.Command.{Command}
 
 -- a command with what it is asked for: the names of its files and its width, the profile and the draws at which an outcome
--- is drawn, and the number of a setting or of units
+-- is drawn, the number of a setting or of units, and the number of units where --units asks for one
 pub record Order : Type 0 where
   pub command : Command
   pub setting : Text
@@ -19,6 +19,7 @@ pub record Order : Type 0 where
   pub first_draw : ℤ
   pub second_draw : ℤ
   pub number : ℤ
+  pub units : Option ℤ
 
 -- ---- the width
 
@@ -56,6 +57,11 @@ abbrev pub number_or_zero : Option Text → Option ℤ
 number_or_zero None = Some (pos 0)
 number_or_zero (Some text) = number_of text
 
+-- the number that an option says; where the option is not there, none
+abbrev pub number_or_none : Option Text → Option (Option ℤ)
+number_or_none None = Some None
+number_or_none (Some text) = option_map (λ number. Some number) (number_of text)
+
 -- ---- the arguments that clap found, by their ids
 
 -- a text, or the empty one
@@ -71,12 +77,15 @@ text_in id found = text_or_empty (first_of id found)
 abbrev pub number_in : Text → List Row → Option ℤ
 number_in id found = number_or_zero (first_of id found)
 
+abbrev pub units_in : List Row → Option (Option ℤ)
+units_in found = number_or_none (first_of (codes "units") found)
+
 abbrev pub width_in : List Row → Option ℕ
 width_in found = width_or_greatest (first_of (codes "width") found)
 
 -- the order with these numbers
-abbrev pub order_with : Command → List Row → ℕ → ℤ → ℤ → ℤ → Order
-order_with command found width first second number = record {
+abbrev pub order_with : Command → List Row → ℕ → ℤ → ℤ → ℤ → Option ℤ → Order
+order_with command found width first second number units = record {
   command = command;
   setting = text_in (codes "first") found;
   second = text_in (codes "second") found;
@@ -85,14 +94,17 @@ order_with command found width first second number = record {
   first_draw = first;
   second_draw = second;
   number = number;
+  units = units;
 }
 
--- a command with the arguments that were found; none where a width, a draw or a number is no such text
+-- a command with the arguments that were found; none where a width, a draw or a number, also of units, is no such text
 abbrev pub order_of_found : Command → List Row → Option Order
 order_of_found command found =
     option_and_then
     (λ width. option_and_then
-    (λ first. option_and_then (λ second. option_map (order_with command found width first second) (number_in (codes "number") found)) (number_in (codes "second_draw") found))
+    (λ first. option_and_then
+    (λ second. option_and_then (λ number. option_map (order_with command found width first second number) (units_in found)) (number_in (codes "number") found))
+    (number_in (codes "second_draw") found))
     (number_in (codes "first_draw") found))
     (width_in found)
 

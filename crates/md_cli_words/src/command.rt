@@ -47,9 +47,11 @@ pub enum Command {
     Determ,
     /// `determcheck SETTING ANSWER` checks an answer about the deterministic mechanisms of a setting.
     DetermCheck,
-    /// `run SETTING ANSWER PROFILE DRAW1 DRAW2` draws an outcome of an answer at a profile of reports.
+    /// `run SETTING ANSWER PROFILE DRAW1 DRAW2 [--units NUMBER]` draws an outcome of an answer at a profile of reports, or who gets one
+    /// of so many units.
     Run,
-    /// `report SETTING ANSWER` tells what the mechanism of an answer does, and how far it is from truthful.
+    /// `report SETTING ANSWER [--units NUMBER]` tells what the mechanism of an answer does, also of one about so many units, and how far
+    /// it is from truthful.
     Report,
     /// `iron SETTING` gives an optimal mechanism of an auction in closed form.
     Iron,
@@ -117,8 +119,8 @@ pub(crate) fn form(command: Command) -> Form
         | Command::Require
         | Command::RequireCheck
         | Command::AsymCheck
-        | Command::DetermCheck
-        | Command::Report => Form::Two,
+        | Command::DetermCheck => Form::Two,
+        Command::Report => Form::TwoUnits,
         Command::Replay => Form::TwoWidth,
         Command::Units => Form::NumberWidth,
         Command::UnitCheck => Form::TwoNumber,

@@ -1,12 +1,12 @@
 //! The forms that the arguments of commands have, each with the command of `clap` that reads it.
 ghost use Rattle.std.specs.Prelude.{◌≡◌, IfOk};
 ghost use Rattle.clap.specs.Words.{app_of, with_rule};
-ghost use Rattle.md_cli_words.specs.Forms.{app_of_form, place_rule, width_rule, with_draw, with_draws, with_files, with_number};
+ghost use Rattle.md_cli_words.specs.Forms.{app_of_form, place_rule, units_rule, width_rule, with_draw, with_draws, with_files, with_number};
 
 use clap::{Arg, Command};
 use std::alloc::{AllocError, Global};
 
-/// How many arguments stand in a row, and whether the option `--width` may stand among them.
+/// How many arguments stand in a row, and whether the option `--width` or `--units` may stand among them.
 #[derive(Clone, Copy)]
 pub(crate) enum Form {
     /// One argument.
@@ -17,6 +17,8 @@ pub(crate) enum Form {
     Two,
     /// Two arguments, and a width or none.
     TwoWidth,
+    /// Two arguments, and a number of units or none.
+    TwoUnits,
     /// One argument, a number, and a width or none.
     NumberWidth,
     /// One argument and a number.
@@ -25,7 +27,7 @@ pub(crate) enum Form {
     TwoNumber,
     /// One argument, a number, a profile and a draw.
     NumberDraw,
-    /// Two arguments, a profile and two draws.
+    /// Two arguments, a profile, two draws, and a number of units or none.
     Draws,
     /// A number.
     Number,
@@ -49,6 +51,14 @@ fn with_width(alloc: Global, command: Command<'_>) -> Result<Command<'_>, AllocE
 {
     let width = Arg::new(alloc, "width").long("width");
     command.arg(width)
+}
+
+// The command with the option `--units`, which takes one value.
+fn with_units(alloc: Global, command: Command<'_>) -> Result<Command<'_>, AllocError>
+    ensures { IfOk result (λ more. app_of more ≡ with_rule (app_of command.entry) units_rule) }
+{
+    let units = Arg::new(alloc, "units").long("units");
+    command.arg(units)
 }
 
 // The command with two arguments, which are the names of files.
@@ -99,6 +109,10 @@ pub(crate) fn reader_of<'a>(alloc: Global, form: Form) -> Result<Command<'a>, Al
             let two = with_files(alloc, bare)?;
             with_width(alloc, two)
         }
+        Form::TwoUnits => {
+            let two = with_files(alloc, bare)?;
+            with_units(alloc, two)
+        }
         Form::NumberWidth => {
             let two = with_number(alloc, bare)?;
             with_width(alloc, two)
@@ -114,7 +128,8 @@ pub(crate) fn reader_of<'a>(alloc: Global, form: Form) -> Result<Command<'a>, Al
         }
         Form::Draws => {
             let two = with_files(alloc, bare)?;
-            with_draws(alloc, two)
+            let draws = with_draws(alloc, two)?;
+            with_units(alloc, draws)
         }
         Form::Number => with_place(alloc, bare, "number"),
     }

@@ -3,7 +3,7 @@ ghost use Rattle.std.specs.Prelude.{◌≡◌, IfOk, IfErr, IsSome, map, option_
 ghost use Rattle.clap.specs.Words.{found_of, rows_of};
 ghost use Rattle.md_cli_words.specs.Commands.{command_in};
 ghost use Rattle.md_cli_words.specs.Orders.{asked};
-ghost use Rattle.md_cli_words.specs.Words.{command_of, number_in, number_of, order_in, order_of_found, text_in, width_in, width_of, width_of_number};
+ghost use Rattle.md_cli_words.specs.Words.{command_of, number_in, number_of, order_in, order_of_found, text_in, units_in, width_in, width_of, width_of_number};
 
 use crate::command::{Command, command_in, form};
 use crate::cut::{cut, text_of};
@@ -34,12 +34,14 @@ pub struct Order<'a> {
     pub second_draw: i128,
     /// The number that stands for a setting, or how many units are sold.
     pub number: i128,
+    /// How many units an answer is about, where `--units` says so.
+    pub units: Option<i128>,
 }
 
 /// What the words of a call ask for, the first of which names the command.
 ///
 /// None where they are no command: the first is missing or no name, `clap` refuses the rest, a call for help included,
-/// a width is no whole number from 4 to 62, or a draw or a number is no whole number of at most 126 bits.
+/// a width is no whole number from 4 to 62, or a draw or a number, also of units, is no whole number of at most 126 bits.
 pub fn order_of<'a>(alloc: Global, words: &'a [String]) -> Result<Option<Order<'a>>, NoMemory>
     // The order that the definition gives for the words, and none where it gives none.
     ensures asked { IfOk result (λ order. option_map asked order ≡ command_of (map string_bytes words.entry.now)) }
@@ -83,6 +85,7 @@ fn order_from<'a>(command: Command, matches: &ArgMatches<'a>) -> Option<Order<'a
         first_draw: number_from(matches, "first_draw")?,
         second_draw: number_from(matches, "second_draw")?,
         number: number_from(matches, "number")?,
+        units: units_from(matches)?,
     })
 }
 
@@ -100,6 +103,16 @@ fn number_from(matches: &ArgMatches<'_>, id: &str) -> Option<i128>
     match text_of(matches, id) {
         Some(text) => read_number(text),
         None => Some(0),
+    }
+}
+
+// The number of units that `--units` asks for, if it is there; None where it says no number.
+fn units_from(matches: &ArgMatches<'_>) -> Option<Option<i128>>
+    ensures { result ≡ units_in (rows_of (found_of matches.now)) }
+{
+    match text_of(matches, "units") {
+        Some(text) => Some(Some(read_number(text)?)),
+        None => Some(None),
     }
 }
 

@@ -6,4 +6,4 @@ mod proposal;
 mod reading;
 
 pub use proposal::Proposal;
-pub use reading::read_mechanism_text;
+pub use reading::{names_another_kind, read_mechanism_text};

@@ -52,8 +52,8 @@ pub fn read_mechanism_text(
     }
 }
 
-// Whether an answer is refused since its first record names another kind of answers.
-fn names_another_kind(refusal: AnswerRefusal) -> bool
+/// Whether an answer is refused since its first record names another kind of answers.
+pub fn names_another_kind(refusal: AnswerRefusal) -> bool
     ensures { result ≡ names_another_kind refusal }
 {
     matches!(refusal, AnswerRefusal::Cell(1, 3))

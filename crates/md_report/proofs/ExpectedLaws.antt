@@ -17,13 +17,13 @@ use Rattle.md_space.proofs.TypeSums.{total_given-same, total_given-*ℤ}
 use Rattle.md_setting.specs.Setting.{GeneralSetting}
 use Rattle.md_setting.specs.Meaning.{sizes_of, weight_of, marginal_of}
 use Rattle.md_setting.specs.Shaped.{IsShaped}
-use Rattle.md_mech.specs.Accepted.{IsAccepted}
 use Rattle.md_mech.specs.declared.mechanism.Mechanism.{Mechanism}
 use Rattle.md_mech.specs.Utility.{weighted_given}
 use Rattle.md_report.specs.declared.amount.Amount.{Amount}
 use Rattle.md_report.specs.declared.amount.Sum.{Sum}
 use Rattle.md_report.specs.Amounts.{amount_of, sum_of}
 use Rattle.md_report.specs.Averages.{weighted}
+use Rattle.md_report.specs.Numbers.{AreNumbers}
 use Rattle.md_report.proofs.MeasureLaws.{amount-within, sum-within}
 
 -- ---- over all profiles
@@ -35,15 +35,15 @@ sum_term s m measure r = weight_of s (profile_at (sizes_of s) r) *ℤ sum_of s m
 pub weighted-by_rank : (s : GeneralSetting) (m : Mechanism) (measure : Sum) → weighted s (sum_of s m measure) ≡ sum_to (profile_count (sizes_of s)) (sum_term s m measure)
 weighted-by_rank s m measure = total_by-profiles (sizes_of s) (λ t. weight_of s t *ℤ sum_of s m measure t)
 
-pub weighted-within : (s : GeneralSetting) (m : Mechanism) (measure : Sum) (k : ℕ) → IsAccepted s m → IsShaped s → k ≤ profile_count (sizes_of s)
+pub weighted-within : (s : GeneralSetting) (m : Mechanism) (measure : Sum) (k : ℕ) → AreNumbers s m → IsShaped s → k ≤ profile_count (sizes_of s)
     → IsWithin (2 ^ 125) (sum_to k (sum_term s m measure))
-weighted-within s m measure k accepted shaped fits =
+weighted-within s m measure k numbers shaped fits =
     let few : k ≤ 1024 = omega (arith, fits, shaped.listed.space.few_profiles) in
     IsWithin-wider (k * (1000000 * 2 ^ 94)) (2 ^ 125) (sum_to k (sum_term s m measure)) (omega (arith, mul-le-mul few (le_refl (1000000 * 2 ^ 94))))
     (sum_to-within k (1000000 * 2 ^ 94) (sum_term s m measure)
     (λ r l. IsWithin-*ℤ 1000000 (2 ^ 94) (weight_of s (profile_at (sizes_of s) r)) (sum_of s m measure (profile_at (sizes_of s) r))
     (shaped.weight (profile_at (sizes_of s) r) (profile_at-IsProfile (sizes_of s) r (omega (arith, l, fits)))).within
-    (sum-within s m measure (profile_at (sizes_of s) r) accepted shaped)))
+    (sum-within s m measure (profile_at (sizes_of s) r) numbers shaped)))
 
 -- ---- given a type
 
@@ -54,24 +54,24 @@ pub given-by_rank : (s : GeneralSetting) (m : Mechanism) (i a : ℕ) (measure : 
     → weighted_given s i a (amount_of s m i measure) ≡ sum_to (profile_count (sizes_of s)) (given_term s m i a measure)
 given-by_rank s m i a measure = total_by-profiles (sizes_of s) (where_type i a (λ t. weight_of s t *ℤ amount_of s m i measure t))
 
-pub term-within : (s : GeneralSetting) (m : Mechanism) (i a r : ℕ) (measure : Amount) → IsAccepted s m → IsShaped s → r < profile_count (sizes_of s)
+pub term-within : (s : GeneralSetting) (m : Mechanism) (i a r : ℕ) (measure : Amount) → AreNumbers s m → IsShaped s → r < profile_count (sizes_of s)
     → IsWithin (1000000 * 2 ^ 91) (given_term s m i a measure r)
-term-within s m i a r measure accepted shaped below =
+term-within s m i a r measure numbers shaped below =
     let t = profile_at (sizes_of s) r in
     let here : IsWithin (1000000 * 2 ^ 91) (weight_of s t *ℤ amount_of s m i measure t) =
     IsWithin-*ℤ 1000000 (2 ^ 91) (weight_of s t) (amount_of s m i measure t) (shaped.weight t (profile_at-IsProfile (sizes_of s) r below)).within
-    (amount-within s m i measure t accepted shaped) in
+    (amount-within s m i measure t numbers shaped) in
     elim (cases_Bool (slice_index t i == a)) [
       | inl same ↦ rw same here
       | inr other ↦ rw other (IsWithin-zero (1000000 * 2 ^ 91))
     ]
 
-pub given-within : (s : GeneralSetting) (m : Mechanism) (i a k : ℕ) (measure : Amount) → IsAccepted s m → IsShaped s → k ≤ profile_count (sizes_of s)
+pub given-within : (s : GeneralSetting) (m : Mechanism) (i a k : ℕ) (measure : Amount) → AreNumbers s m → IsShaped s → k ≤ profile_count (sizes_of s)
     → IsWithin (2 ^ 122) (sum_to k (given_term s m i a measure))
-given-within s m i a k measure accepted shaped fits =
+given-within s m i a k measure numbers shaped fits =
     let few : k ≤ 1024 = omega (arith, fits, shaped.listed.space.few_profiles) in
     IsWithin-wider (k * (1000000 * 2 ^ 91)) (2 ^ 122) (sum_to k (given_term s m i a measure)) (omega (arith, mul-le-mul few (le_refl (1000000 * 2 ^ 91))))
-    (sum_to-within k (1000000 * 2 ^ 91) (given_term s m i a measure) (λ r l. term-within s m i a r measure accepted shaped (omega (arith, l, fits))))
+    (sum_to-within k (1000000 * 2 ^ 91) (given_term s m i a measure) (λ r l. term-within s m i a r measure numbers shaped (omega (arith, l, fits))))
 
 -- ---- what a sum by weight is of a difference, and of a number that does not change
 

@@ -1,3 +1,4 @@
+pub mod NumberLaws
 pub mod RatioLaws
 pub mod MeasureLaws
 pub mod ExpectedLaws
@@ -11,3 +12,5 @@ pub mod SoundLaws
 pub mod AdmissibleLaws
 pub mod ToldLaws
 pub mod RecordLaws
+pub mod Scaling
+pub mod FigureLaws

@@ -1,26 +1,28 @@
 -- What is missed of a condition is by how much its left side falls short of its right side.
-use Rattle.std.proofs.Common.{◌≡◌, ◌↔◌, ℕ, ℤ, pos, ◌-ℤ◌, ◌*ℤ◌, neg_ℤ, ◌≤ℤ◌, ◌<ℤ◌, slice_index, refl, ap, ◌∙◌, arith}
+use Rattle.std.proofs.Common.{◌≡◌, ◌↔◌, ℕ, ◌<◌, ℤ, pos, ◌-ℤ◌, ◌*ℤ◌, neg_ℤ, ◌≤ℤ◌, ◌<ℤ◌, Bool, true, false, [], ◌∷◌, ◌++◌, All, length, slice_index, Some, refl, ap, ◌∙◌, subst, arith}
+use Rattle.std.specs.Prelude.{slice_get}
 use Rattle.std.proofs.lemmas.Int.{ints}
+use Rattle.std.proofs.lemmas.List.Elements.{All-nil, All-append}
+use Rattle.std.proofs.lemmas.Option.{slice_get_within, get_or_from_slice_get}
+use Rattle.md_math.proofs.Builders.{All-up_to}
 use Rattle.md_math.proofs.Ring.{linear}
-use Rattle.md_space.specs.Profiles.{profile_at, replaced}
-use Rattle.md_space.proofs.Ranks.{profile_at-IsProfile}
+use Rattle.md_space.specs.Profiles.{profile_count, profile_at, replaced}
+use Rattle.md_setting.specs.declared.kinds.Truth.{Truth}
+use Rattle.md_setting.specs.declared.kinds.Truth.TheVariants.{Dominant, Bayes}
+use Rattle.md_setting.specs.declared.kinds.Rational.{Rational}
+use Rattle.md_setting.specs.declared.kinds.Rational.TheVariants.{None as Free, ExPost, Interim}
 use Rattle.md_setting.specs.Setting.{GeneralSetting}
-use Rattle.md_setting.specs.Meaning.{sizes_of, outside_of}
-use Rattle.md_mech.specs.Accepted.{IsAccepted}
-use Rattle.md_mech.specs.declared.condition.Condition.{Condition as Code}
-use Rattle.md_mech.specs.declared.condition.Condition.TheVariants.{Dominant, Bayes, ExPost, Interim, Deficit, Profile}
+use Rattle.md_setting.specs.Meaning.{agent_count, sizes_of, outside_of}
 use Rattle.md_mech.specs.declared.mechanism.Mechanism.{Mechanism}
-use Rattle.md_mech.specs.Conditions.{named, IsInside}
-use Rattle.md_mech.specs.Rows.{bayes_row, interim_row, left_of, right_of}
+use Rattle.md_mech.specs.Rows.{Condition, dominant_row, bayes_row, ex_post_row, interim_row, deficit_row, left_of, right_of, by_report, truth_rows, rational_rows, deficit_rows, demand_rows, dominant_rows, bayes_rows, ex_post_rows, interim_rows}
 use Rattle.md_mech.specs.Utility.{expected_utility, weighted_given}
+use Rattle.md_mech.proofs.RowLaws.{all-by_report, all-one}
+use Rattle.md_report.specs.Regret.{payments_at}
 use Rattle.md_report.specs.Shortfalls.{missed}
 use Rattle.md_report.proofs.ExpectedLaws.{given-sub, given-constant}
 
 from_nothing : (z : ℤ) → neg_ℤ z ≡ pos 0 -ℤ z
 from_nothing z = omega (arith, linear)
-
-all_there : (whole sum : ℤ) → sum ≡ whole → pos 0 ≡ whole -ℤ sum
-all_there whole sum e = omega (arith, linear, e)
 
 pub bayes-missed : (s : GeneralSetting) (m : Mechanism) (i a b : ℕ) → missed s m (bayes_row i a b) ≡ right_of s m (bayes_row i a b) -ℤ left_of s m (bayes_row i a b)
 bayes-missed s m i a b = given-sub s i a (λ t. expected_utility s m i t (replaced t i b)) (λ t. expected_utility s m i t t)
@@ -31,20 +33,54 @@ interim-missed s m i a =
     ∙ ap (λ z. z -ℤ weighted_given s i a (λ t. expected_utility s m i t t))
     (given-constant s i a (m.den *ℤ outside_of s i a) (λ t. m.den *ℤ outside_of s i (slice_index t i)) (λ t e. ap (λ b. m.den *ℤ outside_of s i b) e))
 
-pub missed-is : (s : GeneralSetting) (m : Mechanism) (c : Code) → IsAccepted s m → IsInside s c → missed s m (named s c) ≡ right_of s m (named s c) -ℤ left_of s m (named s c)
-missed-is s m (Dominant i r b) accepted inside = refl
-missed-is s m (Bayes i a b) accepted inside = bayes-missed s m i a b
-missed-is s m (ExPost i r) accepted inside = refl
-missed-is s m (Interim i a) accepted inside = interim-missed s m i a
-missed-is s m (Deficit r) accepted inside = from_nothing _
-missed-is s m (Profile r) accepted inside =
-    all_there m.den _ (accepted.mechanism.whole (profile_at (sizes_of s) r) (profile_at-IsProfile (sizes_of s) r inside))
+-- a condition of which this is so
+abbrev pub IsMissedOf : GeneralSetting → Mechanism → Condition → Type 0
+IsMissedOf s m c = missed s m c ≡ right_of s m c -ℤ left_of s m c
+
+truth-missed : (kind : Truth) (s : GeneralSetting) (m : Mechanism) → All (IsMissedOf s m) (truth_rows kind s)
+truth-missed Dominant s m =
+    All-up_to (IsMissedOf s m) (agent_count s) (dominant_rows s)
+    (λ i h. All-up_to (IsMissedOf s m) (profile_count (sizes_of s)) (λ r. by_report (slice_index (sizes_of s) i) (slice_index (profile_at (sizes_of s) r) i) (dominant_row i (profile_at (sizes_of s) r)))
+    (λ r l. all-by_report (IsMissedOf s m) (slice_index (sizes_of s) i) (slice_index (profile_at (sizes_of s) r) i) (dominant_row i (profile_at (sizes_of s) r)) (λ b k. refl)))
+truth-missed Bayes s m =
+    All-up_to (IsMissedOf s m) (agent_count s) (bayes_rows s)
+    (λ i h. All-up_to (IsMissedOf s m) (slice_index (sizes_of s) i) (λ a. by_report (slice_index (sizes_of s) i) a (bayes_row i a))
+    (λ a l. all-by_report (IsMissedOf s m) (slice_index (sizes_of s) i) a (bayes_row i a) (λ b k. bayes-missed s m i a b)))
+
+rational-missed : (kind : Rational) (s : GeneralSetting) (m : Mechanism) → All (IsMissedOf s m) (rational_rows kind s)
+rational-missed Free s m = All-nil (IsMissedOf s m)
+rational-missed ExPost s m =
+    All-up_to (IsMissedOf s m) (agent_count s) (ex_post_rows s)
+    (λ i h. All-up_to (IsMissedOf s m) (profile_count (sizes_of s)) (λ r. ex_post_row i (profile_at (sizes_of s) r) ∷ [])
+    (λ r l. all-one (IsMissedOf s m) (ex_post_row i (profile_at (sizes_of s) r)) refl))
+rational-missed Interim s m =
+    All-up_to (IsMissedOf s m) (agent_count s) (interim_rows s)
+    (λ i h. All-up_to (IsMissedOf s m) (slice_index (sizes_of s) i) (λ a. interim_row i a ∷ [])
+    (λ a l. all-one (IsMissedOf s m) (interim_row i a) (interim-missed s m i a)))
+
+deficit-missed : (on : Bool) (s : GeneralSetting) (m : Mechanism) → All (IsMissedOf s m) (deficit_rows on s)
+deficit-missed true s m =
+    All-up_to (IsMissedOf s m) (profile_count (sizes_of s)) (λ r. deficit_row (profile_at (sizes_of s) r) ∷ [])
+    (λ r l. all-one (IsMissedOf s m) (deficit_row (profile_at (sizes_of s) r)) (from_nothing (payments_at s m (profile_at (sizes_of s) r))))
+deficit-missed false s m = All-nil (IsMissedOf s m)
+
+-- each condition on truth, rationality and the deficit
+demands-missed : (s : GeneralSetting) (m : Mechanism) → All (IsMissedOf s m) (demand_rows s)
+demands-missed s m =
+    All-append (IsMissedOf s m) (truth_rows s.truth s ++ rational_rows s.rational s) (deficit_rows s.no_deficit s)
+    (All-append (IsMissedOf s m) (truth_rows s.truth s) (rational_rows s.rational s) (truth-missed s.truth s m) (rational-missed s.rational s m))
+    (deficit-missed s.no_deficit s m)
+
+demand-missed : (s : GeneralSetting) (m : Mechanism) (c : Condition) (row : ℕ) → slice_get (demand_rows s) row ≡ Some c → IsMissedOf s m c
+demand-missed s m c row e =
+    let inside : row < length (demand_rows s) = slice_get_within (demand_rows s) row c e in
+    subst (IsMissedOf s m) (get_or_from_slice_get (demand_rows s) row c c e) (demands-missed s m row c inside)
 
 above : (d : ℤ) → pos 1 ≤ℤ d → pos 0 <ℤ d
 above d h = omega (arith, ints, h)
 
-pub den-positive : (s : GeneralSetting) (m : Mechanism) → IsAccepted s m → pos 0 <ℤ m.den
-den-positive s m accepted = above m.den accepted.mechanism.den
+pub den-positive : (m : Mechanism) → pos 1 ≤ℤ m.den → pos 0 <ℤ m.den
+den-positive m h = above m.den h
 
 pub at_most_0 : (l r x : ℤ) → x ≡ r -ℤ l → (r ≤ℤ l) ↔ (x ≤ℤ pos 0)
 at_most_0 l r x e = ((λ h. omega (arith, linear, e, h)), (λ h. omega (arith, linear, e, h)))
@@ -53,5 +89,5 @@ same-0 : (l r x : ℤ) → x ≡ r -ℤ l → (x ≡ pos 0) ↔ (l -ℤ r ≡ po
 same-0 l r x e = ((λ h. omega (arith, linear, e, h)), (λ h. omega (arith, linear, e, h)))
 
 -- it holds with equality where what is missed is 0
-pub tight-missed : (s : GeneralSetting) (m : Mechanism) (c : Code) → IsAccepted s m → IsInside s c → (missed s m (named s c) ≡ pos 0) ↔ (left_of s m (named s c) -ℤ right_of s m (named s c) ≡ pos 0)
-tight-missed s m c accepted inside = same-0 (left_of s m (named s c)) (right_of s m (named s c)) (missed s m (named s c)) (missed-is s m c accepted inside)
+pub tight-missed : (s : GeneralSetting) (m : Mechanism) (c : Condition) (row : ℕ) → slice_get (demand_rows s) row ≡ Some c → (missed s m c ≡ pos 0) ↔ (left_of s m c -ℤ right_of s m c ≡ pos 0)
+tight-missed s m c row e = same-0 (left_of s m c) (right_of s m c) (missed s m c) (demand-missed s m c row e)

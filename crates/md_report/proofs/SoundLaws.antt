@@ -15,7 +15,6 @@ use Rattle.md_setting.specs.declared.kinds.Rational.TheVariants.{None as Free, E
 use Rattle.md_setting.specs.Setting.{GeneralSetting}
 use Rattle.md_setting.specs.Meaning.{agent_count, sizes_of, marginal_of}
 use Rattle.md_setting.specs.Shaped.{IsShaped}
-use Rattle.md_mech.specs.Accepted.{IsAccepted}
 use Rattle.md_mech.specs.Conditions.{named}
 use Rattle.md_mech.specs.declared.mechanism.Mechanism.{Mechanism}
 use Rattle.md_mech.specs.Rows.{Condition, dominant_row, bayes_row, ex_post_row, interim_row, IsKept, left_of, right_of, by_report, truth_rows, rational_rows, dominant_rows, bayes_rows, ex_post_rows, interim_rows}
@@ -23,7 +22,7 @@ use Rattle.md_mech.proofs.RowLaws.{all-by_report, all-one}
 use Rattle.md_report.specs.declared.worst.Worst.{Worst}
 use Rattle.md_report.specs.Shortfalls.{missed, scale_of}
 use Rattle.md_report.specs.Worst.{IsWorst}
-use Rattle.md_report.proofs.MissedLaws.{den-positive, at_most_0, bayes-missed, interim-missed}
+use Rattle.md_report.proofs.MissedLaws.{at_most_0, bayes-missed, interim-missed}
 use Rattle.md_report.proofs.RatioLaws.{not_positive}
 
 -- a condition with a positive scale, which is kept exactly where nothing is missed of it
@@ -34,31 +33,31 @@ pub record IsSound (s : GeneralSetting) (m : Mechanism) (c : Condition) : Type 0
 sound : (s : GeneralSetting) (m : Mechanism) (c : Condition) → pos 0 <ℤ scale_of s m c → missed s m c ≡ right_of s m c -ℤ left_of s m c → IsSound s m c
 sound s m c scale e = record { scale = scale; kept = at_most_0 (left_of s m c) (right_of s m c) (missed s m c) e }
 
-given-positive : (s : GeneralSetting) (m : Mechanism) (i a : ℕ) → IsAccepted s m → IsShaped s → i < agent_count s → a < slice_index (sizes_of s) i → pos 0 <ℤ (m.den *ℤ marginal_of s i a)
-given-positive s m i a accepted shaped h l = positive-*ℤ m.den (marginal_of s i a) (den-positive s m accepted) (shaped.marginal i a h l)
+given-positive : (s : GeneralSetting) (m : Mechanism) (i a : ℕ) → pos 0 <ℤ m.den → IsShaped s → i < agent_count s → a < slice_index (sizes_of s) i → pos 0 <ℤ (m.den *ℤ marginal_of s i a)
+given-positive s m i a positive shaped h l = positive-*ℤ m.den (marginal_of s i a) positive (shaped.marginal i a h l)
 
-pub sound-truth : (kind : Truth) (s : GeneralSetting) (m : Mechanism) → IsAccepted s m → IsShaped s → All (IsSound s m) (truth_rows kind s)
-sound-truth Dominant s m accepted shaped =
+pub sound-truth : (kind : Truth) (s : GeneralSetting) (m : Mechanism) → pos 0 <ℤ m.den → IsShaped s → All (IsSound s m) (truth_rows kind s)
+sound-truth Dominant s m positive shaped =
     All-up_to (IsSound s m) (agent_count s) (dominant_rows s)
     (λ i h. All-up_to (IsSound s m) (profile_count (sizes_of s)) (λ r. by_report (slice_index (sizes_of s) i) (slice_index (profile_at (sizes_of s) r) i) (dominant_row i (profile_at (sizes_of s) r)))
     (λ r l. all-by_report (IsSound s m) (slice_index (sizes_of s) i) (slice_index (profile_at (sizes_of s) r) i) (dominant_row i (profile_at (sizes_of s) r))
-    (λ b k. sound s m (dominant_row i (profile_at (sizes_of s) r) b) (den-positive s m accepted) refl)))
-sound-truth Bayes s m accepted shaped =
+    (λ b k. sound s m (dominant_row i (profile_at (sizes_of s) r) b) positive refl)))
+sound-truth Bayes s m positive shaped =
     All-up_to (IsSound s m) (agent_count s) (bayes_rows s)
     (λ i h. All-up_to (IsSound s m) (slice_index (sizes_of s) i) (λ a. by_report (slice_index (sizes_of s) i) a (bayes_row i a))
     (λ a l. all-by_report (IsSound s m) (slice_index (sizes_of s) i) a (bayes_row i a)
-    (λ b k. sound s m (bayes_row i a b) (given-positive s m i a accepted shaped h l) (bayes-missed s m i a b))))
+    (λ b k. sound s m (bayes_row i a b) (given-positive s m i a positive shaped h l) (bayes-missed s m i a b))))
 
-pub sound-rational : (kind : Rational) (s : GeneralSetting) (m : Mechanism) → IsAccepted s m → IsShaped s → All (IsSound s m) (rational_rows kind s)
-sound-rational Free s m accepted shaped = All-nil (IsSound s m)
-sound-rational ExPost s m accepted shaped =
+pub sound-rational : (kind : Rational) (s : GeneralSetting) (m : Mechanism) → pos 0 <ℤ m.den → IsShaped s → All (IsSound s m) (rational_rows kind s)
+sound-rational Free s m positive shaped = All-nil (IsSound s m)
+sound-rational ExPost s m positive shaped =
     All-up_to (IsSound s m) (agent_count s) (ex_post_rows s)
     (λ i h. All-up_to (IsSound s m) (profile_count (sizes_of s)) (λ r. ex_post_row i (profile_at (sizes_of s) r) ∷ [])
-    (λ r l. all-one (IsSound s m) (ex_post_row i (profile_at (sizes_of s) r)) (sound s m (ex_post_row i (profile_at (sizes_of s) r)) (den-positive s m accepted) refl)))
-sound-rational Interim s m accepted shaped =
+    (λ r l. all-one (IsSound s m) (ex_post_row i (profile_at (sizes_of s) r)) (sound s m (ex_post_row i (profile_at (sizes_of s) r)) positive refl)))
+sound-rational Interim s m positive shaped =
     All-up_to (IsSound s m) (agent_count s) (interim_rows s)
     (λ i h. All-up_to (IsSound s m) (slice_index (sizes_of s) i) (λ a. interim_row i a ∷ [])
-    (λ a l. all-one (IsSound s m) (interim_row i a) (sound s m (interim_row i a) (given-positive s m i a accepted shaped h l) (interim-missed s m i a))))
+    (λ a l. all-one (IsSound s m) (interim_row i a) (sound s m (interim_row i a) (given-positive s m i a positive shaped h l) (interim-missed s m i a))))
 
 -- ---- the worst of some conditions
 

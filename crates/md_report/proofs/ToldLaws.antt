@@ -26,7 +26,7 @@ use Rattle.md_report.specs.declared.worst.Worst.{Worst}
 use Rattle.md_report.specs.Admissible.{IsToldWhole}
 use Rattle.md_report.specs.Blocks.{truth_of, rational_of, rows_of}
 use Rattle.md_report.specs.Deficits.{IsDeficitOf}
-use Rattle.md_report.specs.ReportOf.{IsReportOf}
+use Rattle.md_report.specs.ReportOf.{AreFigures}
 use Rattle.md_report.specs.Tellable.{IsTold, IsAbout}
 use Rattle.md_report.specs.Tight.{is_tight, tight_at, tight_rows}
 use Rattle.md_report.specs.Worst.{IsWorstOf, AreWorstOf}
@@ -88,7 +88,7 @@ deficit-where s m (Some deficit) (on, is) = ((λ e. cc), (λ off. absurd (true�
 pub both : {A B C : Type 0} → A ↔ B → B ↔ C → A ↔ C
 both h k = ((λ a. k.0 (h.0 a)), (λ c. h.1 (k.1 c)))
 
-pub told-whole : (s : GeneralSetting) (m : Mechanism) (report : Report) → IsShaped s → IsReportOf s m report → IsToldWhole s report
+pub told-whole : (s : GeneralSetting) (m : Mechanism) (report : Report) → IsShaped s → AreFigures s m report → IsToldWhole s report
 told-whole s m report shaped is = record {
   gains = λ i h. both (told-where s m (rows_of s Truthful i) (slice_index_or report.gains.items i None) (is.gains.each i h)) (truth-none s.truth s i shaped h);
   losses = λ i h. both (told-where s m (rows_of s Willing i) (slice_index_or report.losses.items i None) (is.losses.each i h)) (rational-none s.rational s i shaped h);
@@ -118,7 +118,7 @@ tight-about s m =
     All-up_to (λ r. r < length (conditions_of s)) (length (demand_rows s)) (tight_at s m)
     (λ r h. tight-row (length (conditions_of s)) r (is_tight s m (slice_get (demand_rows s) r)) (omega (arith, h, length-append (demand_rows s) (by_profile s (λ t. profile_row t ∷ [])))))
 
-pub about : (s : GeneralSetting) (m : Mechanism) (report : Report) → IsReportOf s m report → IsAbout s report
+pub about : (s : GeneralSetting) (m : Mechanism) (report : Report) → AreFigures s m report → IsAbout s report
 about s m report is = record {
   types = λ k d h. (let t = is.types.each k d h in record { agent_in = t.agent_in; kind_in = t.kind_in });
   gains = all-about s m Truthful report.gains.items is.gains;

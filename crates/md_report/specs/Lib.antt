@@ -1,3 +1,4 @@
+pub mod Numbers
 pub mod Ratio
 pub mod Regret
 pub mod Averages

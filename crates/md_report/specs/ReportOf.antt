@@ -11,9 +11,8 @@ use Rattle.md_report.specs.Tight.{tight_rows}
 use Rattle.md_report.specs.Types.{all_types, AreTold}
 use Rattle.md_report.specs.Worst.{AreWorstOf}
 
--- each part of the report is what its definition says of the mechanism
-pub record IsReportOf (s : GeneralSetting) (m : Mechanism) (report : Report) : Type 0 where
-  pub value : IsValueOf s m report.value
+-- each part of the report but the value is what its definition says of the numbers
+pub record AreFigures (s : GeneralSetting) (m : Mechanism) (report : Report) : Type 0 where
   pub revenue : IsRevenue s m report.revenue
   pub welfare : IsWelfare s m report.welfare
   pub types : AreTold s m (all_types s) report.types.items
@@ -21,3 +20,8 @@ pub record IsReportOf (s : GeneralSetting) (m : Mechanism) (report : Report) : T
   pub losses : AreWorstOf s m Willing report.losses.items
   pub deficit : IsDeficitOf s m report.deficit
   pub tight : report.tight.items ≡ tight_rows s m
+
+-- and its value is that of the mechanism
+pub record IsReportOf (s : GeneralSetting) (m : Mechanism) (report : Report) : Type 0 where
+  pub value : IsValueOf s m report.value
+  pub figures : AreFigures s m report

@@ -5,10 +5,10 @@ ghost use Rattle.md_space.specs.ByType.{where_type};
 ghost use Rattle.md_space.specs.Profiles.{profile_count, profile_at};
 ghost use Rattle.md_setting.specs.Meaning.{agent_count, sizes_of, weight_of, total_of, marginal_of};
 ghost use Rattle.md_setting.specs.Shaped.{IsShaped};
-ghost use Rattle.md_mech.specs.Accepted.{IsAccepted};
 ghost use Rattle.md_mech.specs.Utility.{weighted_given};
 ghost use Rattle.md_report.specs.Amounts.{amount_of, sum_of, IsAmount};
 ghost use Rattle.md_report.specs.Averages.{weighted, IsExpected, IsExpectedGiven};
+ghost use Rattle.md_report.specs.Numbers.{AreNumbers};
 
 use crate::amount::{Amount, Sum};
 use crate::measures::{amount, sum};
@@ -18,7 +18,7 @@ use md_setting::Setting;
 
 /// What is expected of all agents.
 pub(crate) fn expected(setting: &Setting, mechanism: &Mechanism, measure: Sum) -> Frac
-    requires { IsAccepted setting.now mechanism.now }
+    requires { AreNumbers setting.now mechanism.now }
     ensures value { IsExpected setting.now mechanism.now (sum_of setting.now mechanism.now measure) result }
     ensures shaped { IsShaped setting.now }
 {
@@ -36,7 +36,7 @@ pub(crate) fn expected_given(
     kind: u8,
     measure: Amount,
 ) -> Frac
-    requires accepted { IsAccepted setting.now mechanism.now }
+    requires numbers { AreNumbers setting.now mechanism.now }
     requires agent_in { agent < agent_count setting.now }
     requires kind_in { kind < slice_index (sizes_of setting.now) agent }
     requires measure { IsAmount setting.now agent measure }
@@ -51,7 +51,7 @@ pub(crate) fn expected_given(
 
 // The denominator times the weight of all profiles.
 fn whole(setting: &Setting, mechanism: &Mechanism) -> i128
-    requires { IsAccepted setting.now mechanism.now }
+    requires { AreNumbers setting.now mechanism.now }
     ensures value { result ≡ mechanism.now.den *ℤ total_of setting.now }
     ensures positive { pos 0 <ℤ result }
     ensures size { IsWithin (2 ^ 82) result }
@@ -62,7 +62,7 @@ fn whole(setting: &Setting, mechanism: &Mechanism) -> i128
 
 // The denominator times the weight of a type.
 fn whole_of_type(setting: &Setting, mechanism: &Mechanism, agent: u8, kind: u8) -> i128
-    requires accepted { IsAccepted setting.now mechanism.now }
+    requires numbers { AreNumbers setting.now mechanism.now }
     requires agent_in { agent < agent_count setting.now }
     requires kind_in { kind < slice_index (sizes_of setting.now) agent }
     ensures value { result ≡ mechanism.now.den *ℤ marginal_of setting.now agent kind }
@@ -74,7 +74,7 @@ fn whole_of_type(setting: &Setting, mechanism: &Mechanism, agent: u8, kind: u8) 
 
 // The sum over all profiles, by weight.
 fn over_all(setting: &Setting, mechanism: &Mechanism, measure: Sum) -> i128
-    requires { IsAccepted setting.now mechanism.now }
+    requires { AreNumbers setting.now mechanism.now }
     ensures value { result ≡ weighted setting.now (sum_of setting.now mechanism.now measure) }
     ensures size { IsWithin (2 ^ 125) result }
 {
@@ -91,7 +91,7 @@ fn over_all(setting: &Setting, mechanism: &Mechanism, measure: Sum) -> i128
 
 // The sum over the profiles in which an agent has a type, by weight.
 fn over_type(setting: &Setting, mechanism: &Mechanism, agent: u8, kind: u8, measure: Amount) -> i128
-    requires accepted { IsAccepted setting.now mechanism.now }
+    requires numbers { AreNumbers setting.now mechanism.now }
     requires agent_in { agent < agent_count setting.now }
     requires kind_in { kind < slice_index (sizes_of setting.now) agent }
     requires measure { IsAmount setting.now agent measure }
@@ -114,7 +114,7 @@ fn term(
     measure: Amount,
     rank: u32,
 ) -> i128
-    requires accepted { IsAccepted setting.now mechanism.now }
+    requires numbers { AreNumbers setting.now mechanism.now }
     requires agent_in { agent < agent_count setting.now }
     requires measure { IsAmount setting.now agent measure }
     requires rank_in { rank < profile_count (sizes_of setting.now) }

@@ -1,9 +1,9 @@
 //! The worst of the conditions of each agent.
 ghost use Rattle.std.specs.Prelude.{◌≡◌, ◌<◌, ◌≤◌, ◌+◌, IfOk, length};
 ghost use Rattle.md_setting.specs.Meaning.{agent_count};
-ghost use Rattle.md_mech.specs.Accepted.{IsAccepted};
 ghost use Rattle.md_report.specs.declared.demand.Demand.TheVariants.{Truthful, Willing};
 ghost use Rattle.md_report.specs.Blocks.{rows_of, all_rows, start_of};
+ghost use Rattle.md_report.specs.Numbers.{AreNumbers};
 ghost use Rattle.md_report.specs.Worst.{AreWorstOf};
 
 use crate::demand::Demand;
@@ -21,7 +21,7 @@ pub(crate) fn worst_by_agent(
     mechanism: &Mechanism,
     demand: Demand,
 ) -> Result<Vec<Option<Worst>>, NoMemory>
-    requires { IsAccepted setting.now mechanism.now }
+    requires { AreNumbers setting.now mechanism.now }
     ensures { IfOk result (λ worst. AreWorstOf setting.now mechanism.now demand worst.items) }
 {
     let mut worst = Vec::new(alloc);

@@ -2,8 +2,8 @@
 ghost use Rattle.std.specs.Prelude.{◌≡◌, ◌⊎◌, ◌<◌, ◌≤ℤ◌, ◌<ℤ◌, ◌↔◌, IsTrue};
 ghost use Rattle.md_space.specs.Profiles.{profile_count, profile_at};
 ghost use Rattle.md_setting.specs.Meaning.{sizes_of};
-ghost use Rattle.md_mech.specs.Accepted.{IsAccepted};
 ghost use Rattle.md_report.specs.Deficits.{IsLeastPaid, IsDeficitOf};
+ghost use Rattle.md_report.specs.Numbers.{AreNumbers};
 ghost use Rattle.md_report.specs.Ratio.{IsRatio};
 ghost use Rattle.md_report.specs.Regret.{payments_at};
 
@@ -16,7 +16,7 @@ use md_setting::Setting;
 
 /// The profile at which least is paid, where the setting allows no deficit.
 pub(crate) fn least_paid(setting: &Setting, mechanism: &Mechanism) -> Option<Deficit>
-    requires { IsAccepted setting.now mechanism.now }
+    requires { AreNumbers setting.now mechanism.now }
     ensures { IsDeficitOf setting.now mechanism.now result }
 {
     if !setting.no_deficit() {
@@ -29,7 +29,7 @@ pub(crate) fn least_paid(setting: &Setting, mechanism: &Mechanism) -> Option<Def
 
 // What all agents pay at the profile of a rank, over the denominator.
 fn payments(setting: &Setting, mechanism: &Mechanism, rank: u32) -> Frac
-    requires accepted { IsAccepted setting.now mechanism.now }
+    requires numbers { AreNumbers setting.now mechanism.now }
     requires rank_in { rank < profile_count (sizes_of setting.now) }
     ensures { IsRatio (payments_at setting.now mechanism.now (profile_at (sizes_of setting.now) rank)) mechanism.now.den result }
 {
@@ -38,7 +38,7 @@ fn payments(setting: &Setting, mechanism: &Mechanism, rank: u32) -> Frac
 
 // The first rank at which least is paid.
 fn least_rank(setting: &Setting, mechanism: &Mechanism) -> u32
-    requires { IsAccepted setting.now mechanism.now }
+    requires { AreNumbers setting.now mechanism.now }
     ensures { IsLeastPaid setting.now mechanism.now (profile_count (sizes_of setting.now)) result }
 {
     let mut least = 0;
@@ -50,7 +50,7 @@ fn least_rank(setting: &Setting, mechanism: &Mechanism) -> u32
 
 // The one of two ranks at which less is paid, and the first where it is the same.
 fn lesser(setting: &Setting, mechanism: &Mechanism, first: u32, second: u32) -> u32
-    requires accepted { IsAccepted setting.now mechanism.now }
+    requires numbers { AreNumbers setting.now mechanism.now }
     requires first_in { first < profile_count (sizes_of setting.now) }
     requires second_in { second < profile_count (sizes_of setting.now) }
     ensures { let paid = payments_at setting.now mechanism.now in

@@ -3,9 +3,9 @@ ghost use Rattle.std.specs.Prelude.{◌≡◌, ◌<◌, ◌^◌, pos, ◌<ℤ◌
 ghost use Rattle.md_math.specs.Sizes.{IsWithin};
 ghost use Rattle.md_space.specs.Profiles.{profile_count, profile_at};
 ghost use Rattle.md_setting.specs.Meaning.{agent_count, sizes_of};
-ghost use Rattle.md_mech.specs.Accepted.{IsAccepted};
 ghost use Rattle.md_mech.specs.Conditions.{named, IsInside};
 ghost use Rattle.md_report.specs.Amounts.{amount_of, IsAmount};
+ghost use Rattle.md_report.specs.Numbers.{AreNumbers};
 ghost use Rattle.md_report.specs.Ratio.{IsRatio};
 ghost use Rattle.md_report.specs.Regret.{payments_at};
 ghost use Rattle.md_report.specs.Shortfalls.{scale_of, IsShortfall};
@@ -19,7 +19,7 @@ use md_setting::Setting;
 
 /// What is missed of a condition, at its profile or given its type.
 pub(crate) fn shortfall(setting: &Setting, mechanism: &Mechanism, condition: Condition) -> Frac
-    requires accepted { IsAccepted setting.now mechanism.now }
+    requires numbers { AreNumbers setting.now mechanism.now }
     requires inside { IsInside setting.now condition }
     ensures value { IsShortfall setting.now mechanism.now (named setting.now condition) result }
     ensures scale { pos 0 <ℤ scale_of setting.now mechanism.now (named setting.now condition) }
@@ -55,7 +55,7 @@ fn at_profile(
     measure: Amount,
     rank: u32,
 ) -> Frac
-    requires accepted { IsAccepted setting.now mechanism.now }
+    requires numbers { AreNumbers setting.now mechanism.now }
     requires agent_in { agent < agent_count setting.now }
     requires measure { IsAmount setting.now agent measure }
     requires rank_in { rank < profile_count (sizes_of setting.now) }
@@ -69,7 +69,7 @@ fn at_profile(
 
 // What is paid less than nothing at a profile.
 fn deficit(setting: &Setting, mechanism: &Mechanism, rank: u32) -> Frac
-    requires accepted { IsAccepted setting.now mechanism.now }
+    requires numbers { AreNumbers setting.now mechanism.now }
     requires rank_in { rank < profile_count (sizes_of setting.now) }
     ensures { IsRatio (neg_ℤ (payments_at setting.now mechanism.now (profile_at (sizes_of setting.now) rank))) mechanism.now.den result }
 {
@@ -86,7 +86,7 @@ fn opposite(number: i128) -> i128
 }
 
 fn nothing(setting: &Setting, mechanism: &Mechanism) -> Frac
-    requires { IsAccepted setting.now mechanism.now }
+    requires { AreNumbers setting.now mechanism.now }
     ensures { IsRatio (pos 0) mechanism.now.den result }
 {
     Frac::reduced(0, mechanism.den)

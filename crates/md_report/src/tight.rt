@@ -1,7 +1,7 @@
 //! Which conditions hold with equality.
 ghost use Rattle.std.specs.Prelude.{◌≡◌, ◌<◌, ◌↔◌, ◌++◌, pos, IfOk, OnOk, IsTrue, length, slice_get};
-ghost use Rattle.md_mech.specs.Accepted.{IsAccepted};
 ghost use Rattle.md_mech.specs.Rows.{demand_rows};
+ghost use Rattle.md_report.specs.Numbers.{AreNumbers};
 ghost use Rattle.md_report.specs.Tight.{is_tight, tight_at, tight_rows};
 
 use crate::shortfalls::shortfall;
@@ -16,7 +16,7 @@ pub(crate) fn tight(
     setting: &Setting,
     mechanism: &Mechanism,
 ) -> Result<Vec<u32>, NoMemory>
-    requires { IsAccepted setting.now mechanism.now }
+    requires { AreNumbers setting.now mechanism.now }
     ensures { IfOk result (λ rows. rows.items ≡ tight_rows setting.now mechanism.now) }
 {
     let mut rows = Vec::new(alloc);
@@ -33,7 +33,7 @@ fn push_if_tight(
     mechanism: &Mechanism,
     row: u32,
 ) -> Result<(), NoMemory>
-    requires accepted { IsAccepted setting.now mechanism.now }
+    requires numbers { AreNumbers setting.now mechanism.now }
     requires inside { row < length (demand_rows setting.now) }
     ensures { OnOk result (rows.new.items ≡ rows.old.items ++ tight_at setting.now mechanism.now row) }
 {
@@ -46,7 +46,7 @@ fn push_if_tight(
 
 // Whether the condition of a row holds with equality.
 fn is_tight(setting: &Setting, mechanism: &Mechanism, row: u32) -> bool
-    requires accepted { IsAccepted setting.now mechanism.now }
+    requires numbers { AreNumbers setting.now mechanism.now }
     requires inside { row < length (demand_rows setting.now) }
     ensures { result ≡ is_tight setting.now mechanism.now (slice_get (demand_rows setting.now) row) }
 {

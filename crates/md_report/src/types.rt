@@ -1,7 +1,7 @@
 //! What each type of each agent gets and pays.
 ghost use Rattle.std.specs.Prelude.{◌≡◌, ◌<◌, ◌++◌, IfOk, OnOk, List, slice_index};
 ghost use Rattle.md_setting.specs.Meaning.{agent_count, sizes_of};
-ghost use Rattle.md_mech.specs.Accepted.{IsAccepted};
+ghost use Rattle.md_report.specs.Numbers.{AreNumbers};
 ghost use Rattle.md_report.specs.Types.{all_types, types_of, TypeOf, AreTold, IsToldOf};
 
 use crate::amount::Amount;
@@ -18,7 +18,7 @@ pub(crate) fn types(
     setting: &Setting,
     mechanism: &Mechanism,
 ) -> Result<Vec<TypeNumbers>, NoMemory>
-    requires { IsAccepted setting.now mechanism.now }
+    requires { AreNumbers setting.now mechanism.now }
     ensures { IfOk result (λ told. AreTold setting.now mechanism.now (all_types setting.now) told.items) }
 {
     let mut told = Vec::new(alloc);
@@ -35,7 +35,7 @@ fn push_types(
     mechanism: &Mechanism,
     agent: u8,
 ) -> Result<(), NoMemory>
-    requires accepted { IsAccepted setting.now mechanism.now }
+    requires numbers { AreNumbers setting.now mechanism.now }
     requires agent_in { agent < agent_count setting.now }
     ensures { OnOk result ((before : List TypeOf) → AreTold setting.now mechanism.now before told.old.items → AreTold setting.now mechanism.now (before ++ types_of setting.now agent) told.new.items) }
 {
@@ -46,7 +46,7 @@ fn push_types(
 }
 
 fn type_numbers(setting: &Setting, mechanism: &Mechanism, agent: u8, kind: u8) -> TypeNumbers
-    requires accepted { IsAccepted setting.now mechanism.now }
+    requires numbers { AreNumbers setting.now mechanism.now }
     requires agent_in { agent < agent_count setting.now }
     requires kind_in { kind < slice_index (sizes_of setting.now) agent }
     ensures told { IsToldOf setting.now mechanism.now result }

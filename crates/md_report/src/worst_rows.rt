@@ -1,7 +1,7 @@
 //! Of some rows the one at which most is missed.
 ghost use Rattle.std.specs.Prelude.{◌≡◌, ◌⊎◌, ◌<◌, ◌≤◌, pos, ◌<ℤ◌, length, MatchOption};
-ghost use Rattle.md_mech.specs.Accepted.{IsAccepted};
 ghost use Rattle.md_mech.specs.Rows.{conditions_of};
+ghost use Rattle.md_report.specs.Numbers.{AreNumbers};
 ghost use Rattle.md_report.specs.Worst.{IsMissed, IsWorstIn, IsNoMore, IsLess};
 
 use crate::shortfalls::shortfall;
@@ -16,7 +16,7 @@ pub(crate) fn worst_row(
     start: u32,
     end: u32,
 ) -> Option<Worst>
-    requires accepted { IsAccepted setting.now mechanism.now }
+    requires numbers { AreNumbers setting.now mechanism.now }
     requires inside { end ≤ length (conditions_of setting.now) }
     ensures { MatchOption result (end ≤ start) (IsWorstIn setting.now mechanism.now start end) }
 {
@@ -32,7 +32,7 @@ pub(crate) fn worst_row(
 
 // The condition of a row, with what is missed of it.
 fn missed_at(setting: &Setting, mechanism: &Mechanism, row: u32) -> Worst
-    requires accepted { IsAccepted setting.now mechanism.now }
+    requires numbers { AreNumbers setting.now mechanism.now }
     requires inside { row < length (conditions_of setting.now) }
     ensures { IsMissed setting.now mechanism.now row result }
 {

@@ -3,3 +3,7 @@ pub mod LotteryLaws
 pub mod ReportLaws
 pub mod MassLaws
 pub mod OutcomeLaws
+pub mod ScaleLaws
+pub mod LeftLaws
+pub mod UnitLaws
+pub mod SaleLaws

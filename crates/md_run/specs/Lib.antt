@@ -4,3 +4,6 @@ pub mod OfMasses
 pub mod OfMechanism
 pub mod Drawn
 pub mod Refusals
+pub mod OfUnits
+pub mod DrawnUnits
+pub mod OfSale

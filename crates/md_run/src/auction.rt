@@ -20,11 +20,11 @@ use md_num::{NoMemory, Nums, product};
 use md_setting::Auction;
 use std::alloc::Global;
 
-// The counts of a profile: their rank, and what there is to give at them.
+/// The counts of a profile: their rank, and what there is to give at them.
 #[derive(Drop)]
-struct AtCounts {
-    rank: u32,
-    cap: i128,
+pub(crate) struct AtCounts {
+    pub(crate) rank: u32,
+    pub(crate) cap: i128,
 }
 
 /// What two draws give of a mass table at a profile of reported values.
@@ -65,8 +65,8 @@ pub(crate) fn draw_at(
     })
 }
 
-// The counts of a profile.
-fn at_counts(
+/// The counts of a profile.
+pub(crate) fn at_counts(
     alloc: Global,
     auction: &Auction,
     den: i128,
@@ -132,8 +132,8 @@ fn is_zero(number: i128) -> bool
     number == 0
 }
 
-// What each bidder pays.
-fn pays(
+/// What each bidder pays.
+pub(crate) fn pays(
     alloc: Global,
     auction: &Auction,
     interim: &Interim,

@@ -29,8 +29,8 @@ pub(crate) fn bidder_of(reports: &[u8], kind: u32, number: i128) -> Option<u32>
     }
 }
 
-// How many bidders report a value.
-fn count_of(reports: &[u8], kind: u32) -> u32
+/// How many bidders report a value.
+pub(crate) fn count_of(reports: &[u8], kind: u32) -> u32
     requires few { length reports.now ≤ 12 }
     ensures { result ≡ count_in kind reports.now }
 {

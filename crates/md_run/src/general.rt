@@ -47,8 +47,8 @@ pub(crate) fn draw_of(
     })
 }
 
-// Whether the first draw is one of as many as the denominator has units, and the second is 0.
-fn is_draw(den: i128, d1: i128, d2: i128) -> bool
+/// Whether the first draw is one of so many, and the second is 0.
+pub(crate) fn is_draw(den: i128, d1: i128, d2: i128) -> bool
     ensures { IsTrue result ↔ IsDraw den d1 d2 }
 {
     if d2 != 0 {

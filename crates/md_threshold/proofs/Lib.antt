@@ -4,5 +4,4 @@ pub mod ExpectedSizes
 pub mod ShareLaws
 pub mod PriceLaws
 pub mod PriceListLaws
-pub mod UnitAverages
 pub mod ThresholdLaws

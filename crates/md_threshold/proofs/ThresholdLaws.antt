@@ -1,5 +1,5 @@
 -- What is computed of a threshold auction is so of its mechanism.
-use Rattle.std.proofs.Common.{◌≡◌, ℕ, ◌*◌, ℤ, pos, ◌+ℤ◌, ◌*ℤ◌, ◌≤ℤ◌, ◌<ℤ◌, ap, ◌∙◌, arith}
+use Rattle.std.proofs.Common.{◌≡◌, ℕ, ℤ, pos, ◌+ℤ◌, ◌*ℤ◌, ◌≤ℤ◌, ◌<ℤ◌, ap, ◌∙◌, arith}
 use Rattle.std.proofs.lemmas.Int.{ints}
 use Rattle.md_math.specs.Lists.{number_at}
 use Rattle.md_math.proofs.Ring.{linear}
@@ -12,6 +12,7 @@ use Rattle.md_winners.specs.Odds.{HasUnitOdds, HasUnitPays}
 use Rattle.md_winners.proofs.UnitSales.{unit_sale, unit-sale, unit-odds-as, unit-pays-as}
 use Rattle.md_report.specs.Ratio.{IsRatio}
 use Rattle.md_auction_report.specs.Averages.{of_all}
+use Rattle.md_auction_report.proofs.ExpectedLaws.{revenue-of, welfare-of}
 use Rattle.md_iron_pools.specs.declared.pools.AuctionPools.{AuctionPools}
 use Rattle.md_iron_pools.specs.ByRule.{IsAuctionByRule}
 use Rattle.md_iron_pools.specs.Pooling.{IsPooling, pools_of}
@@ -24,7 +25,6 @@ use Rattle.md_threshold_laws.proofs.Optimal.{threshold-optimal}
 use Rattle.md_threshold_laws.proofs.TruthLaws.{dominant-truth, ex-post}
 use Rattle.md_threshold.specs.Interims.{worth_in}
 use Rattle.md_threshold.specs.Thresholds.{IsThreshold}
-use Rattle.md_threshold.proofs.UnitAverages.{revenue-of, welfare-of}
 
 pub is-threshold : (a : SymmetricAuction) (units : ℕ) (kept : AuctionPools) (interim : Interim) (value revenue welfare : Frac) → IsAuction a → IsPooling a kept → IsAuctionByRule a (pools_of kept) → IsClosedInterim a units (pools_of kept) interim
     → IsRatio (worth_in a units interim) (pos (total_weight a.weights) *ℤ interim.den) value
@@ -52,8 +52,8 @@ is-threshold a units kept interim value revenue welfare shaped pooling by_rule c
             (has_value.is_ratio ∙ ap (λ z. z *ℤ value.den) (turned (of_all a (gain_of a interim)) ((a.keep *ℤ pos units) *ℤ (pos (total_weight a.weights) *ℤ interim.den))));
         least = has_value.least;
       };
-      revenue = revenue-of a units m interim shaped positive revenue pays has_revenue;
-      welfare = welfare-of a units m interim shaped positive welfare odds has_welfare;
+      revenue = revenue-of a (unit_sale a units) (unit-sale a units) m interim shaped positive revenue (unit-pays-as a units m interim.den interim.pays pays) has_revenue;
+      welfare = welfare-of a (unit_sale a units) (unit-sale a units) m interim shaped positive welfare (unit-odds-as a units m interim.den interim.odds odds) has_welfare;
     }
   where
     above : (z : ℤ) → pos 0 <ℤ z → pos 1 ≤ℤ z

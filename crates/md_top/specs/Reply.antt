@@ -32,9 +32,13 @@ use Rattle.md_cli_tell.specs.Realising.{odds_in, IsRealise, IsRealiseStatus}
 use Rattle.md_cli_best.specs.Fair.{IsFair}
 use Rattle.md_cli_best.specs.Finding.{IsFind, IsFindFair, IsFindStatus}
 use Rattle.md_cli_best.specs.Requiring.{conditions_in, IsRequire}
-use Rattle.md_cli_tell.specs.Drawing.{drawable_in, IsRun, IsRunStatus}
+use Rattle.md_cli_tell.specs.Running.{drawable_in, IsRun, IsRunStatus}
 use Rattle.md_cli_tell.specs.Reported.{reported_in}
 use Rattle.md_cli_tell.specs.Reporting.{IsReporting, IsReportStatus}
+use Rattle.md_cli_tell.specs.UnitAnswers.{unit_table_in}
+use Rattle.md_cli_tell.specs.UnitDrawing.{IsUnitRun}
+use Rattle.md_cli_tell.specs.UnitReporting.{IsUnitReporting, IsUnitReportStatus}
+use Rattle.md_cli_tell.specs.declared.drawable.Drawable.{Drawable}
 use Rattle.md_cli_tell.specs.declared.reported.Reported.{Reported}
 use Rattle.md_cli_sell.specs.Ironing.{IsIron, IsIronStatus}
 use Rattle.md_cli_sell.specs.IroningUnits.{IsIronUnits}
@@ -73,9 +77,15 @@ threshold_work number = sale_of number (λ units. one_file is_auction (IsThresho
 abbrev pub award_work : ℤ → List ℕ → ℤ → Work
 award_work number profile draw = sale_of number (λ units. one_file is_auction (IsAwardOf units profile draw) IsAwardStatus)
 
--- an outcome is drawn from an answer at a profile
-abbrev pub draw_work : List ℕ → ℤ → ℤ → Work
-draw_work profile first second = two_files Answer is_any drawable_in (IsRun profile first second) IsRunStatus
+-- An outcome is drawn from an answer at a profile, and what an answer does is told. Where --units asks for a number, the answer is
+-- one about so many units.
+abbrev pub draw_work : Option ℤ → List ℕ → ℤ → ℤ → Work
+draw_work None profile first second = two_files Drawable is_any drawable_in (IsRun profile first second) IsRunStatus
+draw_work (Some number) profile first second = sale_of number (λ units. two_files Answer is_auction (unit_table_in units) (IsUnitRun units profile first second) IsRunStatus)
+
+abbrev pub report_work : Option ℤ → Work
+report_work None = two_files Reported is_any reported_in IsReporting IsReportStatus
+report_work (Some number) = sale_of number (λ units. two_files Answer is_auction (unit_table_in units) (IsUnitReporting units) IsUnitReportStatus)
 
 -- the commands: the files of each, what it says of them, and its statuses
 abbrev pub work_by : Command → Order → Work
@@ -99,8 +109,8 @@ work_by Threshold order = threshold_work order.number
 work_by Award order = award_work order.number order.profile order.first_draw
 work_by Determ order = one_file is_general (IsDeterm order.width) IsDetermStatus
 work_by DetermCheck order = two_files (List ℕ) is_general determ_text_in IsDetermCheck IsDetermCheckStatus
-work_by Run order = draw_work order.profile order.first_draw order.second_draw
-work_by Report order = two_files Reported is_any reported_in IsReporting IsReportStatus
+work_by Run order = draw_work order.units order.profile order.first_draw order.second_draw
+work_by Report order = report_work order.units
 work_by Iron order = one_file is_auction IsIron IsIronStatus
 work_by IronUnits order = iron_units_work order.number
 work_by Make order = no_file (IsMake order.number) IsMakeStatus

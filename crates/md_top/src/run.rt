@@ -1,14 +1,14 @@
 //! The commands, each carried out over its files.
-ghost use Rattle.std.specs.Prelude.{ℕ, List};
+ghost use Rattle.std.specs.Prelude.{ℕ, List, Some};
 ghost use Rattle.md_cli_words.specs.Orders.{asked};
-ghost use Rattle.md_top.specs.Reply.{award_work, draw_work, iron_units_work, threshold_work, unit_check_work, units_work, work_of};
+ghost use Rattle.md_top.specs.Reply.{award_work, draw_work, iron_units_work, report_work, threshold_work, unit_check_work, units_work, work_of};
 ghost use Rattle.md_cli_driver.specs.Works.{IsCarriedOut};
 
 use md_cli_best::{Determ, Drill, Fair, Find, FindFair, Make, Require, Solve};
 use md_cli_driver::{Answered, NumberRefused, Refusal, of_none, of_one, of_sale, of_two};
 use md_cli_judge::{AsymCheck, Audit, Check, DetermCheck, FairCheck, RequireCheck, UnitCheck};
 use md_cli_sell::{Asym, Iron, IronUnits, ThresholdSale, Units};
-use md_cli_tell::{Awarding, Draw, Realise, Replay, Rows, Tell};
+use md_cli_tell::{Awarding, Draw, DrawUnits, Realise, Replay, Rows, Tell, TellUnits};
 use md_cli_words::{Command, Order};
 use md_num::Width;
 use md_ports::Shelf;
@@ -55,7 +55,7 @@ pub(crate) fn run<F: Shelf>(
         Command::Determ => of_one(alloc, &Determ { width }, setting, shelf),
         Command::DetermCheck => of_two(alloc, &DetermCheck, setting, second, shelf),
         Command::Run => draw(alloc, order, shelf),
-        Command::Report => of_two(alloc, &Tell, setting, second, shelf),
+        Command::Report => report(alloc, order, shelf),
         Command::Iron => of_one(alloc, &Iron, setting, shelf),
         Command::IronUnits => iron_units(alloc, number, setting, shelf),
         Command::Make => of_none(alloc, &Make { number }),
@@ -63,16 +63,81 @@ pub(crate) fn run<F: Shelf>(
     }
 }
 
-// Draws an outcome from an answer at a profile.
+// Draws an outcome from an answer at a profile, or who gets one of so many units.
 fn draw<F: Shelf>(alloc: Global, order: &Order<'_>, shelf: &mut F) -> Result<Answered, Refusal>
-    ensures { IsCarriedOut (draw_work order.now.profile.now order.now.first_draw order.now.second_draw) order.now.setting.now order.now.second.now (F.content shelf.old) (F.faults shelf.old) (F.faults shelf.new) result }
+    ensures { IsCarriedOut (draw_work order.now.units order.now.profile.now order.now.first_draw order.now.second_draw) order.now.setting.now order.now.second.now (F.content shelf.old) (F.faults shelf.old) (F.faults shelf.new) result }
 {
-    let command = Draw {
-        profile: order.profile,
-        first: order.first_draw,
-        second: order.second_draw,
-    };
-    of_two(alloc, &command, order.setting, order.second, shelf)
+    match order.units {
+        Some(number) => {
+            draw_units(
+                alloc,
+                number,
+                order,
+                order.first_draw,
+                order.second_draw,
+                shelf,
+            )
+        }
+        None => {
+            let command = Draw {
+                profile: order.profile,
+                first: order.first_draw,
+                second: order.second_draw,
+            };
+            of_two(alloc, &command, order.setting, order.second, shelf)
+        }
+    }
+}
+
+// Draws who gets a unit. A number of them that may not be sold is refused before the setting is read.
+fn draw_units<F: Shelf>(
+    alloc: Global,
+    number: i128,
+    order: &Order<'_>,
+    first: i128,
+    second: i128,
+    shelf: &mut F,
+) -> Result<Answered, Refusal>
+    ensures { IsCarriedOut (draw_work (Some number) order.now.profile.now first second) order.now.setting.now order.now.second.now (F.content shelf.old) (F.faults shelf.old) (F.faults shelf.new) result }
+{
+    match UnitNumber::new(number) {
+        Some(units) => {
+            let command = DrawUnits {
+                units,
+                profile: order.profile,
+                first,
+                second,
+            };
+            of_two(alloc, &command, order.setting, order.second, shelf)
+        }
+        None => of_none(alloc, &NumberRefused),
+    }
+}
+
+// Tells what an answer does, also one about so many units.
+fn report<F: Shelf>(alloc: Global, order: &Order<'_>, shelf: &mut F) -> Result<Answered, Refusal>
+    ensures { IsCarriedOut (report_work order.now.units) order.now.setting.now order.now.second.now (F.content shelf.old) (F.faults shelf.old) (F.faults shelf.new) result }
+{
+    match order.units {
+        Some(number) => report_units(alloc, number, order.setting, order.second, shelf),
+        None => of_two(alloc, &Tell, order.setting, order.second, shelf),
+    }
+}
+
+// Tells what an answer about so many units does. A number of them that may not be sold is refused before the setting is read.
+fn report_units<F: Shelf>(
+    alloc: Global,
+    number: i128,
+    setting: &str,
+    second: &str,
+    shelf: &mut F,
+) -> Result<Answered, Refusal>
+    ensures { IsCarriedOut (report_work (Some number)) setting.now second.now (F.content shelf.old) (F.faults shelf.old) (F.faults shelf.new) result }
+{
+    match UnitNumber::new(number) {
+        Some(units) => of_two(alloc, &TellUnits { units }, setting, second, shelf),
+        None => of_none(alloc, &NumberRefused),
+    }
 }
 
 // Sells so many units. A number of them that may not be sold is refused before the setting is read.

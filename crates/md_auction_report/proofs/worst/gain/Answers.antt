@@ -17,5 +17,5 @@ pub returns : goal.returns
 returns c =
     let n = value_count c.args.auction.now in
     let whole : c.truth_rows-truths.result ≡ 0 + length (truths n) = omega (arith, c.truth_rows-truths.ensures.count) in
-    greatest-block c.args.auction.now c.args.interim.now c.args.cuts.now (truths n) 0 c.truth_rows-truths.result c.greatest_of.result
+    greatest-block c.args.auction.now c.args.units c.args.interim.now c.args.cuts.now (truths n) 0 c.truth_rows-truths.result c.greatest_of.result
     (stands-truths n c.args.cuts.now) whole c.greatest_of.ensures

@@ -21,5 +21,5 @@ returns c =
     let n = value_count c.args.auction.now in
     let start = c.truth_rows-start.result in
     let whole : start + c.kinds.result ≡ start + length (rationals n) = omega (arith, c.kinds.ensures.count, length-list_to n Rational) in
-    greatest-block c.args.auction.now c.args.interim.now c.args.cuts.now (rationals n) start (start + c.kinds.result) c.greatest_of.result
+    greatest-block c.args.auction.now c.args.units c.args.interim.now c.args.cuts.now (rationals n) start (start + c.kinds.result) c.greatest_of.result
     (subst (λ k. StandsAt k (rationals n) (conditions_of n c.args.cuts.now)) (sym c.truth_rows-start.ensures.count) (stands-rationals n c.args.cuts.now)) whole c.greatest_of.ensures

@@ -1,4 +1,4 @@
-use Rattle.std.proofs.Common.{◌≡◌, ◌∙◌, ap}
+use Rattle.std.proofs.Common.{◌∙◌, ap}
 use Rattle.md_cli_tell.specs.Standings.{standing_records}
 use Rattle.md_cli_tell.proofs.conditions.conditions_told.Goals as goal
 

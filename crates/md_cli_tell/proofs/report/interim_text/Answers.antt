@@ -10,6 +10,6 @@ returns c =
       admissible = told.admissible;
       mechanisms = told.mechanisms;
       expected = told.expected;
-      tables = tables-judged c.args.auction.now c.args.interim.now c.in_ok-report.report told.shaped told.mechanisms;
+      tables = tables-judged c.args.supply.now c.args.auction.now c.args.interim.now c.in_ok-report.report told.shaped told.mechanisms;
       told = c.in_ok-text.ensures;
     }

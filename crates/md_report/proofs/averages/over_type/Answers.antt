@@ -15,7 +15,7 @@ overflow_add-total c =
     let s = c.args.setting.now in
     let fits : c.loop-rank.rank ≤ profile_count (sizes_of s) = omega (arith, c.profiles-rank-end.ensures.count, ap profile_count c.space.ensures.sizes) in
     let before : IsWithin (2 ^ 122) (to_z w128 c.loop-rank.total-bits) =
-    rw c.loop-rank.invariant (given-within s c.args.mechanism.now c.args.agent c.args.kind c.loop-rank.rank c.args.measure c.requires.accepted c.space.ensures.shaped fits) in
+    rw c.loop-rank.invariant (given-within s c.args.mechanism.now c.args.agent c.args.kind c.loop-rank.rank c.args.measure c.requires.numbers c.space.ensures.shaped fits) in
     rw (read_result c.term-total.result c.term-total.type_inv)
     (fits_from_IsWithin w128 (2 ^ 122 + 1000000 * 2 ^ 91) (to_z w128 c.loop-rank.total-bits +ℤ c.term-total.result)
     (IsWithin-+ℤ (2 ^ 122) (1000000 * 2 ^ 91) (to_z w128 c.loop-rank.total-bits) c.term-total.result before c.term-total.ensures.size) (lit< tt))
@@ -25,7 +25,7 @@ loop-rank-preserved c =
     let s = c.args.setting.now in
     let fits : c.loop-rank.rank ≤ profile_count (sizes_of s) = omega (arith, c.profiles-rank-end.ensures.count, ap profile_count c.space.ensures.sizes) in
     let before : IsWithin (2 ^ 122) (to_z w128 c.loop-rank.total-bits) =
-    rw c.loop-rank.invariant (given-within s c.args.mechanism.now c.args.agent c.args.kind c.loop-rank.rank c.args.measure c.requires.accepted c.space.ensures.shaped fits) in
+    rw c.loop-rank.invariant (given-within s c.args.mechanism.now c.args.agent c.args.kind c.loop-rank.rank c.args.measure c.requires.numbers c.space.ensures.shaped fits) in
     rw (read_result c.term-total.result c.term-total.type_inv)
     (read_within (2 ^ 122 + 1000000 * 2 ^ 91) (to_z w128 c.loop-rank.total-bits +ℤ c.term-total.result)
     (IsWithin-+ℤ (2 ^ 122) (1000000 * 2 ^ 91) (to_z w128 c.loop-rank.total-bits) c.term-total.result before c.term-total.ensures.size) (lit< tt)
@@ -43,4 +43,4 @@ pub returns-clause-size : goal.returns-clause-size
 returns-clause-size c =
     let s = c.args.setting.now in
     let fits : c.loop-rank.rank ≤ profile_count (sizes_of s) = omega (arith, c.profiles-rank-end.ensures.count, ap profile_count c.space.ensures.sizes) in
-    rw c.loop-rank.invariant (given-within s c.args.mechanism.now c.args.agent c.args.kind c.loop-rank.rank c.args.measure c.requires.accepted c.space.ensures.shaped fits)
+    rw c.loop-rank.invariant (given-within s c.args.mechanism.now c.args.agent c.args.kind c.loop-rank.rank c.args.measure c.requires.numbers c.space.ensures.shaped fits)

@@ -11,4 +11,4 @@ returns-clause-positive c =
     rw (read_result c.product.result c.product.type_inv)
     (subst (λ z. pos 0 <ℤ z)
     (sym (rw (read_within number_limit den c.requires.den_size (lit< tt), read_result c.total.result c.total.type_inv) at c.product.ensures.value))
-    (positive-*ℤ den c.total.result (den-positive c.args.setting.now c.args.mechanism.now c.requires) c.total.ensures.positive))
+    (positive-*ℤ den c.total.result (den-positive c.args.mechanism.now c.requires.den) c.total.ensures.positive))

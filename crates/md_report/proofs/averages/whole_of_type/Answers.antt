@@ -10,5 +10,5 @@ returns-clause-positive c =
     let den = c.args.mechanism.now.den in
     rw (read_result c.product.result c.product.type_inv)
     (subst (λ z. pos 0 <ℤ z)
-    (sym (rw (read_within number_limit den c.requires.accepted.den_size (lit< tt), read_result c.marginal.result c.marginal.type_inv) at c.product.ensures.value))
-    (positive-*ℤ den c.marginal.result (den-positive c.args.setting.now c.args.mechanism.now c.requires.accepted) c.marginal.ensures.positive))
+    (sym (rw (read_within number_limit den c.requires.numbers.den_size (lit< tt), read_result c.marginal.result c.marginal.type_inv) at c.product.ensures.value))
+    (positive-*ℤ den c.marginal.result (den-positive c.args.mechanism.now c.requires.numbers.den) c.marginal.ensures.positive))

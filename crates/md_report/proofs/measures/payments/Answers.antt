@@ -17,7 +17,7 @@ overflow_add-sum c =
     let s = c.args.setting.now in
     let few : c.loop-agent.agent ≤ 6 = omega (arith, c.agents-agent-end.ensures.count, c.agents-agent-end.ensures.space.few_agents) in
     let before : IsWithin (6 * 2 ^ 62) (to_z w128 c.loop-agent.sum-bits) =
-    rw c.loop-agent.invariant (paid-within s c.args.mechanism.now c.loop-agent.agent (profile_at (sizes_of s) c.args.rank) c.requires.accepted few) in
+    rw c.loop-agent.invariant (paid-within s c.args.mechanism.now c.loop-agent.agent (profile_at (sizes_of s) c.args.rank) c.requires.numbers few) in
     rw (read_result c.payment-sum.result c.payment-sum.type_inv)
     (fits_from_IsWithin w128 (6 * 2 ^ 62 + 2 ^ 62) (to_z w128 c.loop-agent.sum-bits +ℤ c.payment-sum.result) (IsWithin-+ℤ (6 * 2 ^ 62) (2 ^ 62) (to_z w128 c.loop-agent.sum-bits) c.payment-sum.result before c.payment-sum.ensures.size) (lit< tt))
 
@@ -26,7 +26,7 @@ loop-agent-preserved c =
     let s = c.args.setting.now in
     let few : c.loop-agent.agent ≤ 6 = omega (arith, c.agents-agent-end.ensures.count, c.agents-agent-end.ensures.space.few_agents) in
     let before : IsWithin (6 * 2 ^ 62) (to_z w128 c.loop-agent.sum-bits) =
-    rw c.loop-agent.invariant (paid-within s c.args.mechanism.now c.loop-agent.agent (profile_at (sizes_of s) c.args.rank) c.requires.accepted few) in
+    rw c.loop-agent.invariant (paid-within s c.args.mechanism.now c.loop-agent.agent (profile_at (sizes_of s) c.args.rank) c.requires.numbers few) in
     rw (read_result c.payment-sum.result c.payment-sum.type_inv)
     (read_within (6 * 2 ^ 62 + 2 ^ 62) (to_z w128 c.loop-agent.sum-bits +ℤ c.payment-sum.result)
     (IsWithin-+ℤ (6 * 2 ^ 62) (2 ^ 62) (to_z w128 c.loop-agent.sum-bits) c.payment-sum.result before c.payment-sum.ensures.size) (lit< tt)
@@ -36,7 +36,7 @@ pub returns-clause-size : goal.returns-clause-size
 returns-clause-size c =
     let s = c.args.setting.now in
     let few : c.loop-agent.agent ≤ 6 = omega (arith, c.agents-agent-end.ensures.count, c.agents-agent-end.ensures.space.few_agents) in
-    rw c.loop-agent.invariant (paid-within s c.args.mechanism.now c.loop-agent.agent (profile_at (sizes_of s) c.args.rank) c.requires.accepted few)
+    rw c.loop-agent.invariant (paid-within s c.args.mechanism.now c.loop-agent.agent (profile_at (sizes_of s) c.args.rank) c.requires.numbers few)
 
 pub returns-clause-value : goal.returns-clause-value
 returns-clause-value c =

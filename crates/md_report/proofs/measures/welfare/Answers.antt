@@ -17,27 +17,27 @@ pub overflow_add-sum : goal.overflow_add-sum
 overflow_add-sum c =
     let s = c.args.setting.now in
     let fits : c.loop-agent.agent ≤ agent_count s = omega (arith, c.agents-agent-end.ensures.count, ap length c.space.ensures.sizes, length-map s.agents (λ a. length a.types)) in
-    let before : IsWithin (6 * 2 ^ 91) (to_z w128 c.loop-agent.sum-bits) =
-    rw c.loop-agent.invariant (welfare-within s c.args.mechanism.now c.loop-agent.agent (profile_at (sizes_of s) c.args.rank) c.requires.accepted c.space.ensures.shaped fits) in
+    let before : IsWithin (6 * 2 ^ 86) (to_z w128 c.loop-agent.sum-bits) =
+    rw c.loop-agent.invariant (welfare-within s c.args.mechanism.now c.loop-agent.agent (profile_at (sizes_of s) c.args.rank) c.requires.numbers c.space.ensures.shaped fits) in
     rw (read_result c.lottery-sum.result c.lottery-sum.type_inv)
-    (fits_from_IsWithin w128 (6 * 2 ^ 91 + 2 ^ 91) (to_z w128 c.loop-agent.sum-bits +ℤ c.lottery-sum.result) (IsWithin-+ℤ (6 * 2 ^ 91) (2 ^ 91) (to_z w128 c.loop-agent.sum-bits) c.lottery-sum.result before c.lottery-sum.ensures.size) (lit< tt))
+    (fits_from_IsWithin w128 (6 * 2 ^ 86 + 2 ^ 86) (to_z w128 c.loop-agent.sum-bits +ℤ c.lottery-sum.result) (IsWithin-+ℤ (6 * 2 ^ 86) (2 ^ 86) (to_z w128 c.loop-agent.sum-bits) c.lottery-sum.result before c.lottery-sum.ensures.size) (lit< tt))
 
 pub loop-agent-preserved : goal.loop-agent-preserved
 loop-agent-preserved c =
     let s = c.args.setting.now in
     let fits : c.loop-agent.agent ≤ agent_count s = omega (arith, c.agents-agent-end.ensures.count, ap length c.space.ensures.sizes, length-map s.agents (λ a. length a.types)) in
-    let before : IsWithin (6 * 2 ^ 91) (to_z w128 c.loop-agent.sum-bits) =
-    rw c.loop-agent.invariant (welfare-within s c.args.mechanism.now c.loop-agent.agent (profile_at (sizes_of s) c.args.rank) c.requires.accepted c.space.ensures.shaped fits) in
+    let before : IsWithin (6 * 2 ^ 86) (to_z w128 c.loop-agent.sum-bits) =
+    rw c.loop-agent.invariant (welfare-within s c.args.mechanism.now c.loop-agent.agent (profile_at (sizes_of s) c.args.rank) c.requires.numbers c.space.ensures.shaped fits) in
     rw (read_result c.lottery-sum.result c.lottery-sum.type_inv)
-    (read_within (6 * 2 ^ 91 + 2 ^ 91) (to_z w128 c.loop-agent.sum-bits +ℤ c.lottery-sum.result)
-    (IsWithin-+ℤ (6 * 2 ^ 91) (2 ^ 91) (to_z w128 c.loop-agent.sum-bits) c.lottery-sum.result before c.lottery-sum.ensures.size) (lit< tt)
+    (read_within (6 * 2 ^ 86 + 2 ^ 86) (to_z w128 c.loop-agent.sum-bits +ℤ c.lottery-sum.result)
+    (IsWithin-+ℤ (6 * 2 ^ 86) (2 ^ 86) (to_z w128 c.loop-agent.sum-bits) c.lottery-sum.result before c.lottery-sum.ensures.size) (lit< tt)
     ∙ rw (c.loop-agent.invariant, c.lottery-sum.ensures.value) (sym (sum_to-more c.loop-agent.agent (λ i. lottery_at s c.args.mechanism.now i (profile_at (sizes_of s) c.args.rank)))))
 
 pub returns-clause-size : goal.returns-clause-size
 returns-clause-size c =
     let s = c.args.setting.now in
     let fits : c.loop-agent.agent ≤ agent_count s = omega (arith, c.agents-agent-end.ensures.count, ap length c.space.ensures.sizes, length-map s.agents (λ a. length a.types)) in
-    rw c.loop-agent.invariant (welfare-within s c.args.mechanism.now c.loop-agent.agent (profile_at (sizes_of s) c.args.rank) c.requires.accepted c.space.ensures.shaped fits)
+    rw c.loop-agent.invariant (welfare-within s c.args.mechanism.now c.loop-agent.agent (profile_at (sizes_of s) c.args.rank) c.requires.numbers c.space.ensures.shaped fits)
 
 pub returns-clause-value : goal.returns-clause-value
 returns-clause-value c =

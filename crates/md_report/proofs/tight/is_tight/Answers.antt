@@ -20,4 +20,4 @@ returns c =
     (tests_zero c.is_zero.result (left_of s m condition -ℤ right_of s m condition)
     (both c.is_zero.ensures
     (both (is_zero (missed s m condition) (scale_of s m condition) c.shortfall-missed.result c.shortfall-missed.ensures.scale c.shortfall-missed.ensures.value)
-    (tight-missed s m c.condition_at.result c.requires.accepted c.condition_at.ensures.inside))))
+    (tight-missed s m condition c.args.row here))))

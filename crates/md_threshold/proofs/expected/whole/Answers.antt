@@ -1,4 +1,4 @@
-use Rattle.std.proofs.Common.{◌*◌, pos, ◌<ℤ◌, sym, subst, arith, lit<}
+use Rattle.std.proofs.Common.{pos, ◌<ℤ◌, sym, subst, arith, lit<}
 use Rattle.std.proofs.lemmas.Int.{ints}
 use Rattle.md_math.proofs.Order.{positive-*ℤ, positive_pos}
 use Rattle.md_math.proofs.Readings.{read, read_small, widened, product_is}

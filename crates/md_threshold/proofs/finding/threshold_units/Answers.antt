@@ -1,4 +1,3 @@
-use Rattle.md_iron_pools.specs.Pooling.{pools_of}
 use Rattle.md_threshold.proofs.ThresholdLaws.{is-threshold}
 use Rattle.md_threshold.proofs.finding.threshold_units.Goals as goal
 

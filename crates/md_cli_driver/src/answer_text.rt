@@ -5,7 +5,7 @@ use md_num::NoMemory;
 use std::alloc::Global;
 use std::marker::Model;
 
-/// The text of an answer, as it was read.
+/// The text of a second file, as it was read.
 #[derive(Drop)]
 pub struct AnswerText {
     bytes: Vec<u8>,
@@ -21,7 +21,7 @@ impl Model for AnswerText {
 
 impl AnswerText {
     /// A copy of a text.
-    pub(crate) fn copy(alloc: Global, bytes: &[u8]) -> Result<AnswerText, NoMemory>
+    pub fn copy(alloc: Global, bytes: &[u8]) -> Result<AnswerText, NoMemory>
         ensures { IfOk result (λ text. text ≡ bytes.now) }
     {
         Ok(AnswerText {
@@ -30,7 +30,7 @@ impl AnswerText {
     }
 
     /// The bytes of the text.
-    pub(crate) fn bytes(&self) -> &[u8]
+    pub fn bytes(&self) -> &[u8]
         ensures { result.now ≡ self.now }
     {
         self.bytes.as_slice()

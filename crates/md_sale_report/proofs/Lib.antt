@@ -1,0 +1,5 @@
+pub mod OddsGiven
+pub mod Alike
+pub mod NumberLaws
+pub mod ValueLaws
+pub mod TellingLaws

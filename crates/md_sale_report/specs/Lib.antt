@@ -1,0 +1,4 @@
+pub mod OwnNumbers
+pub mod TightCuts
+pub mod ReportOf
+pub mod Records
