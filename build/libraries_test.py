@@ -1,13 +1,13 @@
 #!/usr/bin/env python3
-"""Tries build/libraries and the launcher over small repositories, with an rt that proves nothing: `build/libraries_test.py`."""
+"""Tries build/libraries and the launcher over small repositories, with a kit that proves nothing: `build/libraries_test.py`."""
 
 from __future__ import annotations
 
 import contextlib
-import importlib.machinery
-import importlib.util
 import os
+import pty
 import re
+import runpy
 import shutil
 import signal
 import subprocess
@@ -16,26 +16,31 @@ import tempfile
 import time
 import types
 import unittest
-from collections.abc import Callable, Mapping
 from pathlib import Path
-from typing import Any
+from typing import Any, Callable, List, Mapping, Tuple
 from unittest import mock
 
 sys.dont_write_bytecode = True
 FOLDER = Path(__file__).resolve().parent
+sys.path.insert(0, str(FOLDER))
+
+import early
+import machine
+import proving
+from crates import Failed, Kit, chains, crates_of, find_kit
+
+libraries = types.SimpleNamespace(**runpy.run_path(str(FOLDER / "libraries"), run_name="libraries"))
 LONGEST = 20  # seconds that a test waits
-Crates = Mapping[str, "tuple[int, str]"]  # how many lines a crate has, and what it uses
+Crates = Mapping[str, Tuple[int, str]]  # how many lines a crate has, and what it uses
 
-# Locks as rt does, and makes what rt makes. Where the crate has a file `after`, it waits until what that says stands in the file
-# `calls` at the top; where it has a file `fails`, it ends with the status that stands there, and is killed where that is 9.
-RT = f"""#!{sys.executable}
-import fcntl, os, sys, time
-name = os.path.basename(os.getcwd())
-rows = dict(line.strip().split(":") for line in open("../../crates.txt"))
-rows = {{head.split()[0]: (head.split()[1:], uses.split()) for head, uses in rows.items()}}
-
-def below(name):
-    return {{name}}.union(*(below(it) for it in rows[name][1] if it in rows))
+# Notes its calls, and makes what rattle makes. Where the crate has a file `after`, it waits until what that says stands in the file
+# `calls` at the top; where it has a file `fails`, it ends with the status that stands there, and is killed where that is 9. The
+# format of a library is the text of its sources.
+RATTLE = f"""#!{sys.executable}
+import os, sys, time
+words = sys.argv[1:]
+behind = lambda it: words[words.index(it) + 1]
+name, made = behind("--crate-name"), behind("-o")
 
 def text(name):
     return open(name).read() if os.path.exists(name) else ""
@@ -44,16 +49,8 @@ def note(*words):
     with open("../../calls", "a") as file:
         print(*words, file=file)
 
-print("rt", *sys.argv[1:], flush=True)
-held = [os.open(f"../{{it}}", os.O_RDONLY) for it in sorted(below(name))]
-for it in held:
-    try:
-        fcntl.flock(it, fcntl.LOCK_EX | fcntl.LOCK_NB)
-    except BlockingIOError:
-        print("rt: waiting for another rt to finish in a folder", flush=True)
-        fcntl.flock(it, fcntl.LOCK_EX)
-note("begins", name, *sys.argv[1:])
-os.makedirs("out/incremental", exist_ok=True)
+more = [behind(it) for it in ("--cpu", "--jobs") if it in words]
+note("begins", name, words[0], *more, *["statements"] * ("--statements" in words))
 while text("after") not in text("../../calls"):
     time.sleep(0.01)
 note("ends", name)
@@ -65,32 +62,37 @@ if fails:
     print("error: it is not so")
     sys.exit(int(fails))
 print("logic=proved functions=1")
-if sys.argv[1] == "run":
-    with open(f"out/{{name}}", "w") as file:
-        file.write('#!/bin/sh\\necho "$@"\\ncat\\nexit 7\\n')
-    os.chmod(f"out/{{name}}", 0o755)
-    sys.exit(64)
-made = f"out/lib{{name}}.a" if "staticlib" in rows[name][0] else "out/rlib/stamp"
-os.makedirs("out/rlib", exist_ok=True)
-open(made, "w").close()
+if words[0] == "check":
+    os.makedirs(made)
+elif made.endswith(".rlib"):
+    os.makedirs(made, exist_ok=True)
+    open(made + "/format", "w").write(text("src/lib.rt"))
+else:
+    open(made, "w").close()
+"""
+# Makes a program that prints its words and its input.
+LINK = f"""#!{sys.executable}
+import os, sys
+made = sys.argv[sys.argv.index("-o") + 1]
+open(made, "w").write('#!/bin/sh\\necho "$@"\\ncat\\nexit 7\\n')
+os.chmod(made, 0o755)
+"""
+# Answers to `rt try` what stands in the file `early` at the top, once that is there, and then tells in `calls` that it did.
+RT = f"""#!{sys.executable}
+import os, sys, time
+with open("../../calls", "a") as file:
+    print("tries", *sys.argv[2:], file=file)
+while not os.path.exists("../../early"):
+    time.sleep(0.01)
+text = open("../../early").read()
+sys.stdout.write(text)
+sys.stdout.flush()
+sys.stderr.write("checked: ended status=7\\nrun=ended status=7 runners=1 proved=no\\n" if text else "run=none proved=no\\n")
 """
 
 
-def loaded() -> types.ModuleType:
-    """The builder as a module."""
-    loader = importlib.machinery.SourceFileLoader("libraries", str(FOLDER / "libraries"))
-    spec = importlib.util.spec_from_loader("libraries", loader)
-    assert spec is not None
-    made = importlib.util.module_from_spec(spec)
-    loader.exec_module(made)
-    return made
-
-
-libraries = loaded()
-
-
 class Repository:
-    """A throw-away repository with the builder, the launcher and the rt above. Its crates are given by their lines and what they
+    """A throw-away repository with the builder, the launcher and the kit above. Its crates are given by their lines and what they
     use."""
 
     def __init__(self, crates: Crates) -> None:
@@ -99,12 +101,16 @@ class Repository:
         self.rows: dict[str, str] = {}
         (self.top / "build").mkdir(parents=True)
         (self.top / "kit/bin").mkdir(parents=True)
-        for name in ("build/libraries", "mechdes"):
+        for name in ("mechdes", "README.md", *(f"build/{it.name}" for it in FOLDER.glob("*.py")), "build/libraries"):
             shutil.copy(FOLDER.parent / name, self.top / name)
-        (self.top / "kit/bin/rt").write_text(RT)
-        (self.top / "kit/bin/rt").chmod(0o755)
+        for name, text in (("rt", RT), ("rattle", RATTLE), ("rattle-link", LINK)):
+            (self.top / "kit/bin" / name).write_text(text)
+            (self.top / "kit/bin" / name).chmod(0o755)
         (self.top / "kit/bin/python3").symlink_to(sys.executable)
         (self.top / "kit/WHAT").write_text("a kit\n")
+        table = "crates/md_cli_words/src/command.rt"
+        (self.top / table).parent.mkdir(parents=True)
+        shutil.copy(FOLDER.parent / table, self.top / table)
         for name, (lines, uses) in crates.items():
             self.add(name, lines, uses)
 
@@ -116,6 +122,12 @@ class Repository:
         shutil.copytree(self.top, made.top, symlinks=True)
         (made.top / "calls").unlink()
         return made
+
+    def kit(self) -> Kit:
+        return Kit(str(self.top / "kit/bin/rt"))
+
+    def crates(self, name: str) -> Any:
+        return crates_of(self.top, name, self.kit())
 
     def add(self, name: str, lines: int, uses: str) -> None:
         name, *kind = name.split()
@@ -132,7 +144,7 @@ class Repository:
     def out(self, name: str, file: str) -> Path:
         return self.top / "crates" / name / "out" / file
 
-    def start(self, *words: str, jobs: int = 2, **how: Any) -> subprocess.Popen[str]:
+    def start(self, *words: str, jobs: int = 1, **how: Any) -> subprocess.Popen[str]:
         """Starts a call, which Ctrl-C ends also where these tests were begun in the background."""
         path = f"{self.top / 'kit/bin'}:{os.environ['PATH']}"
         how["preexec_fn"] = lambda: signal.signal(signal.SIGINT, signal.SIG_DFL)
@@ -150,7 +162,7 @@ class Repository:
         return self.run("build/libraries", name, **how)
 
     def calls(self) -> list[str]:
-        """What the rt noted."""
+        """What the kit noted."""
         file = self.top / "calls"
         return file.read_text().splitlines() if file.exists() else []
 
@@ -159,18 +171,21 @@ class Repository:
             print(text, file=file)
 
     def begun(self) -> list[str]:
-        return [row.split()[1] for row in self.calls() if row.startswith("begins")]
+        """The crates whose proofs were begun."""
+        rows = [row.split() for row in self.calls() if row.startswith("begins")]
+        return [row[1] for row in rows if row[1:3] != ["md_prog", "build"]]
 
-    def is_rt_running(self) -> bool:
-        rt = f"{self.top / 'kit/bin/rt'}".encode()
+    def is_kit_running(self) -> bool:
+        kit = f"{self.top / 'kit/bin/r'}".encode()
         for process in filter(str.isdigit, os.listdir("/proc")):
             with contextlib.suppress(OSError):
-                if rt in Path("/proc", process, "cmdline").read_bytes().split(b"\0"):
+                if any(it.startswith(kit) for it in Path("/proc", process, "cmdline").read_bytes().split(b"\0")):
                     return True
         return False
 
 
 SMALL = {"md_low": (20, ""), "md_one": (30, "md_low"), "md_two": (60, "md_low"), "md_prog": (5, "md_one md_two")}
+SETTING = "mechdes"  # a file that is there
 
 
 def tearDownModule() -> None:
@@ -179,7 +194,7 @@ def tearDownModule() -> None:
 
 
 class Case(unittest.TestCase):
-    once: list[Repository] = []
+    once: List[Repository] = []
 
     def kept(self, made: Repository) -> Repository:
         self.addCleanup(made.room.cleanup)
@@ -192,7 +207,7 @@ class Case(unittest.TestCase):
         """A repository whose program the launcher has built."""
         if not self.once:
             made = Repository(SMALL)
-            self.assertEqual(made.run("mechdes", "solve")[0], 7)
+            self.assertEqual(made.run("mechdes", "solve", SETTING, cwd=made.top)[0], 7)
             self.once.append(made)
         return self.kept(self.once[0].copy())
 
@@ -207,34 +222,37 @@ class Case(unittest.TestCase):
 class OrderTest(Case):
     def test_a_chain_is_weighed(self) -> None:
         rows = {"low": (10, ""), "long": (30, "low"), "next": (5, "long"), "short": (20, "low std"), "top": (1, "short next")}
-        made = self.repository(rows)
-        crates = libraries.crates_of(made.top, "top", "a kit")
-        order = libraries.chains(crates, {it: it.lines for it in crates})
+        crates = self.repository(rows).crates("top")
+        order = chains(crates, {it: it.lines for it in crates})
         self.assertEqual({it.name: order[it] for it in order}, {"low": 46, "long": 36, "next": 6, "short": 21, "top": 1})
 
-    def test_a_crate_weighs_its_lines_and_a_part_of_those_below(self) -> None:
-        made = self.repository({"low": (400, ""), "mid": (200, "low"), "top": (10, "mid")})
-        crates = libraries.crates_of(made.top, "top", "a kit")
-        self.assertEqual([it.weight for it in crates], [400, 220, 40])
+    def test_a_crate_is_expected_to_take_more_with_its_lines_and_those_below(self) -> None:
+        made = self.repository({"low": (400, ""), "mid": (200, "low"), "top": (200, "mid")})
+        low, mid, top = map(proving.expected, made.crates("top"))
+        self.assertLess(mid, low)
+        self.assertLess(mid, top)
 
     def test_only_what_is_below_is_read(self) -> None:
         made = self.repository({"low": (1, ""), "beside": (1, "low"), "top": (1, "low"), "above": (1, "top")})
-        self.assertEqual([it.name for it in libraries.crates_of(made.top, "top", "a kit")], ["low", "top"])
-        with self.assertRaises(libraries.Failed):
-            libraries.crates_of(made.top, "std", "a kit")
+        self.assertEqual([it.name for it in made.crates("top")], ["low", "top"])
+        with self.assertRaises(Failed):
+            made.crates("std")
 
     def test_all_files_of_the_proof_are_counted(self) -> None:
         made = self.repository({"low": (4, "")})
         made.write("low", "specs/Lib.antt", "pub mod Words\n")
         made.write("low", "proofs/add/Answers.antt", "a\nb\n")
         made.write("low", "must-fail/first.edit", "file: src/lib.rt\n")
-        (crate,) = libraries.crates_of(made.top, "low", "a kit")
-        self.assertEqual(crate.lines, 7)
+        (crate,) = made.crates("low")
+        self.assertEqual((crate.lines, crate.source_lines), (7, 4))
 
-    def shared(self, ready: str, idle: int, room: int = 1 << 40, is_alone: bool = True) -> list[tuple[str, int]]:
+    def shared(self, ready: str, idle: int, room: float = 1e15, is_alone: bool = True) -> list[tuple[str, int]]:
         """Which of some crates begin, with their jobs: each crate is a letter, and one with a capital letter is short."""
-        crates = [types.SimpleNamespace(name=it, lines=libraries.LINES_OF_JOBS - it.isupper()) for it in ready]
-        return [(it.name, jobs) for it, jobs in libraries.shares(crates, idle, room, is_alone)]
+        crates = [types.SimpleNamespace(name=it) for it in ready]
+        seconds = mock.patch.object(proving, "expected", lambda it: proving.SECONDS_OF_JOBS - it.name.isupper())
+        memory = mock.patch.object(proving, "memory_of", lambda _, jobs=1: 2 + jobs)
+        with seconds, memory:
+            return [(it.name, jobs) for it, jobs in proving.shares(crates, idle, room, is_alone)]  # type: ignore[arg-type]
 
     def test_processors_are_shared(self) -> None:
         self.assertEqual(self.shared("a", 1), [("a", 1)])
@@ -254,77 +272,71 @@ class OrderTest(Case):
         self.assertEqual(self.shared("Ab", 4), [("A", 1), ("b", 3)])
 
     def test_memory_is_looked_at(self) -> None:
-        self.assertEqual(self.shared("ab", 4, 5_100_000_000), [("a", 2)])
-        self.assertEqual(self.shared("abcd", 4, 5_100_000_000), [("a", 1), ("b", 1)])
-        self.assertEqual(self.shared("ab", 4, 1_000_000_000), [("a", 1)])
-        self.assertEqual(self.shared("ab", 3, 1_000_000_000, is_alone=False), [])
+        self.assertEqual(self.shared("ab", 4, 4), [("a", 2)])
+        self.assertEqual(self.shared("abcd", 4, 6), [("a", 1), ("b", 1)])
+        self.assertEqual(self.shared("ab", 4, 1), [("a", 1)])
+        self.assertEqual(self.shared("ab", 3, 1, is_alone=False), [])
 
 
 class TimeTest(Case):
+    def builder(self, crates: Crates, name: str, seconds: Mapping[str, float]) -> proving.Builder:
+        """A builder of crates that are expected to take so many seconds."""
+        with mock.patch.object(proving, "expected", lambda it: seconds[it.name]):
+            return proving.Builder(self.repository(crates).crates(name), 1, "x86-64-v2")
+
+    def running(self, builder: proving.Builder, at: int, seconds: float) -> None:
+        run = object.__new__(proving.Run)
+        run.crate, run.jobs, run.began = builder.crates[at], 1, time.monotonic() - seconds
+        builder.running = [run]
+
     def test_a_constant_gives_way_to_what_was_measured(self) -> None:
-        pace = libraries.Pace()
-        self.assertEqual(pace.of_line(), libraries.SECONDS_A_LINE)
-        pace.add(libraries.CONSTANT_LINES, 3 * libraries.CONSTANT_LINES * libraries.SECONDS_A_LINE)
-        self.assertAlmostEqual(pace.of_line(), 2 * libraries.SECONDS_A_LINE)
-        pace.add(10**9, 10**9)
-        self.assertAlmostEqual(pace.of_line(), 1, places=4)
-        self.assertAlmostEqual(pace.of_line(10**9), 2, places=4)
+        pace = proving.Pace()
+        self.assertEqual(pace.now(), 1)
+        pace.add(proving.CONSTANT, 3 * proving.CONSTANT)
+        self.assertAlmostEqual(pace.now(), 2)
+        pace.add(1e9, 1e9)
+        self.assertAlmostEqual(pace.now(), 1, places=4)
+        self.assertAlmostEqual(pace.now(1e9), 2, places=4)
+
+    def test_what_is_left_goes_by_all_and_by_the_longest_chain(self) -> None:
+        crates = {"low": (1, ""), "one": (1, "low"), "two": (1, "low"), "top": (1, "one two")}
+        builder = self.builder(crates, "top", {"low": 100, "one": 300, "two": 300, "top": 50})
+        left = builder.left()
+        self.assertAlmostEqual(proving.seconds_left(builder.crates, left, 1), 750)
+        self.assertAlmostEqual(proving.seconds_left(builder.crates, left, 4), 450)
+        builder.done = {*builder.crates[:2]}
+        self.assertAlmostEqual(proving.seconds_left(builder.crates, builder.left(), 4), 350)
 
     def test_a_crate_that_is_late_makes_the_rest_longer(self) -> None:
-        made = self.repository({"low": (1000, ""), "top": (6000, "low")})
-        builder = libraries.Builder(libraries.crates_of(made.top, "top", "a kit"), "rt", 1, None)
-        run = object.__new__(libraries.Run)
-        run.crate, run.jobs, run.seconds = builder.crates[0], 1, lambda: 1000 * libraries.SECONDS_A_LINE
-        builder.running = [run]
+        builder = self.builder({"low": (1, ""), "top": (1, "low")}, "top", {"low": 60, "top": 240})
+        self.running(builder, 0, 60)
         self.assertRegex(builder.progress(), "about 4 minutes left$")
-        run.seconds = lambda: 5000 * libraries.SECONDS_A_LINE
+        self.running(builder, 0, 360)
         self.assertRegex(builder.progress(), "about 8 minutes left$")
 
-    def test_what_is_left_goes_by_lines_and_by_the_longest_chain(self) -> None:
-        made = self.repository({"low": (100, ""), "one": (300, "low"), "two": (300, "low"), "top": (50, "one two")})
-        crates = libraries.crates_of(made.top, "top", "a kit")
-        left, each = {it: it.lines for it in crates}, libraries.SECONDS_A_LINE
-        self.assertAlmostEqual(libraries.seconds_left(crates, left, 1, each), 750 * each)
-        self.assertAlmostEqual(libraries.seconds_left(crates, left, 4, each), 450 * each)
-        left[crates[0]] = left[crates[1]] = 0
-        self.assertAlmostEqual(libraries.seconds_left(crates, left, 4, each), 350 * each)
-
     def test_minutes_in_words(self) -> None:
-        said = [libraries.in_words(it) for it in (10, 40, 61, 100, 3600)]
+        said = [proving.in_words(it) for it in (10, 40, 61, 100, 3600)]
         self.assertEqual(said, ["less than a minute", "about 1 minute", "about 1 minute", "about 2 minutes", "about 60 minutes"])
 
-    def test_the_share_goes_by_weight_and_never_falls(self) -> None:
-        made = self.repository({"low": (100, ""), "mid": (300, "low"), "top": (600, "mid")})
-        low, mid, _ = crates = libraries.crates_of(made.top, "top", "a kit")
-        builder = libraries.Builder(crates, "rt", 1, None)
-        builder.done = {low}
-        self.assertRegex(builder.progress(), r"^9 % of the work is done, .* left$")
-        run = object.__new__(libraries.Run)
-        run.crate, run.jobs, run.seconds = mid, 1, lambda: 100 * libraries.SECONDS_A_LINE
-        builder.running = [run]
-        self.assertRegex(builder.progress(), "^19 %")
-        builder.pace.add(10**6, 10**6)
-        self.assertRegex(builder.progress(), "^19 %")
-        run.seconds = lambda: 10**6
-        self.assertRegex(builder.progress(), "^36 %")
-
-    def test_only_a_proof_from_nothing_is_measured(self) -> None:
-        said = "logic=proved functions=1\n"
-        taken = f"rt: a: begins with what a check kept in b\n{said}"
-        for is_new, text, expected in ((True, said, True), (False, said, False), (True, "", False), (True, taken, False)):
-            run = object.__new__(libraries.Run)
-            run.is_new, run.said = is_new, lambda text=text: text
-            self.assertEqual(run.is_measure(), expected)
+    def test_the_share_goes_by_seconds_and_never_falls(self) -> None:
+        crates = {"low": (1, ""), "mid": (1, "low"), "top": (1, "mid")}
+        builder = self.builder(crates, "top", {"low": 100, "mid": 300, "top": 600})
+        builder.done = {builder.crates[0]}
+        self.assertRegex(builder.progress(), r"^10 % of the work is done, .* left$")
+        self.running(builder, 1, 100)
+        self.assertRegex(builder.progress(), "^20 %")
+        builder.pace.add(1e6, 1e7)
+        self.assertRegex(builder.progress(), "^20 %")
 
     def test_the_machine_is_asked(self) -> None:
         with mock.patch.dict(os.environ, MECHDES_JOBS="3"):
-            self.assertEqual(libraries.processors(), 3)
+            self.assertEqual(machine.processors(), 3)
         for wrong in ("0", "two", "-1"):
-            with mock.patch.dict(os.environ, MECHDES_JOBS=wrong), self.assertRaises(libraries.Failed):
-                libraries.processors()
+            with mock.patch.dict(os.environ, MECHDES_JOBS=wrong), self.assertRaises(Failed):
+                machine.processors()
         with mock.patch.dict(os.environ, MECHDES_JOBS=""):
-            self.assertIn(libraries.processors(), range(1, len(os.sched_getaffinity(0)) + 1))
-        self.assertGreater(libraries.free_memory(), 0)
+            self.assertIn(machine.processors(), range(1, len(os.sched_getaffinity(0)) + 1))
+        self.assertGreater(machine.free_memory(), 0)
 
 
 class BuildTest(Case):
@@ -333,52 +345,24 @@ class BuildTest(Case):
         status, out, told = made.build("md_prog", jobs=1)
         self.assertEqual((status, out), (0, ""), told)
         begun = [row for row in made.calls() if row.startswith("begins")]
-        lib = "lib --jobs 1"
-        libs = [f"begins {name} {lib}" for name in ("md_low", "md_two", "md_one")]
-        self.assertEqual(begun, [*libs, "begins md_prog run --jobs 1"])
+        libs = [f"begins {name} build 1 statements" for name in ("md_low", "md_two", "md_one")]
+        self.assertEqual(begun, [*libs, "begins md_prog check x86-64-v2 1", "begins md_prog build x86-64-v2"])
         lines = told.splitlines()
         plan = "mechdes: proving and building 4 crates with 115 lines, one at a time; "
         self.assertEqual(lines[0], plan + "0 % of the work is done, less than a minute left")
         shares = [int(re.findall(r"(\d+) % of the work is done", it)[0]) for it in lines[:-1]]
-        self.assertEqual(shares, [0, 16, 66, 91])
+        self.assertEqual(shares, sorted(shares))
+        self.assertEqual((shares[0], len(shares)), (0, 4))
         self.assertRegex(lines[1], r"^mechdes: md_low is proved \(\d+ s\); ")
         self.assertRegex(lines[-1], "^mechdes: all is proved and built ")
         self.assertTrue(told.replace("\n", "").isprintable())
 
     def test_crates_over_a_common_one_side_by_side(self) -> None:
-        made = self.repository({**SMALL, "md_low": (libraries.LINES_OF_JOBS, "")})
+        made = self.repository()
         made.write("md_one", "after", "begins md_two")
         made.write("md_two", "after", "begins md_one")
         self.assertEqual(made.build("md_prog", jobs=2)[0], 0)
-        self.assertEqual(made.calls()[0], "begins md_low lib --jobs 2")
-        self.assertEqual({*made.calls()[2:4]}, {"begins md_one lib --jobs 1", "begins md_two lib --jobs 1"})
-
-    def test_another_rt_is_kept_out(self) -> None:
-        made = self.repository()
-        made.write("md_two", "after", "go on")
-        log = made.top / "other.log"
-        with made.start("build/libraries", "md_two") as call, open(log, "w") as file:
-            self.wait_for("md_two begins", lambda: "md_two" in made.begun())
-            with made.start("kit/bin/rt", "lib", cwd=made.top / "crates/md_low", stdout=file) as other:
-                self.wait_for("the other waits", lambda: "waiting for" in log.read_text())
-                made.note("go on")
-                other.communicate(timeout=LONGEST)
-            call.communicate(timeout=LONGEST)
-        self.assertEqual((call.returncode, other.returncode), (0, 0))
-        self.assertLess(made.calls().index("ends md_two"), made.calls().index("begins md_low lib"))
-
-    def test_one_that_waits_is_told_of_and_does_not_count_as_work(self) -> None:
-        made = self.repository()
-        builder = libraries.Builder(libraries.crates_of(made.top, "md_low", "a kit"), "rt", 1, None)
-        run = object.__new__(libraries.Run)
-        run.crate, run.jobs, builder.running = builder.crates[0], 1, [run]
-        waiting = "rt: waiting for another rt to finish in a folder\n"
-        for text, is_waiting in (("", False), (waiting, True), (waiting + "logic=proved\n", False)):
-            run.said, run.began = lambda text=text: text, 0
-            with mock.patch.object(libraries, "tell") as told:
-                builder.tell_running()
-            self.assertEqual(run.began > 0, is_waiting)
-            self.assertEqual(told.call_args[0][0].endswith("at work: md_low (waits for another rt)"), is_waiting)
+        self.assertEqual({*made.calls()[2:4]}, {"begins md_one build 1 statements", "begins md_two build 1 statements"})
 
     def test_it_tells_at_least_every_while(self) -> None:
         made = self.repository({"md_low": (20, "")})
@@ -390,10 +374,9 @@ class BuildTest(Case):
             if sum("; at work: md_low" in it for it in told) == 2:
                 made.note("go on")
 
-        path = mock.patch.dict(os.environ, PATH=f"{made.top / 'kit/bin'}:{os.environ['PATH']}", MECHDES_JOBS="1")
-        often = mock.patch.multiple(libraries, SECONDS_BETWEEN_LINES=0.1, SECONDS_BETWEEN_LOOKS=0.02)
-        with path, often, mock.patch.object(libraries, "tell", tell):
-            self.assertTrue(libraries.build(made.top, "md_low"))
+        often = mock.patch.multiple(proving, SECONDS_BETWEEN_LINES=0.1, SECONDS_BETWEEN_LOOKS=0.02)
+        with often, mock.patch.object(proving, "tell", tell):
+            self.assertTrue(proving.Builder(made.crates("md_low"), 1, "x86-64-v2").build())
         self.assertRegex(told[1], r"^\d+ % of the work is done, less than a minute left; at work: md_low$")
 
     def test_a_static_library(self) -> None:
@@ -404,14 +387,20 @@ class BuildTest(Case):
         self.assertTrue(made.out("md_embed", "libmd_embed.a").is_file())
         self.assertEqual(made.begun(), ["md_low", "md_embed"])
 
+    def test_a_library_over_others_as_they_lie_there(self) -> None:
+        made = self.repository({"md_low": (20, ""), "md_embed staticlib": (5, "md_low")})
+        made.write("md_low", "out/rlib/md_low.rlib/format", "of rt ci\n")
+        self.assertEqual(made.run("build/libraries", "--alone", "md_embed")[0], 0)
+        self.assertEqual(made.begun(), ["md_embed"])
+
     def test_wrong_words(self) -> None:
-        for words in ([], ["md_low", "md_one"], ["--all"], ["--below", "md_prog", "--run"], ["md_prog", "--cpu"]):
-            self.assertIsNone(libraries.asked(words), words)
-        self.assertEqual(libraries.asked(["--cpu", "a", "b", "--run", "--below", "--run"]), ("b", "a", False, ["--below", "--run"]))
+        for words in ([], ["md_low", "md_one"], ["--all"], ["--below", "md_prog", "--run"], ["--alone", "--below", "a"], ["md_prog", "--cpu"]):
+            self.assertIsNone(libraries.asked_in(words), words)
+        self.assertEqual(libraries.asked_in(["--cpu", "a", "b", "--run", "--below", "--run"]), ("b", "a", "", ["--below", "--run"]))
         made = self.repository()
         self.assertEqual(made.run("build/libraries")[0], 64)
         self.assertEqual(made.build("md_none")[0], 1)
-        self.assertEqual(made.run("build/libraries", "md_low", "--run")[0], 1)
+        self.assertEqual(made.run("build/libraries", "md_low", "--run", "solve", SETTING, cwd=made.top)[0], 1)
         self.assertEqual(made.calls(), [])
 
 
@@ -421,10 +410,17 @@ class AgainTest(Case):
         self.assertEqual(made.build("md_one"), (0, "", ""))
         self.assertEqual(made.calls(), [])
 
-    def test_a_change_concerns_what_is_above(self) -> None:
+    def test_a_change_of_a_proof_concerns_its_crate_alone(self) -> None:
         made = self.built()
         made.write("md_one", "proofs/Lib.antt", "mod Sums\n")
-        self.assertEqual(made.build("md_prog")[0], 0)
+        self.assertEqual(made.build("md_one")[0], 0)
+        self.assertEqual(made.build("md_two")[0], 0)
+        self.assertEqual(made.begun(), ["md_one"])
+
+    def test_a_change_of_what_is_stated_concerns_what_is_above(self) -> None:
+        made = self.built()
+        made.write("md_one", "src/lib.rt", "// another\n")
+        self.assertEqual(made.run("mechdes", "solve", SETTING, cwd=made.top)[0], 7)
         self.assertEqual(made.begun(), ["md_one", "md_prog"])
 
     def test_a_change_of_what_is_used(self) -> None:
@@ -433,11 +429,17 @@ class AgainTest(Case):
         self.assertEqual(made.build("md_two")[0], 0)
         self.assertEqual(made.begun(), ["md_two"])
 
-    def test_what_another_call_made_or_removed_is_looked_at(self) -> None:
+    def test_a_library_that_the_kit_made_is_not_taken(self) -> None:
         made = self.built()
-        made.out("md_low", "rlib/stamp").unlink()
-        time.sleep(0.02)
-        made.out("md_two", "rlib/stamp").touch()
+        made.out("md_low", "rlib/stamp").touch()
+        self.assertEqual(made.build("md_two")[0], 0)
+        self.assertEqual(made.begun(), ["md_low"])
+        self.assertFalse(made.out("md_low", "rlib/stamp").exists())
+
+    def test_a_library_that_was_made_otherwise_or_removed(self) -> None:
+        made = self.built()
+        made.out("md_low", "rlib/md_low.rlib/format").write_text("another\n")
+        shutil.rmtree(made.out("md_two", "rlib"))
         self.assertEqual(made.build("md_two")[0], 0)
         self.assertEqual(made.begun(), ["md_low", "md_two"])
 
@@ -453,12 +455,11 @@ class AgainTest(Case):
         made.write("md_two", "after", "go on")
         with made.start("build/libraries", "md_two", jobs=1) as call:
             self.wait_for("md_two begins", lambda: "md_two" in made.begun())
-            self.assertTrue(made.is_rt_running())
+            self.assertTrue(made.is_kit_running())
             call.send_signal(number)
             _, told = call.communicate(timeout=LONGEST)
         self.assertEqual(call.returncode, -number)
-        self.wait_for("rt ends too", lambda: not made.is_rt_running())
-        self.assertTrue(made.out("md_two", "incremental").is_dir())
+        self.wait_for("the kit ends too", lambda: not made.is_kit_running())
         made.note("go on")
         self.assertEqual(made.build("md_two")[0], 0)
         self.assertEqual(made.begun(), ["md_low", "md_two", "md_two"])
@@ -491,7 +492,7 @@ class FailureTest(Case):
         made.write("md_one", "fails", "1")
         made.write("md_two", "after", "go on")
         log = made.top / "told"
-        with open(log, "w") as file, made.start("build/libraries", "md_prog", stderr=file) as call:
+        with open(log, "w") as file, made.start("build/libraries", "md_prog", jobs=2, stderr=file) as call:
             self.wait_for("it is told", lambda: "run beside it: md_two\n" in log.read_text())
             made.note("go on")
             call.communicate(timeout=LONGEST)
@@ -501,26 +502,25 @@ class FailureTest(Case):
         self.assertEqual(made.calls()[-1], "ends md_two")
         self.assertNotIn("md_prog", made.begun())
         (made.top / "crates/md_one/fails").unlink()
-        self.assertEqual(made.build("md_prog")[0], 0)
+        self.assertEqual(made.build("md_prog", jobs=2)[0], 0)
         self.assertEqual(made.begun()[3:], ["md_one", "md_prog"])
 
-    def test_another_status_of_rt(self) -> None:
+    def test_another_status_of_the_kit(self) -> None:
         made = self.repository()
         made.write("md_low", "fails", "3")
         status, _, told = made.build("md_low")
         self.assertEqual(status, 1)
-        self.assertIn("md_low was not built (rt ended with the status 3): see ", told)
+        self.assertIn("md_low was not built (the kit ended with the status 3): see ", told)
 
     def test_a_proof_that_was_killed_is_tried_alone(self) -> None:
         made = self.repository()
         made.write("md_one", "fails", "9")
         made.write("md_two", "after", "ends md_one")
-        status, _, told = made.build("md_prog")
+        status, _, told = made.build("md_prog", jobs=2)
         self.assertEqual(status, 0, told)
         self.assertIn("md_one was killed, most likely for memory", told)
         self.assertEqual(made.begun().count("md_one"), 2)
-        self.assertEqual(made.calls()[-4:-2], ["begins md_one lib --jobs 1", "ends md_one"])
-        self.assertLess(made.calls().index("ends md_two"), len(made.calls()) - 4)
+        self.assertLess(made.calls().index("ends md_two"), len(made.calls()) - 6)
 
     def test_files_that_change_meanwhile(self) -> None:
         made = self.repository()
@@ -535,34 +535,92 @@ class FailureTest(Case):
         self.assertEqual(made.begun(), ["md_low", "md_two"])
 
     def test_no_rt(self) -> None:
-        with mock.patch.dict(os.environ, PATH="/nowhere"), self.assertRaisesRegex(libraries.Failed, "rt .* is not on the path"):
-            libraries.find_rt()
+        with mock.patch.dict(os.environ, PATH="/nowhere"), self.assertRaisesRegex(Failed, "rt .* is not on the path"):
+            find_kit()
+
+
+class EarlyTest(Case):
+    """Calls whose answer before the proof is shown, or is not."""
+
+    def called(self, early_text: str | None, *words: str, jobs: int = 2, **more: str) -> tuple[Repository, int, str, str]:
+        """Makes a call whose early answer is this text, and which is proved once that was looked at."""
+        made = self.repository({"md_prog": (3, "")})
+        if early_text is not None:
+            (made.top / "early").write_text(early_text)
+            made.write("md_prog", "after", "tries")
+        with mock.patch.dict(os.environ, more):
+            status, out, told = made.run("mechdes", *words, jobs=jobs, cwd=made.top)
+        return made, status, out, told
+
+    def test_the_same_answer(self) -> None:
+        words = ["solve", "crates.txt", "no-file", "--width", "8"]
+        made, status, out, told = self.called("solve crates.txt no-file --width 8\n", *words)
+        self.assertEqual((status, out), (7, "solve crates.txt no-file --width 8\n"), told)
+        self.assertIn("tries --data f1=", made.calls()[0] + made.calls()[1])
+        self.assertTrue(any(row.endswith("/top/crates.txt -- solve f1 no-file --width 8") for row in made.calls()))
+        self.assertIn("mechdes: the program answers, with the status 7, but is not proved yet:\n", told)
+        self.assertIn("\nbefore the proof | solve crates.txt no-file --width 8\n", told)
+        self.assertNotIn("checked:", told)
+        self.assertNotIn("run=", told)
+
+    def test_another_answer_ends_the_call_with_a_failure(self) -> None:
+        _, status, out, told = self.called("answer,1\n", "solve", "crates.txt")
+        self.assertEqual((status, out), (1, "solve crates.txt\n"))
+        self.assertRegex(told, "(?s)before the proof \\| answer,1\n.*the program answered otherwise before its proof")
+
+    def test_none_is_shown_where_the_program_did_not_end(self) -> None:
+        _, status, out, told = self.called("", "solve", "crates.txt")
+        self.assertEqual((status, out), (7, "solve crates.txt\n"))
+        self.assertNotIn("before the proof", told)
+
+    def test_a_long_one_is_not_shown(self) -> None:
+        _, status, _, told = self.called("a line\n" * (early.MOST_LINES + 1), "solve", "crates.txt")
+        self.assertEqual(status, 7)
+        self.assertNotIn("before the proof", told)
+
+    def test_left_out(self) -> None:
+        self.assertEqual(self.called(None, "make", "1")[0].calls()[0].split()[0], "begins")
+        off = {"MECHDES_EARLY": "0"}
+        calls: list[tuple[list[str], int, dict[str, str]]] = [(["solve", SETTING], 1, {}), (["solve", SETTING], 2, off), (["solve", "build"], 2, {})]
+        for words, jobs, more in calls:
+            made, status, _, _ = self.called(None, *words, jobs=jobs, **more)
+            self.assertEqual(status, 7)
+            self.assertEqual([row for row in made.calls() if row.startswith("tries")], [], words)
+
+    def test_a_file_that_is_too_long(self) -> None:
+        with tempfile.NamedTemporaryFile() as file:
+            self.assertEqual(early.as_data(["solve", file.name, "8"]), (["--data", f"f1={file.name}"], ["solve", "f1", "8"]))
+            file.truncate(early.LONGEST_FILE + 1)
+            self.assertIsNone(early.as_data(["solve", file.name]))
+
+    def test_it_is_ended_with_the_proof(self) -> None:
+        made = self.repository({"md_prog": (3, "")})
+        made.write("md_prog", "after", "tries")
+        status, out, _ = made.run("mechdes", "solve", "crates.txt", jobs=2, cwd=made.top)
+        self.assertEqual((status, out), (7, "solve crates.txt\n"))
+        self.wait_for("rt ends too", lambda: not made.is_kit_running())
+
+    def test_it_takes_a_processor(self) -> None:
+        builder = proving.Builder(self.repository().crates("md_prog"), 4, "x86-64-v2")
+        self.assertEqual(builder.idle(), 4)
+        room = builder.room()
+        builder.early = mock.Mock(is_running=lambda: True)
+        self.assertEqual(builder.idle(), 3)
+        self.assertLess(builder.room(), room)
 
 
 class LauncherTest(Case):
-    def test_the_table_of_commands_is_printed_and_nothing_is_built(self) -> None:
-        made = self.repository()
-        shutil.copy(FOLDER.parent / "README.md", made.top)
-        commands = re.findall('"(.*)" => Some', (FOLDER.parent / "crates/md_cli_words/src/command.rt").read_text())
-        for words in [list[str](), ["help"], ["--help"]]:
-            status, out, told = made.run("mechdes", *words)
-            self.assertEqual((status, told), (0, ""), words)
-            self.assertEqual({*re.findall("^    ([a-z]+) [A-Z]", out, re.M)}, {*commands}, out)
-            self.assertIn("\nfind a best rule\n    find SETTING: of any setting but an auction\n", out)
-        self.assertEqual(made.calls(), [])
-        self.assertEqual(made.run("mechdes", "help", "solve")[:2], (7, "help solve\n"))
-
     def test_builds_and_then_runs_with_words_input_and_status(self) -> None:
         made = self.repository({"md_prog": (3, "")})
         with open(made.top / "crates.txt") as file:
-            status, out, told = made.run("mechdes", "solve", "a b", "--run", stdin=file)
+            status, out, told = made.run("mechdes", "solve", SETTING, "--run", stdin=file, cwd=made.top)
         self.assertEqual(status, 7, told)
-        self.assertEqual(out, "solve a b --run\nmd_prog: \n")
-        self.assertRegex(made.calls()[0], r"^begins md_prog run --cpu=x86-64-v[23] --jobs 1$")
+        self.assertEqual(out, f"solve {SETTING} --run\nmd_prog: \n")
+        self.assertRegex(made.calls()[0], r"^begins md_prog check x86-64-v[23] 1$")
 
     def test_later_calls_start_no_python(self) -> None:
         made = self.built()
-        for name in ("build/libraries", "kit/bin/rt"):
+        for name in ("build/libraries", "build/words.py", "kit/bin/rt"):
             (made.top / name).unlink()
         self.assertEqual(made.run("mechdes", "solve"), (7, "solve\n", ""))
 
@@ -571,18 +629,18 @@ class LauncherTest(Case):
         time.sleep(0.02)
         made.write("md_one", "src/lib.rt", "// another\n")
         made.write("md_one", "fails", "1")
-        status, out, told = made.run("mechdes", "solve")
+        status, out, told = made.run("mechdes", "solve", SETTING, cwd=made.top)
         self.assertEqual((status, out), (1, ""))
         self.assertIn("md_one is not proved: see ", told)
         (made.top / "crates/md_one/fails").unlink()
-        self.assertEqual(made.run("mechdes", "solve")[:2], (7, "solve\n"))
+        self.assertEqual(made.run("mechdes", "solve", SETTING, cwd=made.top)[:2], (7, f"solve {SETTING}\n"))
         self.assertEqual(made.begun(), ["md_one", "md_one", "md_prog"])
 
     def test_a_source_that_was_only_touched(self) -> None:
         made = self.built()
         time.sleep(0.02)
         (made.top / "crates/md_low/src/lib.rt").touch()
-        self.assertEqual(made.run("mechdes", "solve"), (7, "solve\n", ""))
+        self.assertEqual(made.run("mechdes", "solve", SETTING, cwd=made.top), (7, f"solve {SETTING}\n", ""))
         self.assertEqual(made.calls(), [])
         (made.top / "build/libraries").unlink()
         self.assertEqual(made.run("mechdes", "solve"), (7, "solve\n", ""))
@@ -591,18 +649,31 @@ class LauncherTest(Case):
         made = self.built()
         time.sleep(0.02)
         made.out("md_prog", "md_prog").touch()
-        self.assertEqual(made.run("mechdes", "solve")[:2], (7, "solve\n"))
+        self.assertEqual(made.run("mechdes", "solve", SETTING, cwd=made.top)[0], 7)
         self.assertEqual(made.begun(), ["md_prog"])
 
     def test_a_stopped_call_ends_all(self) -> None:
         made = self.repository({"md_prog": (3, "")})
         made.write("md_prog", "after", "go on")
-        with made.start("mechdes", "solve") as call:
+        with made.start("mechdes", "solve", SETTING, jobs=2, cwd=made.top) as call:
             self.wait_for("md_prog begins", made.begun)
             call.send_signal(signal.SIGTERM)
             out, _ = call.communicate(timeout=LONGEST)
         self.assertEqual((call.returncode, out), (-signal.SIGTERM, ""))
-        self.wait_for("rt ends too", lambda: not made.is_rt_running())
+        self.wait_for("the kit ends too", lambda: not made.is_kit_running())
+
+    def test_a_refusal_says_more_on_a_terminal(self) -> None:
+        made = self.repository()
+        ours, theirs = pty.openpty()
+        with made.start("mechdes", "fnid", stderr=theirs) as call:
+            call.communicate(timeout=LONGEST)
+        os.close(theirs)
+        told = os.read(ours, 1000).decode().replace("\r", "")
+        os.close(ours)
+        self.assertEqual(call.returncode, 64)
+        self.assertEqual(told, "mechdes: usage\nmechdes: there is no command `fnid`: is `find` meant?\n")
+        self.assertEqual(made.run("mechdes", "fnid"), (64, "", "mechdes: usage\n"))
+        self.assertEqual(made.calls(), [])
 
 
 if __name__ == "__main__":
