@@ -1,3 +1,5 @@
 pub mod Verdicts
 pub mod UnitClaims
 pub mod AuctionVerdicts
+pub mod FileVerdicts
+pub mod AuctionOptima

@@ -12,13 +12,13 @@ use Rattle.md_answer.specs.declared.answer.Answer.TheVariants.{Table, Optimal, I
 use Rattle.md_answer.specs.declared.supply.Supply.TheVariants.{Item}
 use Rattle.md_parts.specs.declared.refusal.AnswerRefusal.{AnswerRefusal}
 use Rattle.md_check.specs.AuctionVerdicts.{IsAuctionVerdict}
+use Rattle.md_check.specs.FileVerdicts.{IsVerdictOn}
 use Rattle.md_check.specs.Verdicts.{IsVerdict}
 use Rattle.md_question_check.specs.declared.verdict.Verdict.{Verdict}
 use Rattle.md_question_check.specs.declared.verdict.Verdict.TheVariants.{Valid}
 use Rattle.md_check.proofs.AuctionLaws.{if_sound}
 use Rattle.md_check.proofs.VerdictLaws.{sound-valid}
 use Rattle.md_cli_best.specs.AuctionHeadline.{IsAuctionHeadline}
-use Rattle.md_cli_judge.specs.Checking.{IsVerdictOn}
 use Rattle.md_cli_driver.specs.Reading.{answer_in, answer_or_refusal}
 use Rattle.md_cli_best.specs.Drilling.{IsReadable, sure_verdict}
 use Rattle.md_cli_best.specs.Headline.{IsHeadline, IsSolveStatus}

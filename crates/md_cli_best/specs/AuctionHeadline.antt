@@ -8,7 +8,7 @@ use Rattle.md_cut_runs.specs.CutRuns.{EndsSettled, EndsWide}
 use Rattle.md_cut_runs.specs.declared.optimum.Optimum.{Optimum}
 use Rattle.md_answer.specs.AuctionAnswers.{auction_answer_of}
 use Rattle.md_answer.specs.declared.answer.Answer.TheVariants.{TooWide}
-use Rattle.md_cli_judge.specs.AuctionOptima.{PrintsAuctionOptimal}
+use Rattle.md_check.specs.AuctionOptima.{PrintsAuctionOptimal}
 
 -- the cuts of the last program of the auction's cut run, and of its forward path and of its backward one the pivots to the
 -- first wide basis and the first wide entry of that; no cut comes twice, and they are fewer than the sets of values

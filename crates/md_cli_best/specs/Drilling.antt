@@ -12,7 +12,7 @@ use Rattle.md_answer.specs.declared.answer.Answer.{Answer}
 use Rattle.md_answer.specs.declared.answer.Answer.TheVariants.{Table, Optimal, Infeasible, Unbounded, AuctionOptimal, TooWide}
 use Rattle.md_question_check.specs.declared.verdict.Verdict.{Verdict}
 use Rattle.md_question_check.specs.declared.verdict.Verdict.TheVariants.{Valid, Undecided, Rejected}
-use Rattle.md_cli_judge.specs.Checking.{IsVerdictOn}
+use Rattle.md_check.specs.FileVerdicts.{IsVerdictOn}
 use Rattle.md_cli_driver.specs.Reading.{answer_in}
 use Rattle.md_cli_best.specs.Headline.{IsSolveStatus}
 use Rattle.md_cli_best.specs.Numbers.{IsSaidOfNumber}

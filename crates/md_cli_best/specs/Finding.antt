@@ -18,8 +18,7 @@ use Rattle.md_fair.specs.FairQuestion.{fair_question}
 use Rattle.md_fair.specs.FairRows.{text_of_fair}
 use Rattle.md_fair.specs.FairText.{fair_answer_of}
 use Rattle.md_fair.specs.declared.answer.FairAnswer.TheVariants.{Found}
-use Rattle.md_cli_driver.specs.Saying.{Saying}
-use Rattle.md_cli_judge.specs.Verdicts.{undecided_text}
+use Rattle.md_cli_driver.specs.Saying.{Saying, undecided_text}
 use Rattle.md_cli_best.specs.Fair.{HasNarrowLevelIn, status_of_finding}
 use Rattle.md_cli_best.specs.Headline.{PrintsInfeasible, PrintsOptimal, PrintsUnbounded}
 

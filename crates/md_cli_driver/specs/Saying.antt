@@ -1,5 +1,5 @@
 -- What a call says: a status and a text, which goes to one of two sinks.
-use Rattle.std.specs.Prelude.{◌≡◌, ◌≢◌, ◌++◌, ℕ, Bool, true, false, List, Option, nat_lt}
+use Rattle.std.specs.Prelude.{◌≡◌, ◌≢◌, ◌++◌, ◌∷◌, [], ℕ, Bool, true, false, List, Option, codes, nat_lt}
 use Rattle.std.specs.Option.{ForSome}
 use Rattle.md_cli_driver.specs.declared.answered.Answered.{Answered}
 use Rattle.md_ports.specs.Faults.{Rose}
@@ -12,6 +12,10 @@ pub record Saying : Type 0 where
 -- what an answer of the program says
 abbrev pub said : Answered → Saying
 said answered = record { status = answered.status; text = answered.text.items }
+
+-- the text of an answer that decides nothing
+abbrev pub undecided_text : List ℕ
+undecided_text = codes "undecided" ++ 10 ∷ []
 
 -- answers go to the sink for answers, and refusals, whose statuses begin at 64, to the other one
 abbrev pub is_answer : Saying → Bool

@@ -28,8 +28,8 @@ use Rattle.md_fair.specs.declared.answer.FairAnswer.TheVariants as fair
 use Rattle.md_answer.specs.declared.supply.Supply.{Supply}
 use Rattle.md_answer.specs.declared.supply.Supply.TheVariants.{Item}
 use Rattle.md_check.specs.AuctionVerdicts.{IsVerdictFor}
+use Rattle.md_check.specs.FileVerdicts.{IsVerdictOn}
 use Rattle.md_check.specs.Verdicts.{IsVerdict}
-use Rattle.md_cli_judge.specs.Checking.{IsVerdictOn}
 
 -- the first broken row is one of the setting's
 first-in : (s : GeneralSetting) (m : Mechanism) (broken : Broken) → IsFirstBroken s m (conditions_of s) 0 broken → broken.row < length (conditions_of s)

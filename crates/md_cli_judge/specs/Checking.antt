@@ -5,15 +5,11 @@ use Rattle.md_setting.specs.declared.file.SettingFile.TheVariants.{General, Auct
 use Rattle.md_answer.specs.declared.answer.Answer.{Answer}
 use Rattle.md_question_check.specs.declared.verdict.Verdict.{Verdict}
 use Rattle.md_question_check.specs.declared.verdict.Verdict.TheVariants.{Valid, Undecided}
-use Rattle.md_check.specs.AuctionVerdicts.{AuctionClaimHolds, IsAuctionVerdict}
-use Rattle.md_check.specs.Verdicts.{ClaimHolds, ClaimsNothing, IsVerdict}
+use Rattle.md_check.specs.AuctionVerdicts.{AuctionClaimHolds}
+use Rattle.md_check.specs.FileVerdicts.{IsVerdictOn}
+use Rattle.md_check.specs.Verdicts.{ClaimHolds, ClaimsNothing}
 use Rattle.md_cli_driver.specs.Saying.{Saying}
 use Rattle.md_cli_judge.specs.Verdicts.{TellsVerdict}
-
--- the verdict on an answer is this
-abbrev pub IsVerdictOn : SettingFile → Answer → Verdict → Type 0
-IsVerdictOn (General s) answer verdict = IsVerdict s answer verdict
-IsVerdictOn (Auction a) answer verdict = IsAuctionVerdict a answer verdict
 
 -- what an answer claims is so, over mechanisms of any denominator, with numbers of any size
 abbrev pub ClaimHoldsOf : SettingFile → Answer → Type 0

@@ -9,8 +9,8 @@ use Rattle.md_tree.specs.declared.verdict.DetReject.{DetReject}
 use Rattle.md_tree.specs.declared.verdict.DetReject.TheVariants.{Lottery, Audit, Value, Leaf, Worth, Root}
 use Rattle.md_tree.specs.declared.verdict.DetVerdict.{DetVerdict}
 use Rattle.md_tree.specs.declared.verdict.DetVerdict.TheVariants.{Valid, Undecided, Rejected}
-use Rattle.md_cli_driver.specs.Saying.{Saying}
-use Rattle.md_cli_judge.specs.Verdicts.{rejected, undecided_text, valid_text}
+use Rattle.md_cli_driver.specs.Saying.{Saying, undecided_text}
+use Rattle.md_cli_judge.specs.Verdicts.{rejected, valid_text}
 
 -- The record of the first condition that fails. A condition of the setting that is broken is told by the name of its row.
 abbrev pub IsRejected : GeneralSetting → DetReject → List (List ℕ) → Type 0

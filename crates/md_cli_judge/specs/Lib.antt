@@ -7,4 +7,3 @@ pub mod RequireChecking
 pub mod AsymChecking
 pub mod UnitChecking
 pub mod Auditing
-pub mod AuctionOptima

@@ -11,13 +11,10 @@ use Rattle.md_question_check.specs.declared.verdict.Reject.{Reject}
 use Rattle.md_question_check.specs.declared.verdict.Reject.TheVariants.{Audit, Value, Pair, Column, FaceRight, MainRight, RayRow, RayGain, Masses, Reduced, Level, Unmet}
 use Rattle.md_question_check.specs.declared.verdict.Verdict.{Verdict}
 use Rattle.md_question_check.specs.declared.verdict.Verdict.TheVariants.{Valid, Undecided, Rejected}
-use Rattle.md_cli_driver.specs.Saying.{Saying}
+use Rattle.md_cli_driver.specs.Saying.{Saying, undecided_text}
 
 abbrev pub valid_text : List ℕ
 valid_text = codes "valid" ++ 10 ∷ []
-
-abbrev pub undecided_text : List ℕ
-undecided_text = codes "undecided" ++ 10 ∷ []
 
 -- the record of a condition that fails, by the condition's number, with its numbers
 abbrev pub rejected : List ℕ → List (List ℕ) → List (List ℕ)

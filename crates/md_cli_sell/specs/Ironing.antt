@@ -13,9 +13,8 @@ use Rattle.md_mech.specs.Optimal.{IsOptimal}
 use Rattle.md_mech.specs.Value.{IsValueOf}
 use Rattle.md_claims.specs.AuctionClaims.{mechanism_in}
 use Rattle.md_iron.specs.ClosedForms.{HasLongMultipliers, IsClosedItem, IsOneItem, PaysWithinValue}
-use Rattle.md_cli_judge.specs.AuctionOptima.{PrintsAuctionOptimal}
-use Rattle.md_cli_driver.specs.Saying.{Saying}
-use Rattle.md_cli_judge.specs.Verdicts.{undecided_text}
+use Rattle.md_check.specs.AuctionOptima.{PrintsAuctionOptimal}
+use Rattle.md_cli_driver.specs.Saying.{Saying, undecided_text}
 
 -- an answer whose mechanism is optimal and which the checker finds valid; it is that of the pools that the rule names, with one unit,
 -- and no other value, odds, payments, cuts and multipliers are. The value is that of every optimal mechanism of the auction. Each

@@ -1,5 +1,3 @@
-pub mod PairLaws
-pub mod RowRecords
 pub mod Profiles
 pub mod Judged
 pub mod Awards

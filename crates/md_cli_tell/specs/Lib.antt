@@ -1,7 +1,3 @@
-pub mod ProgramTexts
-pub mod ReducedTexts
-pub mod Listing
-pub mod Replaying
 pub mod Realising
 pub mod Drawing
 pub mod SaleAnswers

@@ -1,5 +1,5 @@
-//! The commands that tell what stands in files, and draw from it: a program is listed, its pivots are carried out, a mechanism is
-//! reported on and drawn from, interim odds are realised, and units are awarded.
+//! The commands that tell what stands in files, and draw from it: a mechanism is reported on and drawn from, interim odds are
+//! realised, and units are awarded.
 #![tactic(auto)]
 
 mod award;
@@ -7,15 +7,10 @@ mod award_text;
 mod conditions;
 mod draw;
 mod drawable;
-mod listing;
-mod pairs;
 mod profile;
 mod realise;
-mod reduced;
-mod replay;
 mod report;
 mod reported;
-mod rows;
 mod sale_answer;
 mod sale_draw;
 mod sale_report;
@@ -27,9 +22,7 @@ pub use award::Awarding;
 pub use draw::Draw;
 pub use drawable::Drawable;
 pub use realise::Realise;
-pub use replay::Replay;
 pub use report::Tell;
 pub use reported::Reported;
-pub use rows::Rows;
 pub use unit_draw::DrawUnits;
 pub use unit_report::TellUnits;

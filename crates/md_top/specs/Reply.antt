@@ -19,7 +19,7 @@ use Rattle.md_cli_driver.specs.Refused.{refused}
 use Rattle.md_cli_driver.specs.Works.{Work, no_file, one_file, two_files, sale_files, number_refused, IsReplyTo, HasFaultedIn}
 use Rattle.md_cli_best.specs.Headline.{IsSolveStatus}
 use Rattle.md_cli_judge.specs.Auditing.{proposal_in, IsAudit, IsAuditStatus}
-use Rattle.md_cli_tell.specs.Listing.{IsRows, IsRowsStatus}
+use Rattle.md_cli_lp.specs.Listing.{IsRows, IsRowsStatus}
 use Rattle.md_cli_judge.specs.Checking.{IsCheck}
 use Rattle.md_cli_judge.specs.AsymChecking.{IsAsymCheck, IsSaleFile, sale_answer_in}
 use Rattle.md_cli_judge.specs.FairChecking.{fair_answer_in, IsFairCheck}
@@ -27,7 +27,7 @@ use Rattle.md_cli_judge.specs.RequireChecking.{required_answer_in, IsRequireChec
 use Rattle.md_cli_judge.specs.UnitChecking.{unit_answer_in, IsUnitCheck}
 use Rattle.md_cli_judge.specs.Verdicts.{IsCheckStatus}
 use Rattle.md_cli_best.specs.Solving.{IsSolve}
-use Rattle.md_cli_tell.specs.Replaying.{pivots_in, IsReplay, IsReplayStatus}
+use Rattle.md_cli_lp.specs.Replaying.{pivots_in, IsReplay, IsReplayStatus}
 use Rattle.md_cli_tell.specs.Realising.{odds_in, IsRealise, IsRealiseStatus}
 use Rattle.md_cli_best.specs.Fair.{IsFair}
 use Rattle.md_cli_best.specs.Finding.{IsFind, IsFindFair, IsFindStatus}

@@ -1,7 +1,7 @@
 use Rattle.std.proofs.Common.{[], ◌∷◌, ◌∙◌, ap, subst, sym}
 use Rattle.md_records.specs.Written.{text_of_records}
 use Rattle.md_question_check.specs.declared.verdict.Verdict.{Verdict}
-use Rattle.md_cli_judge.specs.Checking.{IsVerdictOn}
+use Rattle.md_check.specs.FileVerdicts.{IsVerdictOn}
 use Rattle.md_cli_best.specs.Drilling.{IsReadable, IsToldOf, check_row, drill_row}
 use Rattle.md_cli_best.specs.Solving.{IsSolve}
 use Rattle.md_cli_driver.specs.Saying.{said}

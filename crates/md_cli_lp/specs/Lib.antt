@@ -1,0 +1,4 @@
+pub mod ProgramTexts
+pub mod ReducedTexts
+pub mod Listing
+pub mod Replaying
