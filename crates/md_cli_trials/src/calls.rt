@@ -1,9 +1,7 @@
 //! One call of each command over files in memory, with what it says. What is printed is worked out by hand, but for the long
 //! texts, of which the begin stands here.
-use md_cli_samples::answers::{
-    ONE_BUYER_ANSWER, ONE_TYPE_TABLE, POSTED_PRICE_ANSWER, PRICE_ABOVE_VALUE,
-};
-use md_cli_samples::settings::{
+use crate::answers::{ONE_BUYER_ANSWER, ONE_TYPE_TABLE, POSTED_PRICE_ANSWER, PRICE_ABOVE_VALUE};
+use crate::settings::{
     ONE_BUYER, ONE_BUYER_SALE, ONE_TYPE, OUT_OF_REACH, POSTED_PRICE, TWO_BIDDERS, VOTE,
 };
 use md_ports::MemShelf;

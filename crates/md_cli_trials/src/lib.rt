@@ -1,33 +1,24 @@
-//! The commands tried over files in memory: their texts and statuses, with expected values from outside.
+//! Commands tried over files in memory: one call of each kind, reads and writes that fail, files that end early, and the greatest
+//! lengths of files. All other calls are rows of the folder trials/, over the built program.
 //!
 //! There is nothing here but tests. They stand apart from the crate of the commands, so that this one is proved once.
 #![tactic(auto)]
 
 #[cfg(test)]
-mod auction_tests;
+mod answers;
+#[cfg(test)]
+mod calling;
 #[cfg(test)]
 mod calls;
 #[cfg(test)]
+mod early_ends;
+#[cfg(test)]
 mod failing;
 #[cfg(test)]
-mod fair_tests;
+mod lengths;
 #[cfg(test)]
-mod finding_tests;
+mod numbers;
 #[cfg(test)]
-mod ironing_tests;
+mod settings;
 #[cfg(test)]
-mod number_tests;
-#[cfg(test)]
-mod ruling_tests;
-#[cfg(test)]
-mod sale_limits;
-#[cfg(test)]
-mod selling_tests;
-#[cfg(test)]
-mod solving_tests;
-#[cfg(test)]
-mod threshold_tests;
-#[cfg(test)]
-mod units_tests;
-#[cfg(test)]
-mod words_tests;
+mod streams;

@@ -6,5 +6,5 @@ mod sample;
 mod shared;
 
 pub use lists::words;
-pub use sample::{SampleAgent, Utility, setting};
-pub use shared::{choice, lemon, sale, unbounded, unmet};
+pub use sample::{SampleAgent, setting};
+pub use shared::sale;

@@ -15,17 +15,8 @@ pub struct SampleAgent<'a> {
     pub weights: &'a [i64],
     /// What each type has without taking part.
     pub outside: &'a [i64],
-    /// What the outcomes are worth to it.
-    pub utility: Utility<'a>,
-}
-
-/// What the outcomes are worth to an agent.
-#[derive(Clone, Copy)]
-pub enum Utility<'a> {
-    /// For each of its types the utility of each outcome.
-    ByType(&'a [&'a [i64]]),
-    /// For each profile, by rank, the utility of each outcome.
-    ByProfile(&'a [&'a [i64]]),
+    /// What each outcome is worth to each type.
+    pub utility: &'a [&'a [i64]],
 }
 
 /// A setting of these agents, outcomes and values, with no prior: truth is dominant, no agent loses ex post by taking part,
@@ -59,16 +50,12 @@ fn raw_agents(alloc: Global, agents: &[SampleAgent<'_>]) -> Result<Vec<RawAgent>
 }
 
 fn raw_agent(alloc: Global, agent: &SampleAgent<'_>) -> Result<RawAgent, AllocError> {
-    let (utility, at) = match agent.utility {
-        Utility::ByType(lists) => (rows(alloc, lists)?, None),
-        Utility::ByProfile(lists) => (Vec::new(alloc), Some(rows(alloc, lists)?)),
-    };
     Ok(RawAgent {
         name: String::from_str(alloc, agent.name)?,
         types: words(alloc, agent.types)?,
         weights: Vec::from_slice(alloc, agent.weights)?,
         outside: Vec::from_slice(alloc, agent.outside)?,
-        utility,
-        at,
+        utility: rows(alloc, agent.utility)?,
+        at: None,
     })
 }

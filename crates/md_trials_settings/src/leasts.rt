@@ -2,7 +2,7 @@
 use md_fair::least;
 use md_mech::Mechanism;
 use md_num::{Frac, Nums};
-use md_samples::{SampleAgent, Utility, setting};
+use md_samples::{SampleAgent, setting};
 use md_setting::{RawSetting, Setting};
 use std::alloc::{AllocError, Global};
 use std::test::Fail;
@@ -14,7 +14,7 @@ fn heir<'a>(name: &'a str, utility: &'a [&'a [i64]]) -> SampleAgent<'a> {
         types: &["t"],
         weights: &[1],
         outside: &[0],
-        utility: Utility::ByType(utility),
+        utility,
     }
 }
 

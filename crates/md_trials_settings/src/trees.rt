@@ -1,6 +1,6 @@
 //! Answers about mechanisms without lotteries that are read as a whole, checked, and written again. The commands read leaf by leaf.
 use md_num::Frac;
-use md_samples::{SampleAgent, Utility, setting};
+use md_samples::{SampleAgent, setting};
 use md_setting::{RawSetting, Setting};
 use md_tree::{DetReject, DetVerdict, check_determ, read_determ, write_determ};
 use std::alloc::{AllocError, Global};
@@ -15,7 +15,7 @@ fn raw(alloc: Global) -> Result<RawSetting, AllocError> {
         types: &["t"],
         weights: &[1],
         outside: &[1],
-        utility: Utility::ByType(&[&[2, 0]]),
+        utility: &[&[2, 0]],
     };
     let mut raw = setting(alloc, &[guest], &["x", "y"], &[0, 4])?;
     raw.revenue = 0;
