@@ -1,10 +1,13 @@
-"""The settings for the page to begin with: those of examples/, each with its title, its question, and what its page asks of it first, and
-one to make an auction of one's own of."""
+"""The settings for the page to begin with: those of examples/, each with its title, its question, and what its page asks of it
+first, and one to make an auction of one's own of."""
 
-import pathlib
+from __future__ import annotations
+
 import re
+from pathlib import Path
+from typing import Any, Dict, Iterator, List, Optional, Sequence
 
-HERE = pathlib.Path(__file__).resolve().parent
+HERE = Path(__file__).resolve().parent
 EXAMPLES = HERE.parent / "examples"
 
 # Files beside a setting whose names do not begin with its name.
@@ -60,56 +63,57 @@ ASKS = {"fair-split": {"ask": "fair"}}
 FIELDS = {"units": ["units"], "ironunits": ["units"], "threshold": ["units"], "award": ["units", "profile", "draw"]}
 
 
-def pages(name):
+def pages(name: str) -> List[Path]:
     """The page of an example, and then the others."""
     own = EXAMPLES / f"{name}.md"
     others = [path for path in sorted(EXAMPLES.glob("*.md")) if path not in (own, EXAMPLES / "README.md")]
     return ([own] if own.exists() else []) + others
 
 
-def title_of(name):
+def title_of(name: str) -> str:
     """The heading of the page of an example, or a title of its own."""
     page = EXAMPLES / f"{name}.md"
     if page.exists():
-        return page.read_text().splitlines()[0].removeprefix("# ")
+        return page.read_text(encoding="utf-8").splitlines()[0][len("# ") :]
     return TITLES.get(name, name.replace("-", " ").capitalize())
 
 
-def question_of(name):
+def question_of(name: str) -> str:
     """What is asked of an example, in a sentence: the questions of the first page that speaks of it."""
     if name in QUESTIONS:
         return QUESTIONS[name]
     for page in pages(name):
-        text = page.read_text()
+        text = page.read_text(encoding="utf-8")
         asked = re.search(r"(?m)^\*\*The question\.\*\* (.*)$", text)
         if asked and f"{name}.toml" in text:
             return " ".join(each.strip() for each in re.findall(r"[^.?]*\?", asked[1]))
     return ""
 
 
-def asks_of(name):
+def asks_of(name: str) -> Dict[str, str]:
     """The command of the first call on an example in the pages that reads no answer, with its further words by their names."""
     if name in ASKS:
         return ASKS[name]
     for page in pages(name):
-        called = re.search(rf"\./mechdes (\w+) examples/{name}\.toml(?!.*-answer\.csv)([^\n`]*)", page.read_text())
+        called = re.search(rf"\./mechdes (\w+) examples/{name}\.toml(?!.*-answer\.csv)([^\n`]*)", page.read_text(encoding="utf-8"))
         if called:
             fields = FIELDS.get(called[1], [])
             return {"ask": called[1], **dict(zip(fields, called[2].split()))}
     return {"ask": "solve"}
 
 
-def kind_of(text):
+def kind_of(text: str) -> Optional[str]:
     """Which second file of a command a text is, or None."""
     word, *fields = text.split("\n")[0].split(",")
     if (word, fields[1:]) == ("answer", ["auction", "table"]):
         return "reported"
     if word == "answer":
-        return {"required": "required", "fair": "fairest", "determ": "rule", "asym": "sale", "units": "units"}.get(fields[1], "answer")
+        kinds = {"required": "required", "fair": "fairest", "determ": "rule", "asym": "sale", "units": "units"}
+        return kinds.get(fields[1], "answer")
     return {"pivot": "pivots", "cut": "pivots", "interim": "odds", "require": "conditions"}.get(word)
 
 
-def files_beside(name, names):
+def files_beside(name: str, names: Sequence[str]) -> Iterator[Path]:
     """The files beside a setting that no command of the page would print."""
     for path in sorted(EXAMPLES.glob(f"{name}-*.csv")) + [EXAMPLES / f"{name}.csv"]:
         owner = next((each for each in names if path.stem == each or path.stem.startswith(f"{each}-")), None)
@@ -119,15 +123,15 @@ def files_beside(name, names):
         yield EXAMPLES / beside
 
 
-def seconds_of(name, names):
+def seconds_of(name: str, names: Sequence[str]) -> List[Dict[str, Optional[str]]]:
     """These files, each with its kind and its text."""
-    texts = {path.name: path.read_text() for path in files_beside(name, names)}
+    texts = {path.name: path.read_text(encoding="utf-8") for path in files_beside(name, names)}
     return [{"name": name, "kind": kind_of(text), "text": text} for name, text in texts.items()]
 
 
-def own_auction():
+def own_auction() -> Dict[str, Any]:
     """An auction to change."""
-    text = (HERE / "own-auction.toml").read_text()
+    text = (HERE / "own-auction.toml").read_text(encoding="utf-8")
     return {
         "name": "own-auction",
         "title": "An auction of your own",
@@ -139,7 +143,7 @@ def own_auction():
     }
 
 
-def gallery():
+def gallery() -> List[Dict[str, Any]]:
     """All settings: the auction of one's own, and then the examples in the order of their names."""
     names = [path.stem for path in sorted(EXAMPLES.glob("*.toml"))]
     longest_first = sorted(names, key=len, reverse=True)
@@ -149,7 +153,7 @@ def gallery():
             "title": title_of(name),
             "question": question_of(name),
             "asks": asks_of(name),
-            "text": (EXAMPLES / f"{name}.toml").read_text(),
+            "text": (EXAMPLES / f"{name}.toml").read_text(encoding="utf-8"),
             "seconds": seconds_of(name, longest_first),
         }
         for name in names

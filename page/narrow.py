@@ -1,11 +1,15 @@
-"""Turns a WebAssembly module with a memory of 64-bit addresses into one with 32-bit addresses, which every browser runs, and faster.
+"""Turns a WebAssembly module with a memory of 64-bit addresses into one with 32-bit addresses, which every browser runs, and
+faster.
 
-The library's pointers have 64 bits, also where they lie in memory, and keep them. Only where an address meets the memory is it cut to
-32 bits: before each load, store, copy and fill. Nothing is lost by that, since a memory of 32-bit addresses has no others: memory.c
-never asks for more. What is not known here, such as a second memory or an instruction for vectors, ends the run.
+The library's pointers have 64 bits, also where they lie in memory, and keep them. Only where an address meets the memory is it cut
+to 32 bits: before each load, store, copy and fill. Nothing is lost by that, since a memory of 32-bit addresses has no others:
+memory.c never asks for more. What is not known here, such as a second memory or an instruction for vectors, ends the run.
 """
 
+from __future__ import annotations
+
 import sys
+from typing import Callable, Dict, Iterator, List, NoReturn, Sequence, Tuple
 
 I32, I64, F32, F64 = 0x7F, 0x7E, 0x7D, 0x7C
 WRAP, EXTEND_SIGNED, EXTEND = b"\xa7", b"\xac", b"\xad"  # i32.wrap_i64, i64.extend_i32_s and i64.extend_i32_u
@@ -17,11 +21,11 @@ MOST_PAGES = 1 << 16
 STORED = {0x36: I32, 0x37: I64, 0x38: F32, 0x39: F64, 0x3A: I32, 0x3B: I32, 0x3C: I64, 0x3D: I64, 0x3E: I64}
 
 
-def refused(what):
+def refused(what: str) -> NoReturn:
     sys.exit(f"page/narrow.py: the module has {what}")
 
 
-def number(value):
+def number(value: int) -> bytes:
     """An unsigned number in LEB128."""
     made = bytearray()
     while True:
@@ -31,7 +35,7 @@ def number(value):
             return bytes(made)
 
 
-def signed(value):
+def signed(value: int) -> bytes:
     """A signed number in LEB128."""
     made = bytearray()
     while True:
@@ -45,22 +49,22 @@ def signed(value):
 class Reader:
     """Reads a module from front to back."""
 
-    def __init__(self, data):
+    def __init__(self, data: bytes) -> None:
         self.data = data
         self.at = 0
 
-    def is_at_end(self):
+    def is_at_end(self) -> bool:
         return self.at == len(self.data)
 
-    def byte(self):
+    def byte(self) -> int:
         self.at += 1
         return self.data[self.at - 1]
 
-    def bytes(self, count):
+    def piece(self, count: int) -> bytes:
         self.at += count
         return self.data[self.at - count : self.at]
 
-    def number(self):
+    def number(self) -> int:
         value = shift = 0
         while True:
             byte = self.byte()
@@ -69,24 +73,24 @@ class Reader:
             if byte < 0x80:
                 return value
 
-    def signed(self):
+    def signed(self) -> int:
         start = self.at
         value = self.number()
         bits = 7 * (self.at - start)
         return value - (1 << bits) if self.data[self.at - 1] & 0x40 else value
 
 
-def sections(data):
+def sections(data: bytes) -> Iterator[Tuple[int, bytes]]:
     """The sections of a module, as pairs of a number and a content."""
     reader = Reader(data)
-    if reader.bytes(8) != b"\0asm\1\0\0\0":
+    if reader.piece(8) != b"\0asm\1\0\0\0":
         refused("another head than WebAssembly's")
     while not reader.is_at_end():
         name = reader.byte()
-        yield name, reader.bytes(reader.number())
+        yield name, reader.piece(reader.number())
 
 
-def narrow_limits(reader):
+def narrow_limits(reader: Reader) -> Tuple[bytes, bool]:
     """Limits without the sign of 64 bits, and whether they had it."""
     flags = reader.byte()
     made = bytes([flags & ~WIDE]) + number(reader.number())
@@ -97,7 +101,7 @@ def narrow_limits(reader):
     return made, bool(flags & WIDE)
 
 
-def narrow_offset(reader):
+def narrow_offset(reader: Reader) -> bytes:
     """The constant at which a segment begins."""
     if reader.byte() != 0x42:  # i64.const
         refused("a segment without a wide constant for its place")
@@ -107,7 +111,7 @@ def narrow_offset(reader):
     return made + b"\x0b"
 
 
-def narrow_segments(content, rest_of):
+def narrow_segments(content: bytes, rest_of: Callable[[Reader], bytes]) -> bytes:
     """Segments of data or elements that all begin at a constant."""
     reader = Reader(content)
     count = reader.number()
@@ -119,12 +123,12 @@ def narrow_segments(content, rest_of):
     return made
 
 
-def data_of(reader):
+def data_of(reader: Reader) -> bytes:
     length = reader.number()
-    return number(length) + reader.bytes(length)
+    return number(length) + reader.piece(length)
 
 
-def elements_of(reader):
+def elements_of(reader: Reader) -> bytes:
     count = reader.number()
     return number(count) + b"".join(number(reader.number()) for _ in range(count))
 
@@ -132,19 +136,19 @@ def elements_of(reader):
 class Body:
     """The body of a function, whose further locals hold what lies on the stack above an address."""
 
-    def __init__(self, content, parameters, has_wide_table):
+    def __init__(self, content: bytes, parameters: int, has_wide_table: bool) -> None:
         self.reader = Reader(content)
         self.has_wide_table = has_wide_table
         self.groups = [(self.reader.number(), self.reader.byte()) for _ in range(self.reader.number())]
         self.locals = parameters + sum(count for count, _ in self.groups)
-        self.added = {}
+        self.added: Dict[Tuple[int, int], int] = {}
         self.made = bytearray()
 
-    def spare(self, kind, which=0):
+    def spare(self, kind: int, which: int = 0) -> bytes:
         """A local of a kind that the function does not use."""
         return number(self.added.setdefault((kind, which), self.locals + len(self.added)))
 
-    def narrow(self):
+    def narrow(self) -> bytes:
         while not self.reader.is_at_end():
             self.instruction()
         groups = self.groups + [(1, kind) for kind, _ in self.added]
@@ -152,7 +156,7 @@ class Body:
         content = number(len(groups)) + heads + bytes(self.made)
         return number(len(content)) + content
 
-    def instruction(self):
+    def instruction(self) -> None:
         start = self.reader.at
         code = self.reader.byte()
         if 0x28 <= code <= 0x3E:
@@ -167,7 +171,7 @@ class Body:
                 self.made += WRAP
             self.made += self.reader.data[start : self.reader.at]
 
-    def access(self, code):
+    def access(self, code: int) -> None:
         """A load or a store, with its alignment and its offset."""
         align, offset = self.reader.number(), self.reader.number()
         if align >= 64 or offset >= 1 << 32:
@@ -179,27 +183,27 @@ class Body:
         else:
             self.made += WRAP + whole
 
-    def size_of_memory(self, code):
+    def size_of_memory(self, code: int) -> None:
         """memory.size and memory.grow; the second gives -1 where there is no more."""
         self.reader.byte()
         self.made += bytes([code, 0]) + EXTEND if code == 0x3F else WRAP + bytes([code, 0]) + EXTEND_SIGNED
 
-    def bulk(self, start):
+    def bulk(self, start: int) -> None:
         """memory.copy and memory.fill, and conversions that touch no memory."""
         kind = self.reader.number()
         if kind == 10:
-            self.reader.bytes(2)
+            self.reader.piece(2)
             count, source = self.spare(I64), self.spare(I64, 1)
             self.made += b"\x21" + count + b"\x21" + source + WRAP + b"\x20" + source + WRAP + b"\x20" + count + WRAP
         elif kind == 11:
-            self.reader.bytes(1)
+            self.reader.piece(1)
             count, filled = self.spare(I64), self.spare(I32)
             self.made += b"\x21" + count + b"\x21" + filled + WRAP + b"\x20" + filled + b"\x20" + count + WRAP
         elif kind > 7:
             refused(f"the instruction 0xfc {kind}")
         self.made += self.reader.data[start : self.reader.at]
 
-    def skip_immediates(self, code):
+    def skip_immediates(self, code: int) -> None:
         """Reads what stands behind an instruction that is left as it is."""
         reader = self.reader
         if code in (0x02, 0x03, 0x04, 0x41, 0x42):  # block, loop, if, i32.const, i64.const
@@ -212,43 +216,44 @@ class Body:
         elif code == 0x11:  # call_indirect
             reader.number(), reader.number()
         elif code == 0x1C:  # select with kinds
-            reader.bytes(reader.number())
+            reader.piece(reader.number())
         elif code in (0x43, 0x44):  # f32.const, f64.const
-            reader.bytes(4 if code == 0x43 else 8)
+            reader.piece(4 if code == 0x43 else 8)
         elif not (code in (0x00, 0x01, 0x05, 0x0B, 0x0F, 0x1A, 0x1B) or 0x45 <= code <= 0xC4):
             refused(f"the instruction {code:#x}")
 
 
-def parameter_counts(types, functions):
+def parameter_counts(types: bytes, functions: bytes) -> List[int]:
     """How many parameters each function has."""
-    reader, counts = Reader(types), []
+    reader = Reader(types)
+    counts: List[int] = []
     for _ in range(reader.number()):
         if reader.byte() != 0x60:
             refused("a type that is no function's")
         counts.append(reader.number())
-        reader.bytes(counts[-1])
-        reader.bytes(reader.number())
+        reader.piece(counts[-1])
+        reader.piece(reader.number())
     reader = Reader(functions)
     return [counts[reader.number()] for _ in range(reader.number())]
 
 
-def narrow_code(content, parameters, has_wide_table):
+def narrow_code(content: bytes, parameters: Sequence[int], has_wide_table: bool) -> bytes:
     reader = Reader(content)
     made = [number(reader.number())]
-    made += [Body(reader.bytes(reader.number()), count, has_wide_table).narrow() for count in parameters]
+    made += [Body(reader.piece(reader.number()), count, has_wide_table).narrow() for count in parameters]
     return b"".join(made)
 
 
-def narrow_table(content):
+def narrow_table(content: bytes) -> Tuple[bytes, bool]:
     reader = Reader(content)
     if reader.number() != 1:
         refused("more than one table")
-    kind = reader.bytes(1)
+    kind = reader.piece(1)
     limits, is_wide = narrow_limits(reader)
     return number(1) + kind + limits, is_wide
 
 
-def narrowed(data):
+def narrowed(data: bytes) -> bytes:
     """A module with a memory of 32-bit addresses that does what this one does."""
     found = dict(sections(data))
     if 2 in found:

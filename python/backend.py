@@ -37,6 +37,14 @@ def _package() -> dict[str, bytes]:
     return {path.relative_to(HERE).as_posix(): path.read_bytes() for path in found}
 
 
+def _entry(path: str) -> zipfile.ZipInfo:
+    """A file of a wheel, with no time of its own, so that the same files make the same wheel."""
+    entry = zipfile.ZipInfo(path)
+    entry.compress_type = zipfile.ZIP_DEFLATED
+    entry.external_attr = 0o644 << 16
+    return entry
+
+
 def _write_wheel(folder: str, files: dict[str, bytes], tag: str) -> str:
     """Writes a wheel of files, with what describes it, and gives its name."""
     project = _project()
@@ -51,9 +59,9 @@ def _write_wheel(folder: str, files: dict[str, bytes], tag: str) -> str:
         digest = base64.urlsafe_b64encode(hashlib.sha256(data).digest()).rstrip(b"=").decode()
         record += f"{path},sha256={digest},{len(data)}\n"
     files[f"{described}/RECORD"] = f"{record}{described}/RECORD,,\n".encode()
-    with zipfile.ZipFile(pathlib.Path(folder) / f"{name}-{tag}.whl", "w", zipfile.ZIP_DEFLATED) as wheel:
+    with zipfile.ZipFile(pathlib.Path(folder) / f"{name}-{tag}.whl", "w") as wheel:
         for path, data in files.items():
-            wheel.writestr(path, data)
+            wheel.writestr(_entry(path), data)
     return f"{name}-{tag}.whl"
 
 

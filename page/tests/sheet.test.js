@@ -1,15 +1,17 @@
 import assert from "node:assert/strict";
 import { spawnSync } from "node:child_process";
+import { readFileSync } from "node:fs";
 import { fileURLToPath } from "node:url";
 import { test } from "node:test";
 import { Script } from "node:vm";
 
 import { COMMANDS, FIELDS, SECONDS } from "../commands.js";
+import { unpacked } from "../engine.js";
 
 const folder = fileURLToPath(new URL("../", import.meta.url));
-const CODE = "import sheet; import sys; sys.stdout.buffer.write(sheet.page(b'module', 'the worker').encode())";
+const CODE = "import sheet; import sys; sys.stdout.buffer.write(sheet.page(b'module', 'its sum').encode())";
 
-/** The page as sheet.py writes it, with no module in it, or null where there is no Python. */
+/** The page as sheet.py writes it, with something else in the place of the module, or null where there is no Python. */
 function written(seed) {
   const env = { ...process.env, PYTHONPATH: folder, PYTHONDONTWRITEBYTECODE: "1", PYTHONHASHSEED: seed };
   const { error, status, stdout } = spawnSync("python3", ["-c", CODE], { env, encoding: "utf8", maxBuffer: 1 << 26 });
@@ -25,7 +27,16 @@ const contentOf = (id) => new RegExp(`<script [^>]*id="${id}">\\n?(.*?)\\n?</scr
 test("the page is the same each time that it is written", { skip: page === null }, () => {
   assert.equal(written("2"), page);
   assert.ok(!page.includes("{{"));
-  assert.equal(contentOf("worker"), "the worker");
+  assert.equal(contentOf("worker"), readFileSync(new URL("../worker.js", import.meta.url), "utf8").trim());
+});
+
+test("the page unpacks its module", { skip: page === null }, async () => {
+  assert.equal(new TextDecoder().decode(await unpacked(contentOf("module"))), "module");
+});
+
+test("the page names two sums", { skip: page === null }, () => {
+  assert.ok(page.includes('<meta name="mechdes-module" content="its sum">'));
+  assert.match(page, /<meta name="mechdes-page" content="[0-9a-f]{64}">/);
 });
 
 test("all scripts together are one script", { skip: page === null }, () => {
