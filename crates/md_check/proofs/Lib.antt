@@ -1,3 +1,4 @@
 pub mod VerdictLaws
 pub mod AuctionLaws
 pub mod OneAuctionVerdict
+pub mod OptimalValues

@@ -83,12 +83,12 @@ none-status None status (Optimal value m bound) is h = (λ other. absurd (omega 
 none-status None status (Infeasible face) is h = (λ _. h.0 tt, λ _. is)
 none-status None status (Unbounded m ray) is h = (λ other. absurd (omega (arith, is, other)), λ none. absurd (h.1 none))
 
--- it is 11 exactly where the leasts have no bound
-no_bound-status : (s : GeneralSetting) (status : ℕ) (answer : Finding) → status ≡ status_of_finding answer → ClaimsUnbounded answer ↔ HasNoLeastBound s
-    → (status ≡ 11) ↔ HasNoLeastBound s
-no_bound-status s status (Optimal value m bound) is h = (λ other. absurd (omega (arith, is, other)), λ none. absurd (h.1 none))
-no_bound-status s status (Infeasible face) is h = (λ other. absurd (omega (arith, is, other)), λ none. absurd (h.1 none))
-no_bound-status s status (Unbounded m ray) is h = (λ _. h.0 tt, λ _. is)
+-- it is 11 exactly where there is no bound
+pub no_bound-status : (NoBound : Type 0) (status : ℕ) (answer : Finding) → status ≡ status_of_finding answer → ClaimsUnbounded answer ↔ NoBound
+    → (status ≡ 11) ↔ NoBound
+no_bound-status NoBound status (Optimal value m bound) is h = (λ other. absurd (omega (arith, is, other)), λ none. absurd (h.1 none))
+no_bound-status NoBound status (Infeasible face) is h = (λ other. absurd (omega (arith, is, other)), λ none. absurd (h.1 none))
+no_bound-status NoBound status (Unbounded m ray) is h = (λ _. h.0 tt, λ _. is)
 
 -- an answer
 pub of_answer : (s : GeneralSetting) (width : ℕ) (saying : Saying) (answer : Finding) → IsShownFair s width answer
@@ -110,7 +110,7 @@ of_answer s width saying answer h is text reads =
       wide = λ p program forward backward. absurd (h.wide p program forward backward);
       taken = λ p order pivots step program way. end-status saying.status answer is step (h.taken p order pivots step program way);
       none = λ _. none-status (IsInfeasible s) saying.status answer is h.none;
-      no_bound = λ _. no_bound-status s saying.status answer is h.no_bound;
+      no_bound = λ _. no_bound-status (HasNoLeastBound s) saying.status answer is h.no_bound;
     }
 
 -- no error but want of memory is that

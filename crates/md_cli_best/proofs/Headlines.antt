@@ -27,6 +27,7 @@ use Rattle.md_solve.specs.Answered.{ClaimsEnd, ClaimsInfeasible, ClaimsUnbounded
 use Rattle.md_solve.specs.Bounds.{HasNoBound}
 use Rattle.md_mech.specs.Value.{IsValueOf}
 use Rattle.md_solve.specs.Solved.{IsSolved, IsSolvedBy}
+use Rattle.md_check.proofs.OptimalValues.{value-of_each}
 use Rattle.md_cli_best.specs.Headline.{IsEndStatus, IsHeadline}
 use Rattle.md_cli_best.specs.Solving.{status_of_answer}
 
@@ -91,7 +92,7 @@ module _ (s : GeneralSetting) (width status : ℕ) (text : List ℕ) where
       record {
         program = h.solved.program;
         is_program = h.solved.is_program;
-        optimal = λ _. record { value = value; mechanism = m; bound = bound; read_back = reads; optimal = h.optimal; is_value = h.value; valid = valid s width (Optimal value m bound) h (λ no. no) };
+        optimal = λ _. record { value = value; mechanism = m; bound = bound; read_back = reads; optimal = h.optimal; is_value = h.value; same_value = λ best other. value-of_each s m best value h.optimal h.value other; valid = valid s width (Optimal value m bound) h (λ no. no) };
         infeasible = λ other. absurd (omega (arith, is, other));
         unbounded = λ other. absurd (omega (arith, is, other));
         too_wide = λ other. absurd (omega (arith, is, other));

@@ -1,4 +1,4 @@
--- What `find` and `findfair` say of a general setting: what is found off the two stated paths too, or that nothing was.
+-- What `find` and `findfair` say of a general setting: what is found on the two stated paths or off them, or that nothing was.
 use Rattle.std.specs.Prelude.{◌≡◌, ◌≢◌, ◌⊎◌, ◌↔◌, ℕ, List, Ok}
 use Rattle.md_setting.specs.Setting.{GeneralSetting}
 use Rattle.md_setting.specs.ByKind.{WhereGeneral}
@@ -8,12 +8,17 @@ use Rattle.md_question.specs.Best.{best_question}
 use Rattle.md_question.specs.Certified.{IsCertifiedFinding}
 use Rattle.md_question.specs.Question.{AdmitsNone, Question}
 use Rattle.md_question.specs.declared.finding.Finding.{Finding}
+use Rattle.md_question_solve.specs.Found.{HasWidePaths}
+use Rattle.md_question_solve.specs.Found as paths
 use Rattle.md_question_check.specs.Verdicts.{IsVerdictOn}
 use Rattle.md_question_check.specs.declared.verdict.Verdict.TheVariants.{Valid}
 use Rattle.md_answer.specs.Answers as answers
 use Rattle.md_answer.specs.Rows.{text_of_answer}
+use Rattle.md_answer.specs.declared.answer.Answer.{Answer}
+use Rattle.md_solve.specs.Answered.{IsTooWide}
 use Rattle.md_solve.specs.Bounds.{HasNoBound}
-use Rattle.md_solve.specs.Solved.{answer_of}
+use Rattle.md_solve.specs.Solved.{IsSolved, answer_of}
+use Rattle.md_fair.specs.Bounds.{HasNoLeastBound}
 use Rattle.md_fair.specs.FairQuestion.{fair_question}
 use Rattle.md_fair.specs.FairRows.{text_of_fair}
 use Rattle.md_fair.specs.FairText.{fair_answer_of}
@@ -35,15 +40,20 @@ pub record IsFound (q : Question) (text_of : Finding → List ℕ) (Reads : List
   pub text : saying.text ≡ text_of finding
   pub read_back : Reads saying.text finding
 
--- that nothing was, of which nothing follows
-pub record IsNotFound (saying : Saying) : Type 0 where
+-- that nothing was: both stated paths of the question's program come to a basis that is too wide at 62 bits, of which nothing follows
+-- for the question itself
+pub record IsNotFound (q : Question) (saying : Saying) : Type 0 where
+  pub wide : HasWidePaths q 62
   pub status : saying.status ≡ 22
   pub text : saying.text ≡ undecided_text
 
--- One of these. Where it is not 22, the status tells exactly where no mechanism is admitted.
-pub record IsFindingBy (q : Question) (text_of : Finding → List ℕ) (Reads : List ℕ → Finding → Type 0) (saying : Saying) : Type 0 where
-  pub told : IsFound q text_of Reads saying ⊎ IsNotFound saying
+-- One of these. Where the paths give a finding within 62 bits, there is one. Where it is not 22, the status tells exactly where no
+-- mechanism is admitted, and where there is no bound.
+pub record IsFindingBy (q : Question) (NoBound : Type 0) (text_of : Finding → List ℕ) (Reads : List ℕ → Finding → Type 0) (saying : Saying) : Type 0 where
+  pub told : IsFound q text_of Reads saying ⊎ IsNotFound q saying
+  pub answered : (finding : Finding) → paths.IsFound q 62 finding → saying.status ≢ 22
   pub none : saying.status ≢ 22 → (saying.status ≡ 10) ↔ AdmitsNone q
+  pub no_bound : saying.status ≢ 22 → (saying.status ≡ 11) ↔ NoBound
 
 -- the statuses of what is answered
 abbrev pub IsFindStatus : ℕ → Type 0
@@ -57,13 +67,17 @@ pub record IsFindHeadline (s : GeneralSetting) (status : ℕ) (text : List ℕ) 
   pub infeasible : status ≡ 10 → PrintsInfeasible s text
   pub unbounded : status ≡ 11 → PrintsUnbounded s text
   pub one_of : IsFindStatus status
+  -- 22 comes only where both paths of the setting's program come to a basis that is too wide at 62 bits: where `solve` has an answer
+  -- within these, there is one
+  pub wide : status ≡ 22 → HasWidePaths (best_question s) 62
+  pub answered : (answer : Answer) → IsSolved s 62 answer → ¬ IsTooWide answer → status ≢ 22
   -- where it is not 22, it tells exactly where no mechanism is admissible, and where the values of the admissible ones have no bound
   pub none : status ≢ 22 → (status ≡ 10) ↔ IsInfeasible s
   pub no_bound : status ≢ 22 → (status ≡ 11) ↔ HasNoBound s
 
 -- the best mechanism of a setting, in the records of an answer of `solve`
 pub record IsFinding (s : GeneralSetting) (saying : Saying) : Type 0 where
-  pub told : IsFindingBy (best_question s) (λ finding. text_of_answer s (answer_of finding)) (λ text finding. answers.answer_of s text ≡ Ok (answer_of finding)) saying
+  pub told : IsFindingBy (best_question s) (HasNoBound s) (λ finding. text_of_answer s (answer_of finding)) (λ text finding. answers.answer_of s text ≡ Ok (answer_of finding)) saying
   pub headline : IsFindHeadline s saying.status saying.text
 
 abbrev pub IsFind : SettingFile → Saying → Type 0
@@ -77,4 +91,4 @@ IsFindShownBy file status text = WhereGeneral (λ s. IsFindHeadline s status tex
 
 -- the fairest mechanism of a setting, in the records of `fair`
 abbrev pub IsFindFair : SettingFile → Saying → Type 0
-IsFindFair file saying = WhereGeneral (λ s. IsFindingBy (fair_question s) (λ finding. text_of_fair s (Found finding)) (λ text finding. fair_answer_of s text ≡ Ok (Found finding)) saying) file
+IsFindFair file saying = WhereGeneral (λ s. IsFindingBy (fair_question s) (HasNoLeastBound s) (λ finding. text_of_fair s (Found finding)) (λ text finding. fair_answer_of s text ≡ Ok (Found finding)) saying) file

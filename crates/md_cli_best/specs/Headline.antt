@@ -21,7 +21,7 @@ use Rattle.md_question_check.specs.declared.verdict.Verdict.TheVariants.{Valid}
 use Rattle.md_solve.specs.Bounds.{HasNoBound}
 use Rattle.md_mech.specs.Value.{IsValueOf}
 
--- a mechanism that is admissible, and than which no admissible mechanism of any denominator has a greater objective, with its value; the checker finds the answer valid
+-- a mechanism that is admissible, and than which no admissible mechanism of any denominator has a greater objective, with its value, which is that of each such mechanism; the checker finds the answer valid
 pub record PrintsOptimal (s : GeneralSetting) (text : List ℕ) : Type 0 where
   pub value : Frac
   pub mechanism : Mechanism
@@ -29,6 +29,7 @@ pub record PrintsOptimal (s : GeneralSetting) (text : List ℕ) : Type 0 where
   pub read_back : answer_of s text ≡ Ok (Optimal value mechanism bound)
   pub optimal : IsOptimal s mechanism
   pub is_value : IsValueOf s mechanism value
+  pub same_value : (best : Mechanism) → IsOptimal s best → IsValueOf s best value
   pub valid : IsVerdict s (Optimal value mechanism bound) Valid
 
 -- no mechanism of any denominator is admissible, as the multipliers show to the checker

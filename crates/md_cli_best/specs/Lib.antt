@@ -3,6 +3,7 @@ pub mod AuctionHeadline
 pub mod Solving
 pub mod Fair
 pub mod Finding
+pub mod RequiredBounds
 pub mod Requiring
 pub mod Numbers
 pub mod Making

@@ -9,6 +9,7 @@ use Rattle.md_parts.specs.declared.refusal.AnswerRefusal.{AnswerRefusal}
 use Rattle.md_question.specs.Certified.{IsCertifiedFinding}
 use Rattle.md_question.specs.Question.{AdmitsNone}
 use Rattle.md_question.specs.declared.finding.Finding.{Finding}
+use Rattle.md_question_solve.specs.Found.{IsFound}
 use Rattle.md_require.specs.declared.condition.Condition.{Condition}
 use Rattle.md_require.specs.declared.required_verdict.RequiredVerdict.TheVariants.{Valid}
 use Rattle.md_require.specs.RequireQuestion.{require_question}
@@ -22,6 +23,7 @@ use Rattle.md_cli_driver.specs.declared.refusal.Refusal.TheVariants as refusal
 use Rattle.md_cli_driver.specs.Saying.{Saying}
 use Rattle.md_cli_best.specs.Fair.{status_of_finding}
 use Rattle.md_cli_best.specs.Finding.{IsNotFound}
+use Rattle.md_cli_best.specs.RequiredBounds.{HasNoRequiredBound}
 
 abbrev pub conditions_or_refusal : Result (List Condition) AnswerRefusal → Result (List Condition) Refusal
 conditions_or_refusal (Ok conditions) = Ok conditions
@@ -51,10 +53,13 @@ pub record IsRequiredSaying (s : GeneralSetting) (conditions : List Condition) (
   pub read_back : required_answer_of s saying.text ≡ Ok (with_conditions conditions finding shadows)
 
 -- The best mechanism among the admissible ones that meet the conditions, or that there is none or no best one; or that nothing was
--- found. Where it is not 22, the status tells exactly where there is none.
+-- found. Where the paths give a finding within 62 bits, there is one. Where it is not 22, the status tells exactly where there is none,
+-- and where their values have no bound.
 pub record IsRequiring (s : GeneralSetting) (conditions : List Condition) (saying : Saying) : Type 0 where
-  pub told : IsRequiredSaying s conditions saying ⊎ IsNotFound saying
+  pub told : IsRequiredSaying s conditions saying ⊎ IsNotFound (require_question s conditions) saying
+  pub answered : (finding : Finding) → IsFound (require_question s conditions) 62 finding → saying.status ≢ 22
   pub none : saying.status ≢ 22 → (saying.status ≡ 10) ↔ AdmitsNone (require_question s conditions)
+  pub no_bound : saying.status ≢ 22 → (saying.status ≡ 11) ↔ HasNoRequiredBound s conditions
 
 abbrev pub IsRequire : SettingFile → List Condition → Saying → Type 0
 IsRequire file conditions saying = WhereGeneral (λ s. IsRequiring s conditions saying) file

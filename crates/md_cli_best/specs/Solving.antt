@@ -24,12 +24,14 @@ status_of_answer (Unbounded mechanism ray) = 11
 status_of_answer (AuctionOptimal value interim masses cuts bound) = 0
 status_of_answer (TooWide cuts first second) = 12
 
--- the one answer of a setting within a width, its status and its text, and what these show
+-- The one answer of a setting within a width, its status and its text, and what these show. Setting and width alone decide both: each
+-- answer that the paths give has this status and this text.
 pub record IsSolving (s : GeneralSetting) (width : ℕ) (saying : Saying) : Type 0 where
   pub answer : Answer
   pub solved : IsSolved s width answer
   pub status : saying.status ≡ status_of_answer answer
   pub text : saying.text ≡ text_of_answer s answer
+  pub only : (other : Answer) → IsSolved s width other → (saying.status ≡ status_of_answer other) × (saying.text ≡ text_of_answer s other)
   pub headline : IsHeadline s width saying.status saying.text
 
 -- an answer to an auction, of which all but the mass table is fixed

@@ -1,11 +1,11 @@
-//! The commands `find` and `findfair`: the best or the fairest mechanism of a setting, where it is found off the stated paths too.
+//! The commands `find` and `findfair`: the best or the fairest mechanism of a setting, found on the stated paths or off them.
 ghost use Rattle.std.specs.Prelude.{◌≡◌, IfOk};
 ghost use Rattle.md_setting.specs.ByKind.{IsGeneral, WhereGeneral};
 ghost use Rattle.md_question.specs.Best.{best_question};
 ghost use Rattle.md_question.specs.Certified.{IsCertifiedFinding};
-ghost use Rattle.md_cli_best.specs.Finding.{IsFind, IsFindFair, IsFindStatus, IsNotFound};
+ghost use Rattle.md_cli_best.specs.Finding.{IsFind, IsFindFair, IsFindStatus};
 ghost use Rattle.md_cli_driver.specs.Reading.{is_general};
-ghost use Rattle.md_cli_driver.specs.Saying.{said};
+ghost use Rattle.md_cli_driver.specs.Saying.{said, undecided_text};
 
 use crate::fair::status;
 use md_answer::write_answer;
@@ -16,6 +16,7 @@ use md_num::NoMemory;
 use md_question::Finding;
 use md_question_solve::find_question;
 use md_setting::SettingFile;
+use md_simplex::SimplexError;
 use md_solve::answer_of;
 use std::alloc::Global;
 
@@ -65,9 +66,10 @@ fn best(alloc: Global, file: &SettingFile) -> Result<Answered, NoMemory>
     ensures find { IfOk result (λ answered. IsFind file.now (said answered)) }
     ensures status { IfOk result (λ answered. IsFindStatus answered.status) }
 {
-    match find_question(alloc, general(file))? {
-        Some(finding) => best_found(alloc, file, finding),
-        None => not_found(alloc),
+    match find_question(alloc, general(file)) {
+        Ok(finding) => best_found(alloc, file, finding),
+        Err(SimplexError::TooWide { .. }) => not_found(alloc),
+        Err(SimplexError::Memory) => Err(NoMemory),
     }
 }
 
@@ -94,18 +96,20 @@ fn fairest(alloc: Global, file: &SettingFile) -> Result<Answered, NoMemory>
     ensures status { IfOk result (λ answered. IsFindStatus answered.status) }
 {
     let setting = general(file);
-    match find_fair(alloc, setting)? {
-        Some(finding) => Ok(Answered {
+    match find_fair(alloc, setting) {
+        Ok(finding) => Ok(Answered {
             status: status(&finding),
             text: write_fair(alloc, setting, &FairAnswer::Found(finding))?,
         }),
-        None => not_found(alloc),
+        Err(SimplexError::TooWide { .. }) => not_found(alloc),
+        Err(SimplexError::Memory) => Err(NoMemory),
     }
 }
 
 /// That nothing was found.
 pub(crate) fn not_found(alloc: Global) -> Result<Answered, NoMemory>
-    ensures { IfOk result (λ answered. IsNotFound (said answered)) }
+    ensures status { IfOk result (λ answered. answered.status ≡ 22) }
+    ensures text { IfOk result (λ answered. answered.text.items ≡ undecided_text) }
 {
     Ok(Answered {
         status: UNDECIDED,

@@ -22,6 +22,7 @@ use md_question_solve::find_question;
 use md_require::{Condition, Requiring, shadows};
 use md_require_text::{RequiredAnswer, write_required};
 use md_setting::{Setting, SettingFile};
+use md_simplex::SimplexError;
 use std::alloc::Global;
 use std::marker::Model;
 
@@ -108,9 +109,10 @@ fn required(
     ensures status { IfOk result (λ answered. IsFindStatus answered.status) }
 {
     let requiring = Requiring::new(setting, conditions);
-    match find_question(alloc, &requiring)? {
-        Some(finding) => found(alloc, setting, conditions, finding),
-        None => not_found(alloc),
+    match find_question(alloc, &requiring) {
+        Ok(finding) => found(alloc, setting, conditions, finding),
+        Err(SimplexError::TooWide { .. }) => not_found(alloc),
+        Err(SimplexError::Memory) => Err(NoMemory),
     }
 }
 
@@ -126,6 +128,7 @@ fn found(
     ensures require { IfOk result (λ answered. IsRequiring setting.now conditions.now (said answered)) }
     ensures status { IfOk result (λ answered. IsFindStatus answered.status) }
 {
+    let _shaped = setting.space();
     let status = status(&finding);
     let shadows = shadows_of(alloc, setting, conditions, &finding)?;
     let answer = with_conditions(alloc, conditions, finding, shadows)?;

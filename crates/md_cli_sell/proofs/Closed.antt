@@ -31,7 +31,7 @@ use Rattle.md_check.specs.AuctionVerdicts.{AuctionClaimHolds, IsAuctionVerdict}
 use Rattle.md_question_check.specs.declared.verdict.Verdict.TheVariants.{Valid}
 use Rattle.md_iron.specs.ClosedForms.{IsClosedAnswer, IsOneAnswer, IsPaidWithinValue, PaysWithinValue}
 use Rattle.md_cli_sell.specs.Ironing.{PrintsClosedForm}
-use Rattle.md_cli_sell.proofs.OptimalValues.{value-of_each}
+use Rattle.md_check.proofs.OptimalValues.{value-of_each}
 use Rattle.md_cli_driver.specs.Reading.{is_auction}
 
 -- an auction is not general

@@ -36,7 +36,7 @@ use Rattle.md_cli_driver.specs.Saying.{Saying}
 use Rattle.md_cli_sell.specs.IroningUnits.{IsClosedSale}
 use Rattle.md_cli_sell.specs.UnitTexts.{sold_answer}
 use Rattle.md_cli_sell.proofs.UnitsTold.{valid-units}
-use Rattle.md_cli_sell.proofs.OptimalValues.{value-of_each}
+use Rattle.md_check.proofs.OptimalValues.{value-of_each}
 
 -- the answer can be written
 pub closed-fits : (a : SymmetricAuction) (units : ℕ) (answer : UnitsAnswer) → IsClosedUnits a units answer → IsInterim a answer.interim → IsWritableForm a answer → IsAnswerFor (Units units) a (sold_answer answer)

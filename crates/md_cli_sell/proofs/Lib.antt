@@ -1,4 +1,3 @@
-pub mod OptimalValues
 pub mod Closed
 pub mod Sold
 pub mod Joined

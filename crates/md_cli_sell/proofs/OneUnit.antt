@@ -30,7 +30,7 @@ use Rattle.md_winners.proofs.UnitSales.{unit-odds-as, unit-pays-as, unit-sale, u
 use Rattle.md_unit_tables.specs.Tables.{ImplementsUnits, IsUnitTable, table_of}
 use Rattle.md_units.specs.Solved.{IsSolvedUnits, mechanism_in}
 use Rattle.md_units.specs.declared.units_answer.UnitsAnswer.{UnitsAnswer}
-use Rattle.md_cli_sell.proofs.OptimalValues.{value-of_each}
+use Rattle.md_check.proofs.OptimalValues.{value-of_each}
 
 -- a table of one unit is a mass table
 masses-of_unit : (a : SymmetricAuction) (interim : Interim) (y : Masses) → y.den ≡ interim.den → IsInterim a interim → IsUnitTable a 1 y → AreMasses a y

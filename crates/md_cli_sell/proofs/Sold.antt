@@ -23,7 +23,7 @@ use Rattle.md_asym_solve.specs.SaleCuts.{sale_cutting}
 use Rattle.md_asym_solve.specs.Solved.{IsSolvedSale, TellsSale}
 use Rattle.md_cli_driver.specs.Saying.{Saying}
 use Rattle.md_cli_sell.specs.Selling.{IsSameButMasses, IsSelling, IsSolvedBest}
-use Rattle.md_cli_sell.proofs.OptimalValues.{one_value}
+use Rattle.md_check.proofs.OptimalValues.{one_value, value-of_each}
 
 -- another answer with which the run ends is the same but for its masses
 same-sale : (s : GeneralSetting) (width : ℕ) (answer other : AsymAnswer) → pos 0 <ℤ total_of s → IsOptimal s (mechanism_in s answer) → IsValueOf s (mechanism_in s answer) answer.value
@@ -62,6 +62,7 @@ of_answer s width saying answer total h status text reads = record {
     implements = h.implements;
     best = h.best;
     value = h.value;
+    same_value = λ m best. value-of_each s (mechanism_in s answer) m answer.value h.best.optimal h.value best;
     valid = h.valid;
     status = status;
     text = text;

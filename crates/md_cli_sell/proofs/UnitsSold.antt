@@ -45,7 +45,7 @@ use Rattle.md_cli_sell.specs.SellingUnits.{IsSameButMasses, IsUnitSelling, IsUni
 use Rattle.md_cli_sell.specs.UnitTexts.{sold_answer}
 use Rattle.md_cli_sell.proofs.UnitsTold.{valid-units}
 use Rattle.md_cli_sell.proofs.OneUnit.{if-one_unit}
-use Rattle.md_cli_sell.proofs.OptimalValues.{one_value}
+use Rattle.md_check.proofs.OptimalValues.{one_value, value-of_each}
 use Rattle.md_cli_sell.proofs.Sold.{not_memory}
 
 -- the weight of all profiles is positive
@@ -113,6 +113,7 @@ of_answer a units width saying answer shaped solved fits table implements optima
     pays = pays;
     value = value;
     certified = certified-units a units width answer solved fits;
+    same_value = λ m best. value-of_each (units_of a units) (mechanism_in a units answer) m answer.value optimal value best;
     one_unit = if-one_unit a width answer shaped fits implements units (record { solved = solved; table = table; optimal = optimal; odds = odds; pays = pays; value = value });
     status = status;
     text = text;

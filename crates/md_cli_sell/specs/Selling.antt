@@ -4,6 +4,7 @@ use Rattle.md_setting.specs.Setting.{GeneralSetting}
 use Rattle.md_setting.specs.ByKind.{WhereGeneral}
 use Rattle.md_setting.specs.declared.file.SettingFile.{SettingFile}
 use Rattle.md_lp.specs.declared.wide.Wide.{Wide}
+use Rattle.md_mech.specs.declared.mechanism.Mechanism.{Mechanism}
 use Rattle.md_mech.specs.Optimal.{IsOptimal}
 use Rattle.md_mech.specs.Value.{IsValueOf}
 use Rattle.md_cut_runs.specs.CutRuns.{EndsSettled, EndsWide}
@@ -43,7 +44,7 @@ pub record IsSameButMasses (answer other : AsymAnswer) : Type 0 where
 -- The cut run of the sale ends with this answer, of which all but the masses is fixed, and whose text reads back as it. At each
 -- profile its masses add to at most the weight of the profile, and those of each pair to its demand. The mechanism of the masses, in
 -- which each bidder pays by its type, has the odds and payments and the value, and no admissible mechanism of the setting, of any
--- denominator, has a greater objective. The checker finds it valid: its odds and payments with its multipliers are a certificate of
+-- denominator, has a greater objective. The value is that of every optimal mechanism. The checker finds it valid: its odds and payments with its multipliers are a certificate of
 -- the program with its cuts, in whatever terms that is written.
 pub record IsSoldBest (s : GeneralSetting) (width : ℕ) (saying : Saying) : Type 0 where
   pub answer : AsymAnswer
@@ -53,6 +54,7 @@ pub record IsSoldBest (s : GeneralSetting) (width : ℕ) (saying : Saying) : Typ
   pub implements : Implements s answer.interim.odds answer.masses
   pub best : IsBestSale s answer
   pub value : IsValueOf s (mechanism_in s answer) answer.value
+  pub same_value : (m : Mechanism) → IsOptimal s m → IsValueOf s m answer.value
   pub valid : IsSaleVerdict s (Optimal answer) Valid
   pub status : saying.status ≡ 0
   pub text : saying.text ≡ text_of_sale s (Optimal answer)

@@ -47,7 +47,7 @@ pub record IsSameButMasses (answer other : UnitsAnswer) : Type 0 where
 -- at most the weight of the profiles with the counts, times the units, and those of each value to at most one unit for each
 -- bidder with it; over all counts they add to its demand. The mechanism of the masses, in which each bidder pays by its value,
 -- has the odds and payments and the value, and no admissible mechanism of the units, of any denominator, has a greater objective,
--- be it one that treats bidders with the same value differently. The multipliers show it, in whatever terms the program of the
+-- be it one that treats bidders with the same value differently. The value is that of every optimal mechanism. The multipliers show it, in whatever terms the program of the
 -- cuts is written. The text reads back as the answer, and the checker's verdict on it is that it is valid.
 pub record IsSoldInUnits (a : SymmetricAuction) (units width : ℕ) (saying : Saying) : Type 0 where
   pub answer : UnitsAnswer
@@ -61,6 +61,7 @@ pub record IsSoldInUnits (a : SymmetricAuction) (units width : ℕ) (saying : Sa
   pub pays : HasUnitPays a units (mechanism_in a units answer) answer.interim.den answer.interim.pays
   pub value : IsValueOf (units_of a units) (mechanism_in a units answer) answer.value
   pub certified : (p : Program) → IsReducedProgram a units answer.cuts p → Certified p (auction_certificate answer.interim answer.bound)
+  pub same_value : (m : Mechanism) → IsOptimal (units_of a units) m → IsValueOf (units_of a units) m answer.value
   -- one unit is worth what the item is worth in the auction itself
   pub one_unit : units ≡ 1 → (m : Mechanism) → IsOptimal (general_of a) m → IsValueOf (general_of a) m answer.value
   pub status : saying.status ≡ 0

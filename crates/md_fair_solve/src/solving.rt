@@ -1,5 +1,5 @@
 //! The fairest mechanism, found.
-ghost use Rattle.std.specs.Prelude.{◌≡◌, ◌↔◌, List, IfErr, IfOk, IfSome, MatchResult};
+ghost use Rattle.std.specs.Prelude.{◌≡◌, ◌↔◌, List, IfErr, IfOk, MatchResult};
 ghost use Rattle.md_lp.specs.Program.{Program};
 ghost use Rattle.md_lp.specs.declared.pivot.Pivot.{Pivot};
 ghost use Rattle.md_lp.specs.declared.wide.Wide.{Wide};
@@ -23,7 +23,7 @@ ghost use Rattle.md_fair.specs.Fairest.{GrowsFair, IsOptimalFair};
 ghost use Rattle.md_fair.specs.Least.{HasLeast, IsLeastValueOf};
 
 use md_fair::Fairest;
-use md_num::{NoMemory, Width};
+use md_num::Width;
 use md_question::Finding;
 use md_question_solve::{find_question, solve_question};
 use md_setting::Setting;
@@ -78,13 +78,22 @@ pub fn solve_fair(alloc: Global, setting: &Setting, width: Width) -> Result<Find
     solve_question(alloc, &fairest, width)
 }
 
-/// Finds the fairest mechanism of a setting, if the fair program has a certificate that is found off the two stated paths too.
+/// Finds the fairest mechanism of a setting off the two stated paths of its fair program, or else by one of these. Which of
+/// several is found is not said.
 ///
 /// # Errors
-/// Nothing but want of memory.
-pub fn find_fair(alloc: Global, setting: &Setting) -> Result<Option<Finding>, NoMemory>
-    ensures { IfOk result (λ found. IfSome found (IsCertifiedFinding (fair_question setting.now))) }
+/// Where nothing is found off the paths and a basis of each of them is too wide at 62 bits, the pivots to the first such one and
+/// its first such entry, for each; or want of memory.
+pub fn find_fair(alloc: Global, setting: &Setting) -> Result<Finding, SimplexError>
+    ensures certified { IfOk result (IsCertifiedFinding (fair_question setting.now)) }
+
+    // That there is no bound is claimed wherever it is so.
+    ensures no_bound { IfOk result (λ finding. ClaimsUnbounded finding ↔ HasNoLeastBound setting.now) }
+
+    // Only where both paths are too wide nothing is found.
+    ensures left { IfErr result (IsLeftFor (fair_question setting.now) 62) }
 {
+    let _shaped = setting.space();
     let fairest = Fairest { setting };
     find_question(alloc, &fairest)
 }

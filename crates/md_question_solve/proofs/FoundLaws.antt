@@ -24,8 +24,8 @@ use Rattle.md_simplex.specs.declared.step.Step.TheVariants as steps
 use Rattle.md_simplex.specs.Reading.{IsReading}
 use Rattle.md_simplex.specs.Runs.{IsFirstWideOf, IsLeft, IsTaken, MeetsWideBasis, TellsOf, basis_of}
 use Rattle.md_simplex.proofs.OneRun.{one_run}
-use Rattle.md_simplex.proofs.RunLaws.{decided_first_wide, decided_taken, decided_wide, one_taken}
-use Rattle.md_simplex.proofs.SamePaths.{first_wide-same}
+use Rattle.md_simplex.proofs.RunLaws.{decided_first_wide, decided_taken, decided_wide, first_meets, one_taken}
+use Rattle.md_simplex.proofs.SamePaths.{first_wide-same, meets-same}
 use Rattle.md_simplex.proofs.SameRuns.{run-same}
 use Rattle.md_parts.specs.Fitting.{IsFraction}
 use Rattle.md_question.specs.Certified.{IsCertifiedFinding}
@@ -35,7 +35,7 @@ use Rattle.md_question.specs.Shown.{IsFindingTo, IsShown, IsSo}
 use Rattle.md_question.specs.declared.finding.Finding.{Finding}
 use Rattle.md_question.specs.declared.finding.Finding.TheVariants.{Optimal, Infeasible, Unbounded}
 use Rattle.md_question.proofs.FindingLaws.{exactly_infeasible, program-rows, same_program, shown-every, so-admitted}
-use Rattle.md_question_solve.specs.Found.{ClaimsEnd, HasValueIn, IsFoundBy, IsLeftFor, reading_in}
+use Rattle.md_question_solve.specs.Found.{ClaimsEnd, HasValueIn, HasWidePaths, IsFound, IsFoundBy, IsLeftFor, IsWideFor, reading_in}
 use Rattle.md_question_solve.specs.Readings.{FitsReading, HasOwnPoints, TellsCertificate, WhereBest}
 use Rattle.md_question_solve.specs.declared.reading.Reading.{Reading}
 use Rattle.md_question_solve.specs.declared.reading.Reading.TheVariants as readings
@@ -46,6 +46,11 @@ use Rattle.md_question_solve.proofs.RunCertified.{run-certified}
 pub if_err : {T E : Type 0} → (r : Result T E) (P Q : E → Type 0) → ((e : E) → P e → Q e) → IfErr r P → IfErr r Q
 if_err (Ok x) P Q f h = tt
 if_err (Err e) P Q f h = f e h
+
+-- what follows of both facts of an answer
+pub if_both : {T E : Type 0} → (r : Result T E) (P Q R : T → Type 0) → ((x : T) → P x → Q x → R x) → IfOk r P → IfOk r Q → IfOk r R
+if_both (Ok x) P Q R f h k = f x h k
+if_both (Err e) P Q R f h k = tt
 
 pub left-same : (p r : Program) (width : ℕ) (error : SimplexError) → IsSameProgram p r → IsLeft p width error → IsLeft r width error
 left-same p r width (TooWide first second) h left = (first_wide-same p r h Forward width first.path first.entry left.0, first_wide-same p r h Backward width second.path second.entry left.1)
@@ -97,6 +102,22 @@ module _ (q : Question) where
       → IsFirstWideOf Forward p width first → IsFirstWideOf Backward p width second → IfErr r (TellsOf first second)
   first_wide-of p width (Ok finding) left first second h k = tt
   first_wide-of p width (Err error) left first second h k = decided_first_wide p width (Err error) left first second h k
+
+  -- ---- both paths are wide
+
+  pub wide-paths : (width : ℕ) (first second : Wide) → IsWideFor q width first second → HasWidePaths q width
+  wide-paths width first second h =
+      let meets : (p : Program) → IsProgramFor q p → MeetsWideBasis Forward p width × MeetsWideBasis Backward p width = λ p is.
+      let same = same_program q h.program p h.is_program is in (
+        meets-same h.program p same Forward width (first_meets h.program Forward width first h.forward),
+        meets-same h.program p same Backward width (first_meets h.program Backward width second h.backward),
+      ) in
+      record { program = h.program; is_program = h.is_program; forward = λ p is. (meets p is).0; backward = λ p is. (meets p is).1 }
+
+  -- so they give nothing
+  pub not-found : (width : ℕ) (finding : Finding) → HasWidePaths q width → ¬ IsFound q width finding
+  not-found width finding h found =
+      wide-of found.program width (Ok finding) found.found (h.forward found.program found.is_program) (h.backward found.program found.is_program)
 
   module _ (laws : IsQuestion q) where
     pub own-points : (p : Program) → IsProgramFor q p → HasOwnPoints q.setting p
@@ -162,6 +183,10 @@ module _ (q : Question) where
           none = exactly_infeasible q laws finding claim;
           writable = fits;
         }
+
+    -- what the paths give is one
+    pub certified-found : (p : Program) (width : ℕ) (finding : Finding) → IsProgramFor q p → IsFoundBy q p width finding → IsFindingTo q finding → IsCertifiedFinding q finding
+    certified-found p width finding is h fits = certified-told p h.0.end.certificate finding is (run-certified p width h.0.end h.0.run) h.0.tells h.1 fits
 
     -- ---- one finding
 

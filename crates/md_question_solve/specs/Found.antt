@@ -8,7 +8,7 @@ use Rattle.md_simplex.specs.declared.simplex_error.SimplexError.{SimplexError}
 use Rattle.md_simplex.specs.declared.simplex_error.SimplexError.TheVariants as errors
 use Rattle.md_simplex.specs.declared.step.Step.{Step}
 use Rattle.md_simplex.specs.declared.step.Step.TheVariants as steps
-use Rattle.md_simplex.specs.Runs.{IsFirstWideOf}
+use Rattle.md_simplex.specs.Runs.{IsFirstWideOf, MeetsWideBasis}
 use Rattle.md_question.specs.Findings.{ClaimsInfeasible, ClaimsOptimal, ClaimsUnbounded, WhereOptimal}
 use Rattle.md_question.specs.Question.{IsProgramFor, Question}
 use Rattle.md_question.specs.declared.finding.Finding.{Finding}
@@ -50,6 +50,13 @@ pub record IsWideFor (q : Question) (width : ℕ) (first second : Wide) : Type 0
   pub is_program : IsProgramFor q program
   pub forward : IsFirstWideOf Forward program width first
   pub backward : IsFirstWideOf Backward program width second
+
+-- each path of the question's program comes to a basis that is too wide, in whatever terms the program is written
+pub record HasWidePaths (q : Question) (width : ℕ) : Type 0 where
+  pub program : Program
+  pub is_program : IsProgramFor q program
+  pub forward : (p : Program) → IsProgramFor q p → MeetsWideBasis Forward p width
+  pub backward : (p : Program) → IsProgramFor q p → MeetsWideBasis Backward p width
 
 -- nothing is found, since the question's program has no taken path; memory may run out at any time
 abbrev pub IsLeftFor : Question → ℕ → SimplexError → Type 0

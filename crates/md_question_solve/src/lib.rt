@@ -1,5 +1,5 @@
 //! Questions about a setting, answered: a path of the question's program is followed to its end, and what is read off there is
-//! told of the setting's mechanisms. Or a certificate of the program is looked for that may be off the paths.
+//! told of the setting's mechanisms. Or a certificate of the program is looked for that may be off the paths, before these are followed.
 #![tactic(auto)]
 
 mod finding;

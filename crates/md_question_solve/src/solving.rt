@@ -70,8 +70,8 @@ pub fn solve_question<Q: Asks>(
     found(alloc, question, &lp, width)
 }
 
-// What is found by a program of the question.
-fn found<Q: Asks>(
+/// What is found by a program of the question.
+pub(crate) fn found<Q: Asks>(
     alloc: Global,
     question: &Q,
     lp: &Lp,

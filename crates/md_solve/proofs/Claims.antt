@@ -74,7 +74,7 @@ module _ (s : GeneralSetting) where
 
 -- ---- no bound is claimed wherever there is none
 
-above-some : (z w v : ℤ) → (w +ℤ pos (unsigned_abs (z -ℤ w) + 1)) ≤ℤ v → z <ℤ v
+pub above-some : (z w v : ℤ) → (w +ℤ pos (unsigned_abs (z -ℤ w) + 1)) ≤ℤ v → z <ℤ v
 above-some z w v h = omega (arith, ints, h)
 
 no-bound : (s : GeneralSetting) (m : Mechanism) (ray : List ℤ) → Grows s m ray → HasNoBound s
@@ -89,7 +89,7 @@ no-bound s m ray h = record {
 }
 
 -- a value of at most w over d is not above w
-not-above : (w v d e f : ℤ) → pos 1 ≤ℤ d → pos 1 ≤ℤ e → pos 1 ≤ℤ f → (pos (unsigned_abs w) *ℤ (e *ℤ f)) <ℤ v → (v *ℤ d) ≤ℤ (w *ℤ e) → ⊥
+pub not-above : (w v d e f : ℤ) → pos 1 ≤ℤ d → pos 1 ≤ℤ e → pos 1 ≤ℤ f → (pos (unsigned_abs w) *ℤ (e *ℤ f)) <ℤ v → (v *ℤ d) ≤ℤ (w *ℤ e) → ⊥
 not-above w v d e f one_d one_e one_f above below =
     let size : w ≤ℤ pos (unsigned_abs w) = omega (arith, ints) in
     let e_above : pos 0 ≤ℤ e = omega (arith, ints, one_e) in

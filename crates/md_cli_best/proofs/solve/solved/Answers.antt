@@ -1,4 +1,6 @@
-use Rattle.std.proofs.Common.{inl, inr}
+use Rattle.std.proofs.Common.{ap, ◌∙◌, inl, inr}
+use Rattle.md_answer.specs.Rows.{text_of_answer}
+use Rattle.md_cli_best.specs.Solving.{status_of_answer}
 use Rattle.md_cli_best.proofs.AuctionHeadlines.{IsFoundFor, auction_headline}
 use Rattle.md_cli_driver.proofs.Files.{by_kind}
 use Rattle.md_cli_best.proofs.Headlines.{IsShownBy, headline}
@@ -33,6 +35,7 @@ returns-clause-solving c =
             solved = h.solved;
             status = c.status.ensures.value;
             text = written.text;
+            only = λ other is. (c.status.ensures.value ∙ ap status_of_answer (h.only other is), written.text ∙ ap (text_of_answer s) (h.only other is));
             headline = headline s width c.status.result c.in_ok-write_answer.field-0.items answer shown c.status.ensures.value written.reads_back;
           })
       | inr kind ↦
