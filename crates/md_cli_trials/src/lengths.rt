@@ -58,11 +58,18 @@ fn refusal_of_long(
 
 const NO_ODDS: &str = "interim,1\nodds,0,0\nend\n";
 
+// The item is kept whatever the bidders report.
+const KEPT: &[u8] = b"realise,1\nmass,0,2,0,0\nmass,1,1,0,0\nmass,2,0,0,0\nend\n";
+
 #[test]
 fn a_second_file_is_read_up_to_its_greatest_length(rt: HostRuntime) -> Result<(), Fail> {
     let alloc = rt.alloc();
-    let said = refusal_of_long(alloc, "realise", TWO_BIDDERS, NO_ODDS, ANSWER_LIMIT)?;
-    assert!(rt; said.bytes().is_empty());
+    let second = filled(alloc, NO_ODDS, b'\n', ANSWER_LIMIT)?;
+    let words = ["realise", "setting", "second"];
+    let reply = carried_out(alloc, &words, TWO_BIDDERS.as_bytes(), &second)?;
+    assert_eq!(rt; reply.status, 0);
+    assert!(rt; reply.out.bytes() == KEPT);
+    assert!(rt; reply.err.bytes().is_empty());
     Ok(())
 }
 

@@ -2,13 +2,24 @@
 ghost use Rattle.std.specs.Prelude.{◌<◌};
 ghost use Rattle.md_lp.specs.Program.{row_count};
 
+use crate::likeness::leading_columns;
 use md_lp::{Lp, RowKind};
 use md_num::NoMemory;
 use std::alloc::Global;
 
-/// The columns at the kept places and then those of the basis, one for each row. A column is one of the program, the slack of a row, or a start column.
+/// What becomes of the at-most rows with a negative right side in a first basis.
+#[derive(Clone, Copy, PartialEq, Eq)]
+pub enum Sides {
+    /// They are multiplied by -1 and have a start column, so that no right side is negative.
+    Turned,
+    /// They stay as they are, and have their slack.
+    Kept,
+}
+
+/// The columns at the kept places and then those of the basis, one for each row. A column is one of the program, the slack of a row, or a start column. Program columns that are left out are at no place, since another one stands for each of them.
 #[derive(Drop)]
 pub struct Basis {
+    sides: Sides,
     columns: usize,
     kept: usize,
     order: Vec<usize>,
@@ -16,20 +27,31 @@ pub struct Basis {
     units: Vec<usize>,
 }
 
-/// Whether the first basis has a start column for a row: where the row has no slack, or is multiplied by -1.
-pub fn needs_start(lp: &Lp, row: u32) -> bool
-    requires { row < row_count lp.now }
-{
-    lp.kind(row) == RowKind::Exact || lp.right(row) < 0
-}
+// Where a column stands that is left out.
+const NOWHERE: usize = usize::MAX;
 
 // The columns of the first basis, while they are numbered row by row.
 #[derive(Drop)]
 struct Numbering {
+    sides: Sides,
     kept: Vec<usize>,
     units: Vec<usize>,
     slack: usize,
     start: usize,
+}
+
+/// Whether a row is multiplied by -1 in a first basis: where its right side is negative, and sides are turned or the row is exact.
+pub fn is_turned(lp: &Lp, row: u32, sides: Sides) -> bool
+    requires { row < row_count lp.now }
+{
+    lp.right(row) < 0 && (sides == Sides::Turned || lp.kind(row) == RowKind::Exact)
+}
+
+/// Whether a first basis has a start column for a row: where the row has no slack, or is turned.
+pub fn needs_start(lp: &Lp, row: u32, sides: Sides) -> bool
+    requires { row < row_count lp.now }
+{
+    lp.kind(row) == RowKind::Exact || is_turned(lp, row, sides)
 }
 
 impl Numbering {
@@ -37,7 +59,7 @@ impl Numbering {
     fn add_row(&mut self, lp: &Lp, row: u32) -> Result<(), NoMemory>
         requires { row < row_count lp.now }
     {
-        let needs_start = needs_start(lp, row);
+        let needs_start = needs_start(lp, row, self.sides);
         if needs_start {
             self.units.push(self.start)?;
             self.start = self.start.saturating_add(1);
@@ -65,19 +87,23 @@ fn column_count(lp: &Lp) -> usize {
     columns
 }
 
-// The numbers below a count.
-fn numbers_below(alloc: Global, count: usize) -> Result<Vec<usize>, NoMemory> {
-    let mut numbers = Vec::new(alloc);
-    for number in 0..count {
-        numbers.push(number)?;
+// The program columns that are not left out.
+fn program_columns(alloc: Global, lp: &Lp) -> Result<Vec<usize>, NoMemory> {
+    let leads = leading_columns(alloc, lp)?;
+    let mut columns = Vec::new(alloc);
+    for column in 0..leads.len() {
+        if leads[column] {
+            columns.push(column)?;
+        }
     }
-    Ok(numbers)
+    Ok(columns)
 }
 
 // The columns of the first basis.
-fn number_columns(alloc: Global, lp: &Lp) -> Result<Numbering, NoMemory> {
+fn number_columns(alloc: Global, lp: &Lp, sides: Sides) -> Result<Numbering, NoMemory> {
     let mut numbering = Numbering {
-        kept: numbers_below(alloc, lp.columns() as usize)?,
+        sides,
+        kept: program_columns(alloc, lp)?,
         units: Vec::new(alloc),
         slack: lp.columns() as usize,
         start: column_count(lp),
@@ -97,9 +123,9 @@ fn joined(alloc: Global, first: &[usize], second: &[usize]) -> Result<Vec<usize>
     Ok(numbers)
 }
 
-// At which place each column stands.
-fn seats(alloc: Global, order: &[usize]) -> Result<Vec<usize>, NoMemory> {
-    let mut seat = vec![in alloc; 0; order.len()]?;
+// At which place each of so many columns stands.
+fn seats(alloc: Global, order: &[usize], count: usize) -> Result<Vec<usize>, NoMemory> {
+    let mut seat = vec![in alloc; NOWHERE; count]?;
     for place in 0..order.len() {
         let column = order[place];
         if column < seat.len() {
@@ -110,17 +136,23 @@ fn seats(alloc: Global, order: &[usize]) -> Result<Vec<usize>, NoMemory> {
 }
 
 impl Basis {
-    /// The first basis: of each row the slack, or a start column where it needs one.
-    pub fn new(alloc: Global, lp: &Lp) -> Result<Basis, NoMemory> {
-        let numbering = number_columns(alloc, lp)?;
+    /// A first basis: of each row the slack, or a start column where it needs one.
+    pub fn new(alloc: Global, lp: &Lp, sides: Sides) -> Result<Basis, NoMemory> {
+        let numbering = number_columns(alloc, lp, sides)?;
         let order = joined(alloc, numbering.kept.as_slice(), numbering.units.as_slice())?;
         Ok(Basis {
+            sides,
             columns: column_count(lp),
             kept: numbering.kept.len(),
-            seat: seats(alloc, order.as_slice())?,
+            seat: seats(alloc, order.as_slice(), numbering.start)?,
             order,
             units: numbering.units,
         })
+    }
+
+    /// What became of negative right sides in the first basis.
+    pub fn sides(&self) -> Sides {
+        self.sides
     }
 
     /// How many program and slack columns there are.
@@ -133,12 +165,12 @@ impl Basis {
         self.kept
     }
 
-    /// Where a column stands: below the number of kept places at one of them, and else in the basis.
+    /// Where a column stands: below the number of kept places at one of them, then in the basis, and past all places where it is left out.
     pub fn seat(&self, column: usize) -> usize {
         if column < self.seat.len() {
             self.seat[column]
         } else {
-            0
+            NOWHERE
         }
     }
 
@@ -150,7 +182,12 @@ impl Basis {
 
     /// The row of a column that is basic.
     pub fn row(&self, column: usize) -> Option<usize> {
-        self.seat(column).checked_sub(self.kept)
+        let seat = self.seat(column);
+        if seat < self.order.len() {
+            seat.checked_sub(self.kept)
+        } else {
+            None
+        }
     }
 
     /// The column that a row had in the first basis.
@@ -158,13 +195,23 @@ impl Basis {
         if row < self.units.len() {
             self.units[row]
         } else {
-            0
+            NOWHERE
         }
+    }
+
+    /// Whether a row still has the column of the first basis.
+    pub fn has_unit(&self, row: usize) -> bool {
+        self.row(self.unit(row)) == Some(row)
     }
 
     /// Whether a column is a start column.
     pub fn is_start(&self, column: usize) -> bool {
         column >= self.columns
+    }
+
+    /// Whether a start column stands at a place.
+    pub fn has_start_at(&self, place: usize) -> bool {
+        place < self.order.len() && self.is_start(self.order[place])
     }
 
     /// Lets the column at a place and the one that is basic at a row change places. It answers whether there are such.

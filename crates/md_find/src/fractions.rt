@@ -1,7 +1,8 @@
 //! Lists of fractions, brought over one denominator.
+use crate::find_error::FindError;
 use crate::fraction::{Fraction, GREATEST};
 use md_find_numbers::gcd;
-use md_num::{NoMemory, Nums};
+use md_num::Nums;
 use std::alloc::Global;
 
 /// Numbers over one denominator.
@@ -30,29 +31,30 @@ fn least_den(fractions: &[Fraction]) -> Option<u128> {
 }
 
 // The numerators over a multiple of all denominators, if all are numbers of a certificate.
-fn numerators(alloc: Global, fractions: &[Fraction], den: u128) -> Result<Option<Nums>, NoMemory> {
+fn numerators(alloc: Global, fractions: &[Fraction], den: u128) -> Result<Nums, FindError> {
     let mut numbers = Nums::new(alloc);
     for fraction in fractions {
         let Some(number) = fraction.over(den) else {
-            return Ok(None);
+            return Err(FindError::TooLong);
         };
         numbers.push(number)?;
     }
-    Ok(Some(numbers))
+    Ok(numbers)
 }
 
-/// Fractions over their least common denominator, if all numbers are those of a certificate.
-pub fn over_one(alloc: Global, fractions: &[Fraction]) -> Result<Option<Numbers>, NoMemory> {
+/// Fractions over their least common denominator.
+///
+/// # Errors
+/// Where a number has more than 62 bits; or want of memory.
+pub fn over_one(alloc: Global, fractions: &[Fraction]) -> Result<Numbers, FindError> {
     let Some(common) = least_den(fractions) else {
-        return Ok(None);
+        return Err(FindError::TooLong);
     };
     let Some(den) = Fraction::whole(common).over(1) else {
-        return Ok(None);
+        return Err(FindError::TooLong);
     };
-    let Some(numbers) = numerators(alloc, fractions, common)? else {
-        return Ok(None);
-    };
-    Ok(Some(Numbers { den, numbers }))
+    let numbers = numerators(alloc, fractions, common)?;
+    Ok(Numbers { den, numbers })
 }
 
 // What all numerators have in common: 1 where all are 0.
@@ -64,8 +66,11 @@ fn common_size(fractions: &[Fraction]) -> u128 {
     common.max(1)
 }
 
-/// The whole numbers in the ratio of fractions that have nothing in common, if all are those of a certificate. They take the place of the fractions.
-pub fn in_ratio(alloc: Global, fractions: &mut [Fraction]) -> Result<Option<Nums>, NoMemory> {
+/// The whole numbers in the ratio of fractions that have nothing in common. They take the place of the fractions.
+///
+/// # Errors
+/// Where a number has more than 62 bits; or want of memory.
+pub fn in_ratio(alloc: Global, fractions: &mut [Fraction]) -> Result<Nums, FindError> {
     let common = common_size(fractions);
     for place in 0..fractions.len() {
         let fraction = fractions[place];
@@ -74,8 +79,5 @@ pub fn in_ratio(alloc: Global, fractions: &mut [Fraction]) -> Result<Option<Nums
             ..fraction
         };
     }
-    match over_one(alloc, fractions)? {
-        Some(found) => Ok(Some(found.numbers)),
-        None => Ok(None),
-    }
+    Ok(over_one(alloc, fractions)?.numbers)
 }

@@ -1,11 +1,13 @@
 //! The certificate that the last dictionary of a walk gives.
 use crate::dictionary::Dictionary;
+use crate::find_error::FindError;
 use crate::fraction::Fraction;
 use crate::fractions::{Numbers, in_ratio, over_one};
+use crate::multipliers::{Level, multipliers};
 use crate::walk::End;
 use md_cert::{Bound, Certificate};
 use md_lp::Lp;
-use md_num::{NoMemory, Nums};
+use md_num::Nums;
 use std::alloc::Global;
 
 // The number of a column in the point: the right side of its row, where it is basic.
@@ -28,7 +30,7 @@ fn ray_number(dictionary: &Dictionary, place: usize, column: usize) -> Fraction 
 }
 
 // The point of a dictionary.
-fn point_of(alloc: Global, lp: &Lp, dictionary: &Dictionary) -> Result<Option<Numbers>, NoMemory> {
+fn point_of(alloc: Global, lp: &Lp, dictionary: &Dictionary) -> Result<Numbers, FindError> {
     let mut fractions = Vec::new(alloc);
     for column in 0..lp.columns() {
         fractions.push(point_number(dictionary, column as usize))?;
@@ -42,7 +44,7 @@ fn ray_of(
     lp: &Lp,
     dictionary: &Dictionary,
     place: usize,
-) -> Result<Option<Nums>, NoMemory> {
+) -> Result<Nums, FindError> {
     let mut fractions = Vec::new(alloc);
     for column in 0..lp.columns() {
         fractions.push(ray_number(dictionary, place, column as usize))?;
@@ -50,78 +52,43 @@ fn ray_of(
     in_ratio(alloc, fractions.as_mut_slice())
 }
 
-// The multipliers that a row of the dictionary gives, one for each program row, or minus that where the right side of the program row is negative.
-fn multipliers(
-    alloc: Global,
-    lp: &Lp,
-    dictionary: &Dictionary,
-    row: usize,
-) -> Result<Vec<Fraction>, NoMemory> {
-    let den = dictionary.den(row);
-    let mut fractions = Vec::new(alloc);
-    for of in 0..lp.rows() {
-        let number = dictionary.multiplier(row, of as usize);
-        fractions.push(Fraction::new(number, den).turned(lp.right(of) < 0))?;
-    }
-    Ok(fractions)
-}
-
-// The main multipliers of a dictionary.
-fn main_of(alloc: Global, lp: &Lp, dictionary: &Dictionary) -> Result<Option<Numbers>, NoMemory> {
-    let fractions = multipliers(alloc, lp, dictionary, dictionary.rows().saturating_add(1))?;
-    over_one(alloc, fractions.as_slice())
-}
-
-// The face multipliers of a dictionary.
-fn face_of(alloc: Global, lp: &Lp, dictionary: &Dictionary) -> Result<Option<Nums>, NoMemory> {
-    let mut fractions = multipliers(alloc, lp, dictionary, dictionary.rows())?;
+// The face multipliers that a row of the dictionary gives.
+fn face_of(alloc: Global, lp: &Lp, dictionary: &Dictionary, row: usize) -> Result<Nums, FindError> {
+    let mut fractions = multipliers(alloc, lp, dictionary, row, Level::Face)?;
     in_ratio(alloc, fractions.as_mut_slice())
 }
 
 // The multipliers of a dictionary.
-fn bound_of(alloc: Global, lp: &Lp, dictionary: &Dictionary) -> Result<Option<Bound>, NoMemory> {
-    let Some(main) = main_of(alloc, lp, dictionary)? else {
-        return Ok(None);
-    };
-    let Some(face) = face_of(alloc, lp, dictionary)? else {
-        return Ok(None);
-    };
-    Ok(Some(Bound {
+fn bound_of(alloc: Global, lp: &Lp, dictionary: &Dictionary) -> Result<Bound, FindError> {
+    let fractions = multipliers(alloc, lp, dictionary, dictionary.main(), Level::Main)?;
+    let main = over_one(alloc, fractions.as_slice())?;
+    Ok(Bound {
         den: main.den,
         main: main.numbers,
-        face,
-    }))
+        face: face_of(alloc, lp, dictionary, dictionary.face())?,
+    })
 }
 
 // The certificate of a greatest point.
-fn optimal(
-    alloc: Global,
-    lp: &Lp,
-    dictionary: &Dictionary,
-) -> Result<Option<Certificate>, NoMemory> {
-    let Some(point) = point_of(alloc, lp, dictionary)? else {
-        return Ok(None);
-    };
-    let Some(bound) = bound_of(alloc, lp, dictionary)? else {
-        return Ok(None);
-    };
-    Ok(Some(Certificate::Optimal {
+fn optimal(alloc: Global, lp: &Lp, dictionary: &Dictionary) -> Result<Certificate, FindError> {
+    let point = point_of(alloc, lp, dictionary)?;
+    let bound = bound_of(alloc, lp, dictionary)?;
+    Ok(Certificate::Optimal {
         den: point.den,
         point: point.numbers,
         bound,
-    }))
+    })
 }
 
-// The certificate that no point meets the program.
+// The certificate that no point meets the program, as a row shows.
 fn infeasible(
     alloc: Global,
     lp: &Lp,
     dictionary: &Dictionary,
-) -> Result<Option<Certificate>, NoMemory> {
-    let Some(face) = face_of(alloc, lp, dictionary)? else {
-        return Ok(None);
-    };
-    Ok(Some(Certificate::Infeasible { face }))
+    row: usize,
+) -> Result<Certificate, FindError> {
+    let face = face_of(alloc, lp, dictionary, row)?;
+    Ok(Certificate::Infeasible { face })
 }
 
 // The certificate of a cost that grows without end.
@@ -130,30 +97,29 @@ fn unbounded(
     lp: &Lp,
     dictionary: &Dictionary,
     place: usize,
-) -> Result<Option<Certificate>, NoMemory> {
-    let Some(point) = point_of(alloc, lp, dictionary)? else {
-        return Ok(None);
-    };
-    let Some(ray) = ray_of(alloc, lp, dictionary, place)? else {
-        return Ok(None);
-    };
-    Ok(Some(Certificate::Unbounded {
+) -> Result<Certificate, FindError> {
+    let point = point_of(alloc, lp, dictionary)?;
+    let ray = ray_of(alloc, lp, dictionary, place)?;
+    Ok(Certificate::Unbounded {
         den: point.den,
         point: point.numbers,
         ray,
-    }))
+    })
 }
 
-/// The certificate that a dictionary gives where the walk ends so, if its numbers have up to 62 bits.
+/// The certificate that a dictionary gives where the walk ends so.
+///
+/// # Errors
+/// Where a number of it has more than 62 bits; or want of memory.
 pub fn read(
     alloc: Global,
     lp: &Lp,
     dictionary: &Dictionary,
     end: End,
-) -> Result<Option<Certificate>, NoMemory> {
+) -> Result<Certificate, FindError> {
     match end {
         End::Optimal => optimal(alloc, lp, dictionary),
-        End::Infeasible => infeasible(alloc, lp, dictionary),
+        End::Infeasible(row) => infeasible(alloc, lp, dictionary, row),
         End::Unbounded(place) => unbounded(alloc, lp, dictionary, place),
     }
 }

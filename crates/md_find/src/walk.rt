@@ -1,15 +1,15 @@
 //! A walk from a basis to an end.
 use crate::dictionary::Dictionary;
 use crate::entering::{Phase, entering_place};
+use crate::find_error::FindError;
 use crate::leaving::leaving_row;
-use md_num::NoMemory;
 use std::alloc::Global;
 
 /// How a walk ends.
 #[derive(Clone, Copy)]
 pub enum End {
-    /// No point meets the program.
-    Infeasible,
+    /// No point meets the program, as this row shows.
+    Infeasible(usize),
     /// The point of the dictionary has the greatest cost.
     Optimal,
     /// The column at this place may grow without end.
@@ -25,8 +25,8 @@ enum Step {
     Over(End),
 }
 
-// How many pivots a walk makes at most.
-const MOST_PIVOTS: u32 = 20_000;
+/// How many pivots a walk makes at most.
+pub const MOST_PIVOTS: u32 = 20_000;
 
 // What the rules say where the column at a place enters.
 fn step_at(dictionary: &Dictionary, place: usize) -> Step {
@@ -41,8 +41,8 @@ fn next(dictionary: &Dictionary) -> Step {
     if let Some(place) = entering_place(dictionary, Phase::Face) {
         return step_at(dictionary, place);
     }
-    if dictionary.right(dictionary.rows()) < 0 {
-        return Step::Over(End::Infeasible);
+    if dictionary.right(dictionary.face()) < 0 {
+        return Step::Over(End::Infeasible(dictionary.face()));
     }
     if let Some(place) = entering_place(dictionary, Phase::Main) {
         return step_at(dictionary, place);
@@ -50,17 +50,16 @@ fn next(dictionary: &Dictionary) -> Step {
     Step::Over(End::Optimal)
 }
 
-/// Walks to an end, unless a row is too wide or too many pivots are made.
-pub fn walk(alloc: Global, dictionary: &mut Dictionary) -> Result<Option<End>, NoMemory> {
+/// Walks to an end.
+///
+/// # Errors
+/// Where a row is too wide or too many pivots are made; or want of memory.
+pub fn walk(alloc: Global, dictionary: &mut Dictionary) -> Result<End, FindError> {
     for _ in 0..MOST_PIVOTS {
         match next(dictionary) {
-            Step::Pivot { row, place } => {
-                if !dictionary.pivot(alloc, row, place)? {
-                    return Ok(None);
-                }
-            }
-            Step::Over(end) => return Ok(Some(end)),
+            Step::Pivot { row, place } => dictionary.pivot(alloc, row, place)?,
+            Step::Over(end) => return Ok(end),
         }
     }
-    Ok(None)
+    Err(FindError::Steps)
 }

@@ -2,6 +2,8 @@
 #![tactic(auto)]
 
 mod combination;
+mod divisor;
+mod narrow;
 mod row;
 mod table;
 

@@ -41,19 +41,32 @@ impl Table {
         }
     }
 
+    /// Removes the last row.
+    pub fn pop(&mut self) {
+        self.rows.pop();
+    }
+
+    /// Writes 0 at a place of all rows.
+    pub fn clear(&mut self, place: usize) {
+        for row in 0..self.rows.len() {
+            self.rows[row].put(place, 0);
+        }
+    }
+
     /// Makes the column at a place basic at a row: the row is turned, and so much of it is taken from each other row that nothing is left there. It answers whether it could, in numbers of up to 126 bits.
     pub fn pivot(&mut self, alloc: Global, row: usize, place: usize) -> Result<bool, NoMemory> {
         if row >= self.rows.len() || !self.rows[row].turn(place) {
             return Ok(false);
         }
         let turned = self.rows[row].copy(alloc)?;
-        Ok(self.eliminate(&turned, row, place))
+        let mut spare = turned.copy(alloc)?;
+        Ok(self.eliminate(&turned, row, place, &mut spare))
     }
 
     // Takes a turned row from each other one.
-    fn eliminate(&mut self, turned: &Row, row: usize, place: usize) -> bool {
+    fn eliminate(&mut self, turned: &Row, row: usize, place: usize, spare: &mut Row) -> bool {
         for other in 0..self.rows.len() {
-            if other != row && !self.rows[other].eliminate(turned, place) {
+            if other != row && !self.rows[other].eliminate(turned, place, spare) {
                 return false;
             }
         }

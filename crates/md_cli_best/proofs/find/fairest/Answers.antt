@@ -14,8 +14,8 @@ use Rattle.md_cli_best.proofs.Fairest.{fair-valid}
 use Rattle.md_cli_best.proofs.Found.{said-found, said-not_found}
 use Rattle.md_cli_best.proofs.find.fairest.Goals as goal
 
-pub returns-in_ok-write_fair-in-Ok-clause-find : goal.returns-in_ok-write_fair-in-Ok-clause-find
-returns-in_ok-write_fair-in-Ok-clause-find c =
+pub returns-in-Ok-clause-find : goal.returns-in-Ok-clause-find
+returns-in-Ok-clause-find c =
     let s = c.general-setting.result.now in
     let finding = c.in-Ok.finding in
     let h : IsCertifiedFinding (fair_question s) finding = c.in-Ok.ensures.certified in
