@@ -1,0 +1,4 @@
+pub mod ProductLaws
+pub mod BidderLaws
+pub mod AssignmentLaws
+pub mod SettingLaws

@@ -1,0 +1,3 @@
+//! Auctions with groups of bidders who differ, for slots of different amounts, and the general settings that they mean: definitions
+//! and laws, which the contracts of other crates cite. There is no code.
+#![tactic(auto)]

@@ -1,0 +1,3 @@
+//! Lists of bids from best to worst, the rule that each of them is, and when a list is the best one: definitions and laws, which the
+//! contracts of other crates cite. There is no code.
+#![tactic(auto)]

@@ -1,0 +1,14 @@
+pub mod Steps
+pub mod Levels
+pub mod Counts
+pub mod Serving
+pub mod Tails
+pub mod Interim
+pub mod Bidders
+pub mod Late
+pub mod Scores
+pub mod Inside
+pub mod LateLevels
+pub mod Market
+pub mod Gets
+pub mod Best
