@@ -19,7 +19,7 @@ from machine import Group, processors, tell
 MEMORY = 4_000_000_000  # what it counts for beside the proofs, with one processor
 LONGEST_FILE = 1 << 20  # bytes
 MOST_LINES = 200
-LEFT_OUT = ("make", "drill")
+LEFT_OUT = ("make", "drill", "explain")
 MARK = "before the proof | "
 
 

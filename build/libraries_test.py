@@ -103,6 +103,8 @@ class Repository:
         (self.top / "kit/bin").mkdir(parents=True)
         for name in ("mechdes", "README.md", *(f"build/{it.name}" for it in FOLDER.glob("*.py")), "build/libraries"):
             shutil.copy(FOLDER.parent / name, self.top / name)
+        sentences = "python/mechdes/refusals"
+        shutil.copytree(FOLDER.parent / sentences, self.top / sentences, ignore=shutil.ignore_patterns("__pycache__"))
         for name, text in (("rt", RT), ("rattle", RATTLE), ("rattle-link", LINK)):
             (self.top / "kit/bin" / name).write_text(text)
             (self.top / "kit/bin" / name).chmod(0o755)
@@ -617,6 +619,16 @@ class LauncherTest(Case):
         self.assertEqual(status, 7, told)
         self.assertEqual(out, f"solve {SETTING} --run\nmd_prog: \n")
         self.assertRegex(made.calls()[0], r"^begins md_prog check x86-64-v[23] 1$")
+
+    def test_explain_is_a_script_over_the_program(self) -> None:
+        made = self.repository({"md_prog": (3, "")})
+        script = made.top / "build/explain.py"
+        script.write_text("#!/usr/bin/env python3\nimport sys\nprint('explains', *sys.argv[1:])\n")
+        script.chmod(0o755)
+        for _ in ("first", "later"):
+            status, out, told = made.run("mechdes", "explain", SETTING, cwd=made.top)
+            self.assertEqual((status, out), (0, f"explains {SETTING}\n"), told)
+        self.assertEqual(made.begun(), ["md_prog"])
 
     def test_later_calls_start_no_python(self) -> None:
         made = self.built()

@@ -12,6 +12,7 @@ from pathlib import Path
 from typing import Dict, List, NamedTuple, Optional, Sequence
 
 from crates import Failed, crates_of, find_kit, is_all_built
+from meaning import meaning
 
 TOP = Path(__file__).resolve().parent.parent
 USAGE, READ_FAULT = 64, 70
@@ -20,15 +21,17 @@ MOST_BITS = 126
 OPTIONS = {
     "--width W": "numbers have at most W bits: from 4 to 62, and 62 where none is asked for",
     "--units NUMBER": "the answer is one about so many units, from 1 to 12",
+    "--from BASIS": "the search begins at the basis that this file lists",
+    "ANSWER": "what is explained; where it is left out, the best rule that `find` or `solve` gives",
+    "--json": "the explanation as data",
 }
 
 
 class Refusal(NamedTuple):
-    """A status, the line that the program writes with it, and what is wrong, in a sentence."""
+    """A status, and the line that the program writes with it."""
 
     status: int
     line: str
-    hint: str
 
 
 class Form(NamedTuple):
@@ -38,38 +41,22 @@ class Form(NamedTuple):
     options: List[str]
 
 
+# The commands of the launcher itself. Options that do not begin with `-` are words that may be left out.
+OWN = {"explain": Form(["SETTING"], ["ANSWER", "--units NUMBER", "--json"])}
+
+
 def commands(top: Path = TOP) -> Dict[str, Form]:
-    """The commands of the program in the order of its table."""
+    """The commands of the program in the order of its table, and then those of the launcher."""
     text = (top / "crates/md_cli_words/src/command.rt").read_text()
     told = dict(re.findall(r"(?m)^    /// `([a-z]+)((?: [^`]*)?)`", text))
     found = {}
     for name in re.findall(r'(?m)^        "(\w+)" => Some', text):
         options = re.findall(r"\[(--[^\]]*)\]", told[name])
         found[name] = Form(re.sub(r"\[[^\]]*\]", "", told[name]).split(), options)
-    return found
+    return {**found, **OWN}
 
 
 # Refusals
-
-
-def distance(one: str, other: str) -> int:
-    """How many letters must be changed, added, left out or exchanged with the next one to make one word of another (Damerau)."""
-    rows = [[*range(len(other) + 1)]]
-    for i, letter in enumerate(one):
-        row = [i + 1]
-        for j, wanted in enumerate(other):
-            row.append(min(rows[i][j] + (letter != wanted), rows[i][j + 1] + 1, row[j] + 1))
-            if i and j and letter == other[j - 1] and one[i - 1] == wanted:
-                row[-1] = min(row[-1], rows[i - 1][j - 1] + 1)
-        rows.append(row)
-    return rows[-1][-1]
-
-
-def nearest(word: str, known: Sequence[str]) -> Optional[str]:
-    """The known word that was most likely meant: at a distance of at most 2, and below half the length of the word."""
-    near = [(distance(word, it), at) for at, it in enumerate(known) if abs(len(word) - len(it)) <= 2]
-    least, at = min(near, default=(3, 0))
-    return known[at] if least <= 2 and 2 * least < len(word) else None
 
 
 def is_number(text: str) -> bool:
@@ -100,28 +87,24 @@ def refusal_of(words: Sequence[str], known: Dict[str, Form]) -> Optional[Refusal
     if any(it != it.encode(errors="replace").decode() for it in words):
         # (a word that is no text has no line of its own)
         return None
-    if not words:
-        return Refusal(USAGE, "usage", "a command is missing: `mechdes help` lists them")
+    if not words or words[0] not in known:
+        return Refusal(USAGE, "usage")
     name, *rest = words
-    if name not in known:
-        meant = nearest(name, [*known])
-        return Refusal(USAGE, "usage", f"there is no command `{name}`" + (f": is `{meant}` meant?" if meant else ": `mechdes help` lists them"))
     form = known[name]
     if any(it.startswith("-") for it in rest):
         return None
-    if len(rest) != len(form.arguments):
-        takes = " ".join([name, *form.arguments])
-        return Refusal(USAGE, "usage", f"`{takes}` has {len(form.arguments)} words behind the command, and not {len(rest)}")
+    if not 0 <= len(rest) - len(form.arguments) <= sum(not it.startswith("-") for it in form.options):
+        return Refusal(USAGE, "usage")
     if form.arguments[0] == "SETTING" and are_numbers_right(form, rest) and is_absent(rest[0]):
-        return Refusal(READ_FAULT, "read fault", f"there is no file {rest[0]}")
+        return Refusal(READ_FAULT, "read fault")
     return None
 
 
-def refuse(refusal: Refusal) -> int:
-    """Writes a refusal as the program does, on a terminal with what is wrong, and returns its status."""
+def refuse(words: Sequence[str], refusal: Refusal) -> int:
+    """Writes a refusal of a call as the program does, on a terminal with what it means, and returns its status."""
     print(f"mechdes: {refusal.line}", file=sys.stderr)
     if sys.stderr.isatty():
-        print(f"mechdes: {refusal.hint}", file=sys.stderr)
+        sys.stderr.write(meaning("", refusal.line, words))
     return refusal.status
 
 
@@ -133,7 +116,7 @@ def purposes(top: Path = TOP) -> List[str]:
     lines: List[str] = []
     for want, cells in re.findall(r"(?m)^\| \*\*(.*?)\*\* \|(.*)\|$", (top / "README.md").read_text()):
         lines += ["", want]
-        found = re.split(r"`([a-z]+ [A-Z][A-Z0-9 ]*)`: ", cells)
+        found = re.split(r"`([a-z]+ [A-Z][A-Z0-9 \[\]]*)`: ", cells)
         for takes, text in zip(found[1::2], found[2::2]):
             lines.append(f"    {takes}: {text.replace('`', '').strip('.| ')}")
     return lines

@@ -28,6 +28,7 @@ CALLS = [
     "rows auction-single.toml",
     "fair welfare-vote.toml",
     "find too-wide.toml",
+    "find posted-price.toml --from posted-price.csv",
     "findfair welfare-vote.toml",
     "faircheck welfare-vote.toml welfare-vote-fairest.csv",
     "require school-quota.toml school-quota-3.csv",

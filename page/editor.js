@@ -2,11 +2,12 @@
 
 import { button, byId, make } from "./dom.js";
 import { opensFile, save } from "./files.js";
-import { explained } from "./refusals.js";
+import { asSentence, explained } from "./refusals.js";
 import { readSetting, remarkOf, summaryOf } from "./setting.js";
 
 const PAUSE = 250; // milliseconds without a key before the text is read
 const REFUSED = 65;
+const CHECK = ["check", "setting", "second"];
 const SALE = ["asym", "setting", "--width", "4"]; // asks whether a setting is a sale, and looks no further than four bits for an answer
 
 /** The settings of the gallery, in groups. */
@@ -112,7 +113,7 @@ export class Editor {
     clearTimeout(this.timer);
     this.reading += 1;
     const { reading, text } = this;
-    const told = await this.engine.call(["check", "setting", "second"], text).catch(() => null);
+    const told = await this.engine.call(CHECK, text).catch(() => null);
     const sold = await this.engine.call(SALE, text).catch(() => null);
     if (told === null || reading !== this.reading) {
       return;
@@ -141,26 +142,17 @@ export class Editor {
   }
 
   tellRefusal(refusal) {
-    const line = this.lineOf(refusal);
-    const words = explained(refusal).replace(/\.$/, "");
-    const go = line && button(`Go to line ${line.number}`, () => this.goesTo(line), { class: "small" });
-    this.tell("bad", make("strong", {}, `Refused: ${refusal}.`), ` ${words}.`, ...(go ? [" ", go] : []));
+    const told = explained(CHECK, `setting refused: ${refusal}`, { setting: this.text }, { setting: "" });
+    const go = told?.line && button(`Go to line ${told.line}`, () => this.goesTo(told.line), { class: "small" });
+    this.tell("bad", make("strong", {}, `Refused: ${refusal}.`), told ? ` ${asSentence(told.text)}` : "", ...(go ? [" ", go] : []));
   }
 
-  /** The first line with the key that a refusal names, where there is one. */
-  lineOf(refusal) {
-    const key = /^(?:wrong kind|unknown word) (?:[a-z_]+\.)?([a-z_]+)$/.exec(refusal)?.[1];
-    const found = key && new RegExp(`^[ \\t]*${key}[ \\t]*=.*$`, "m").exec(this.text);
-    if (!found) {
-      return null;
-    }
-    const number = this.text.slice(0, found.index).split("\n").length;
-    return { number, start: found.index, end: found.index + found[0].length };
-  }
-
-  goesTo({ start, end }) {
+  /** Marks a line of the text, counted from 1. */
+  goesTo(line) {
+    const lines = this.text.split("\n");
+    const start = lines.slice(0, line - 1).reduce((total, { length }) => total + length + 1, 0);
     byId("text-of-setting").open = true;
     this.area.focus();
-    this.area.setSelectionRange(start, end);
+    this.area.setSelectionRange(start, start + lines[line - 1].length);
   }
 }

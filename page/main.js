@@ -5,12 +5,13 @@ import { conditionRowNames, conditionsOf } from "./conditions.js";
 import { breakable, button, byId, keepsOpen, make } from "./dom.js";
 import { Editor } from "./editor.js";
 import { Engine, Interrupted, canRun, unpacked } from "./engine.js";
+import { useSentences } from "./faults.js";
 import { save } from "./files.js";
 import { fragmentOf, partsOf } from "./link.js";
 import { patternDefinitions } from "./pictures.js";
 import { Question } from "./question.js";
 import { firstWith, recordsOf, withWord } from "./records.js";
-import { explained } from "./refusals.js";
+import { asSentence, explained } from "./refusals.js";
 import { readSetting } from "./setting.js";
 import { Sliders } from "./sliders.js";
 import { readToml } from "./toml.js";
@@ -154,11 +155,12 @@ class Page {
   /** Carries out what is asked, and shows what comes. A quiet question leaves the reader where it is. */
   async asks({ isQuiet = false } = {}) {
     const { command, values, second } = this.question;
-    const asked = { command, values: { ...values }, settingText: this.editor.text, name: this.editor.name };
+    const words = wordsOf(command, values, this.question.setting);
+    const asked = { command, words, values: { ...values }, settingText: this.editor.text, second, name: this.editor.name };
     this.asked = asked.settingText;
     this.busy(true);
     try {
-      const told = await this.engine.call(wordsOf(command, values, this.question.setting), asked.settingText, second);
+      const told = await this.engine.call(words, asked.settingText, second);
       await this.shows(asked, told);
       if (!isQuiet) {
         comesIntoView(byId("answer"));
@@ -197,7 +199,7 @@ class Page {
     const isRefused = told.status >= REFUSED_FROM;
     const text = isRefused ? told.err : told.out;
     this.printed = { text, file: fileOf(command, name) };
-    const found = isRefused ? refusalView(told) : await this.viewOf(asked, told.out);
+    const found = isRefused ? refusalView(asked, told) : await this.viewOf(asked, told.out);
     byId("verdict").className = `verdict ${found.kind}`;
     byId("verdict").replaceChildren(
       make("p", { class: "large" }, ...[breakable(found.large)].flat()),
@@ -271,10 +273,10 @@ function comesIntoView(element) {
   }
 }
 
-function refusalView({ status, err }) {
-  const refusal = err.trim().replace(/^mechdes: (?:(?:setting|answer) refused: )?/, "");
-  const words = explained(refusal);
-  return { kind: "bad", large: STATUS_WORDS[status] ?? "Refused", words: [make("code", {}, err.trim()), ` ${words}`], content: [] };
+function refusalView({ words, settingText, second }, { status, err }) {
+  const told = explained(words, err, { setting: settingText, second }, { setting: "", second: "" });
+  const says = [make("code", {}, err.trim()), told ? ` ${asSentence(told.text)}` : ""];
+  return { kind: "bad", large: STATUS_WORDS[status] ?? "Refused", words: says, content: [] };
 }
 
 function secondsText(seconds) {
@@ -288,7 +290,9 @@ async function begins() {
   }
   document.body.append(patternDefinitions());
   const module = await unpacked(byId("module").textContent);
-  const page = new Page(byId("worker").textContent, module, JSON.parse(byId("contents").textContent));
+  const contents = JSON.parse(byId("contents").textContent);
+  useSentences(contents.sentences);
+  const page = new Page(byId("worker").textContent, module, contents);
   await page.opens();
   // For scripts that try the page.
   window.mechdes = Object.assign(page, { readToml });

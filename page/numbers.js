@@ -7,12 +7,17 @@ import { readToml } from "./toml.js";
 const SMALLEST_REACH = 10; // how far a slider goes at least
 const MOST_BIDDERS = 12;
 
+/** What stands for a value: a number has its place. */
+function withPlace(kind, found, start, end) {
+  return kind === "integer" || kind === "float" ? { amount: found, start, end } : found;
+}
+
 /** The tables of a setting's numbers: each has a title, heads, and rows of a name and cells. A cell has a label of its own, its number
  * (`amount`), where it stands in the text (`start` and `end`), and how far a slider takes it (`least` and `most`). Of a text that cannot
  * be read there are none. */
 export function numberTables(text) {
   try {
-    const file = readToml(text, (amount, start, end) => ({ amount, start, end }));
+    const file = readToml(text, withPlace);
     const tables = file.kind === "auction" ? auctionTables(file) : generalTables(file);
     return tables.filter(({ rows }) => rows.some(({ cells }) => cells.length > 0));
   } catch {
@@ -65,7 +70,7 @@ const AUCTION_LABELS = { revenue: "Weight of revenue", welfare: "Weight of welfa
 
 /** An auction's text with one more value, above the others, of the weight of the last one. */
 export function withValueAdded(text) {
-  const { values, weights } = readToml(text, (amount, start, end) => ({ amount, start, end }));
+  const { values, weights } = readToml(text, withPlace);
   const [value, weight] = [values.at(-1), weights.at(-1)];
   const step = values.length > 1 ? value.amount - values.at(-2).amount : 1;
   return changed(text, [[value.end, value.end, `, ${value.amount + Math.max(1, step)}`], [weight.end, weight.end, `, ${weight.amount}`]]);
@@ -73,7 +78,7 @@ export function withValueAdded(text) {
 
 /** An auction's text without its last value. */
 export function withoutLastValue(text) {
-  const { values, weights } = readToml(text, (amount, start, end) => ({ amount, start, end }));
+  const { values, weights } = readToml(text, withPlace);
   const cuts = [values, weights].filter((list) => list.length > 1);
   return changed(text, cuts.map((list) => [list.at(-2).end, list.at(-1).end, ""]));
 }

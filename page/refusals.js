@@ -1,37 +1,113 @@
-// What the program's refusals say, in sentences.
+// What a refusal of the program means, in a sentence: which file, where in it, what was found there, and what is wanted. It reads the words
+// and the texts of the call once more, looks for what the program's line names, and tells where that is. Where it finds nothing wrong it
+// says nothing.
 
-const REFUSALS = [
-  [/^too long$/, "The file is longer than 1 MiB."],
-  [/^not toml$/, "The text is no TOML: look for a missing quote, bracket or equals sign."],
-  [/^missing (.+)$/, "The key $1 is required, and missing."],
-  [/^wrong kind (.+)$/, "What stands at $1 is of another kind: a whole number, a text in quotes, true or false, or a list is wanted."],
-  [/^unknown word (.+)$/, "The word at $1 is none of those that may stand there."],
-  [/^unknown key$/, "A key stands somewhere that is not known there: perhaps a spelling mistake, or weights beside a prior."],
-  [/^bad name$/, "A name is 1 to 32 letters, digits and underscores."],
-  [/^double name$/, "Two agents, two outcomes, or two types of an agent have the same name."],
-  [/^sizes$/, "There are too few or too many agents, types, outcomes, profiles, bidders or values."],
-  [/^shape$/, "A list has another length than it should: one number for each type, outcome, profile or value."],
-  [/^out of range$/, "A number is beyond its limit."],
-  [/^zero weight$/, "A type or a value never comes: its weight is 0."],
-  [/^weight total$/, "The weights of all profiles add to more than 1,000,000."],
-  [/^values order$/, "The values of an auction must ascend."],
-  [/^too many rows$/, "The linear program of this setting is too large."],
-  [/^too many counts$/, "This auction is too large."],
-  [/^other kind$/, "This command is for the other kind of setting."],
-  [/^not a sale$/, "This command is for the sale of one item: the first outcome keeps it, and each further one gives it to an agent."],
-  [/^profile refused$/, "The reports are none of this setting: one is wanted for each agent."],
-  [/^draw refused$/, "The draw is out of its range."],
-  [/^number refused$/, "The number is out of its range."],
-  [/^pivot (\d+) refused$/, "Pivot $1 cannot be carried out: its row, its column, or the entry there will not do."],
-  [/^no table$/, "The answer has no mechanism."],
-  [/^line (\d+): record$/, "Record $1 may not stand there, or has another number of fields than it should."],
-  [/^line (\d+): field (\d+)$/, "Field $2 of record $1 is not what may stand there."],
-  [/^line (\d+): sum$/, "The numbers of record $1 do not add up."],
-  [/^line (\d+): ended$/, "The file ends after $1 records, without the record end."],
-];
+import { Call, WrongWords, drawFault, numberFault, profileFault, usageFault } from "./callfaults.js";
+import { TABLE, fault, faultText, grouped } from "./faults.js";
+import { pivotFault, recordFault } from "./recordfaults.js";
+import { SettingFile, settingFault } from "./settingfaults.js";
 
-/** A refusal of the program in a sentence; empty where there is none. */
-export function explained(refusal) {
-  const found = REFUSALS.find(([pattern]) => pattern.test(refusal));
-  return found ? refusal.replace(...found) : "";
+/** The files of a call: their texts by their names, and how they are called; a name that is empty is none. */
+class Files {
+  constructor(call, texts, names) {
+    Object.assign(this, { call, texts, names });
+  }
+
+  text(argument) {
+    return this.texts[this.call.given[argument]];
+  }
+
+  called(argument) {
+    const { called, is_named: isNamed } = TABLE.files[argument];
+    const word = this.call.given[argument];
+    const name = this.names[word] ?? word;
+    return name === "" ? called : isNamed ? `${called} ${name}` : name;
+  }
+
+  /** What is wrong in a file, in a sentence that begins with its place. */
+  tells(argument, found) {
+    if (found === null) {
+      return null;
+    }
+    const line = found.at === null ? null : this.text(argument).slice(0, found.at).split("\n").length;
+    const place = line === null ? this.called(argument) : `${this.called(argument)}, line ${line}`;
+    return { text: `${place}: ${faultText(found)}`, line };
+  }
+
+  /** That a file is too long. */
+  tellsLength(argument) {
+    const { limit } = TABLE.files[argument];
+    const isLong = new TextEncoder().encode(this.text(argument)).length > limit;
+    return this.tells(argument, isLong ? fault("file.long", { wanted: `${grouped(limit)} bytes` }) : null);
+  }
+}
+
+/** What is wrong with words, which are in no file. */
+function bare(found) {
+  return found && { text: faultText(found), line: null };
+}
+
+function askedOf(files) {
+  const { command, units, options } = files.call;
+  const isAbout = "--units" in options || command === "unitcheck";
+  return { command, units: isAbout ? units : null, setting: new SettingFile(files.text("SETTING")) };
+}
+
+/** What is wrong with the setting. */
+function ofSetting(files, cause) {
+  const { command, options } = files.call;
+  return cause === "too long"
+    ? files.tellsLength("SETTING")
+    : files.tells("SETTING", settingFault(files.text("SETTING"), cause, command, "--units" in options));
+}
+
+/** What is wrong with the second file. */
+function ofSecond(files, cause) {
+  const argument = files.call.second;
+  if (cause === "too long") {
+    return files.tellsLength(argument);
+  }
+  const found = recordFault(askedOf(files), TABLE.files[argument].kind ?? "", files.text(argument), cause);
+  return files.tells(found?.isOfSetting ? "SETTING" : argument, found);
+}
+
+/** What of the words does not fit the files. */
+function ofWords(files, told) {
+  const [, pivot] = /^pivot (\d+) refused$/.exec(told) ?? [];
+  if (pivot !== undefined) {
+    return files.tells("PIVOTS", pivotFault(askedOf(files), files.text("PIVOTS"), Number(pivot)));
+  }
+  if (told === "number refused") {
+    return bare(numberFault(files.call));
+  }
+  const setting = new SettingFile(files.text("SETTING"));
+  return bare(told === "profile refused" ? profileFault(files.call, setting) : drawFault(files.call, setting, files.text("ANSWER") ?? ""));
+}
+
+function meaningOf(words, told, texts, names) {
+  if (told === "usage") {
+    return bare(usageFault(words));
+  }
+  const files = new Files(new Call(words), texts, names);
+  const [, of, cause] = /^(setting|answer) refused: (.*)$/.exec(told) ?? [];
+  return of === undefined ? ofWords(files, told) : (of === "setting" ? ofSetting : ofSecond)(files, cause);
+}
+
+/** What a refusal means: `text`, the sentence, and `line`, that of the file, or null. Null where nothing is found. `told` is what the
+ * program wrote, `texts` has the texts of the files by the words that name them, and `names` what these are called, where that is
+ * something else; empty for none. */
+export function explained(words, told, texts, names = {}) {
+  try {
+    return meaningOf(words, told.trim().replace(/^mechdes: /, ""), texts, names);
+  } catch (wrong) {
+    if (wrong instanceof WrongWords || wrong instanceof TypeError || wrong instanceof SyntaxError || wrong instanceof RangeError) {
+      return null;
+    }
+    throw wrong;
+  }
+}
+
+/** The text of a sentence as one that stands alone. */
+export function asSentence(text) {
+  return `${text[0].toUpperCase()}${text.slice(1)}${text.endsWith("?") ? "" : "."}`;
 }

@@ -43,12 +43,17 @@ def words() -> List[str]:
     return re.findall(r'"(\w+)" => Some', (TOP / "crates/md_cli_words/src/command.rt").read_text(encoding="utf-8"))
 
 
+def sentences() -> Dict[str, object]:
+    """The table of sentences that tell what a refusal means."""
+    return json.loads((TOP / "python/mechdes/refusals/sentences.json").read_text(encoding="utf-8"))
+
+
 def parts() -> Dict[str, str]:
     """What the page has in the places of index.html. The module and the sums are left empty."""
     return {
         "style": read("page.css").strip(),
         "worker": read("worker.js").strip(),
-        "contents": json.dumps({"words": words(), "gallery": gallery()}).replace("</", "<\\/"),
+        "contents": json.dumps({"words": words(), "gallery": gallery(), "sentences": sentences()}).replace("</", "<\\/"),
         "script": script().strip(),
         "module": "",
         "module_sum": "",

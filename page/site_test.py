@@ -18,6 +18,7 @@ TOP = Path(__file__).resolve().parent.parent
 WIDE = b"\0asm\1\0\0\0" + b"\1\1\0" + b"\3\1\0" + b"\5\3\1\4\1" + b"\x0a\1\0"
 MODULE = WIDE.replace(b"\5\3\1\4\1", b"\5\3\1\0\1")
 OTHER = WIDE.replace(b"\5\3\1\4\1", b"\5\3\1\0\2")
+SENTENCES = "python/mechdes/refusals/sentences.json"
 EXAMPLES = ("posted-price", "auction-reserve", "own", "calls")
 # Leaves what rattle leaves, and notes its calls. Where it compiles, it gives its compiler a module of LLVM.
 RATTLE = f"""#!{sys.executable}
@@ -51,7 +52,8 @@ for name in sys.argv[1:]:
     text = open(name).read() if os.path.exists(name) else None
     os.makedirs(os.path.dirname(name) or ".", exist_ok=True)
     more = {"crates.txt": "md_low: std\\n", "crates/md_cli_words/src/command.rt": '"more" => Some'}.get(name, "// more\\n")
-    open(name, "a").write(more)
+    made = text.replace("{", '{"more": 1,', 1) if name.endswith(".json") else (text or "") + more
+    open(name, "w").write(made)
     now = sheet.sums_now(crates.find_kit())
     print(name, now.module != before.module, now.page != before.page)
     os.remove(name) if text is None else open(name, "w").write(text)
@@ -63,7 +65,7 @@ class Repository:
 
     def __init__(self, top: Path) -> None:
         self.top = top
-        for name in ("page", "build"):
+        for name in ("page", "build", "python/mechdes/refusals"):
             shutil.copytree(TOP / name, top / name, ignore=shutil.ignore_patterns("__pycache__", "mechdes.html", "tests"))
         few = [path for name in EXAMPLES for path in (TOP / "examples").glob(f"{name}*.*")]
         for path in (*few, *(TOP / it for it in ("HANDLES", "mechdes", "crates/md_cli_words/src/command.rt"))):
@@ -139,7 +141,7 @@ class CheckTest(Case):
         of_module += [f"page/{it}" for it in ("memory.c", "arithmetic.c", "narrow.py", "module.py")]
         of_module += [f"crates/{it}" for it in ("md_low/src/lib.rt", "md_embed/specs/Lib.antt", "md_embed/proofs/Laws.antt")]
         of_page = [f"page/{it}" for it in ("page.css", "main.js", "worker.js", "index.html", "own-auction.toml")]
-        of_page += ["examples/posted-price.toml", "crates/md_cli_words/src/command.rt"]
+        of_page += ["examples/posted-price.toml", "crates/md_cli_words/src/command.rt", SENTENCES]
         of_none = ["page/build", "build/libraries", "mechdes", "examples/calls.txt", "site/index.html"]
         of_none += [f"crates/{it}" for it in ("md_above/src/lib.rt", "md_embed/must-fail/first.edit")]
         named = [*of_module, *of_page, *of_none]

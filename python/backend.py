@@ -1,6 +1,7 @@
 """Makes a wheel of the package for pip, by the standard library alone (PEP 517 and 660), so that no network is needed.
 
-A wheel with the library is for machines of this kind alone; one without it is for any, and wants MECHDES_LIBRARY.
+A wheel with the library is for machines of this kind alone; one without it is for any, and wants MECHDES_LIBRARY, also where it is
+made. Where there is no library that can be loaded, none is made.
 """
 
 import base64
@@ -31,9 +32,25 @@ def _metadata(project: dict[str, Any]) -> bytes:
     return "\n".join([*lines, ""]).encode()
 
 
+def _entry_points(project: dict[str, Any]) -> bytes:
+    """The commands that pip makes."""
+    return "".join(["[console_scripts]\n", *(f"{name} = {call}\n" for name, call in project["scripts"].items())]).encode()
+
+
+def _try_library() -> None:
+    """Ends the installation where the library cannot be loaded, with the sentence that the first call would raise."""
+    import mechdes
+
+    try:
+        mechdes.library()
+    except mechdes.LibraryMissing as missing:
+        raise SystemExit(str(missing)) from None
+
+
 def _package() -> dict[str, bytes]:
-    """The files of the package: its modules, the mark that they have types, and the library where it was built."""
-    found = [*sorted(HERE.glob("mechdes/*.py")), HERE / "mechdes/py.typed", *([LIBRARY] if LIBRARY.exists() else [])]
+    """The files of the package: its modules and their table, the mark that they have types, and the library where it was built."""
+    files = [*sorted(HERE.glob("mechdes/**/*.py")), *HERE.glob("mechdes/**/*.json"), HERE / "mechdes/py.typed"]
+    found = [*files, *([LIBRARY] if LIBRARY.exists() else [])]
     return {path.relative_to(HERE).as_posix(): path.read_bytes() for path in found}
 
 
@@ -53,6 +70,7 @@ def _write_wheel(folder: str, files: dict[str, bytes], tag: str) -> str:
     pure = "true" if tag.endswith("any") else "false"
     files = dict(files)
     files[f"{described}/METADATA"] = _metadata(project)
+    files[f"{described}/entry_points.txt"] = _entry_points(project)
     files[f"{described}/WHEEL"] = f"Wheel-Version: 1.0\nGenerator: mechdes\nRoot-Is-Purelib: {pure}\nTag: {tag}\n".encode()
     record = ""
     for path, data in files.items():
@@ -66,7 +84,8 @@ def _write_wheel(folder: str, files: dict[str, bytes], tag: str) -> str:
 
 
 def build_wheel(wheel_directory: str, config_settings: Settings = None, metadata_directory: str | None = None) -> str:
-    """A wheel of the package."""
+    """A wheel of the package. Raises `SystemExit` where there is no library."""
+    _try_library()
     machine = sysconfig.get_platform().replace("-", "_").replace(".", "_") if LIBRARY.exists() else "any"
     return _write_wheel(wheel_directory, _package(), f"py3-none-{machine}")
 

@@ -1,5 +1,5 @@
 #!/usr/bin/env python3
-"""A tour of mechdes in Python: a divorce, a price, an optimal auction, a sweep over reserve
+"""A tour of mechdes in Python: a divorce, a price, prices in cents, an optimal auction, two goods, a sweep over reserve
 prices, an auction that is held, and what can be had of revenue and welfare at once.
 
     python3 python/tutorial.py
@@ -9,10 +9,12 @@ that can be read by itself; the tests compare what it prints with what is worked
 """
 
 import collections
+import itertools
 import pathlib
 import random
 from collections.abc import Callable
 from fractions import Fraction
+from typing import Any
 
 import mechdes
 
@@ -40,17 +42,45 @@ def price() -> None:
     setting = mechdes.Setting(
         truth="dominant", rational="ex-post", payments=True, outcomes=["keep", "sell"], agents=[buyer], objective=revenue
     )
-    answer = mechdes.solve(setting)
-    assert isinstance(answer, mechdes.GeneralOptimal) and mechdes.check(setting, answer)
+    answer = mechdes.solve(setting).best()               # raises NotOptimal where there is no best mechanism
+    assert mechdes.check(setting, answer)
     print("The best price is", answer.payments["high",]["buyer"], "and brings", answer.value)
     print("the file begins with", setting.to_toml().splitlines()[0])
+
+
+def cents() -> None:
+    """A ticket is worth 19.90 or 34.90 to a buyer. Decimal texts and fractions are exact; a float is refused."""
+    sale = mechdes.Auction(bidders=1, values=["19.90", "34.90"], weights=["0.4", "0.6"])
+    answer = mechdes.solve(sale).best()
+    print(f"The best price brings {float(answer.value):.2f}, which is exactly {answer.value}")
+    print(repr(answer))                                  # ten lines at most; a notebook shows a table with a picture
+    rounded: Any = 19.9                                  # (mypy refuses a float, too)
+    try:
+        mechdes.Auction(bidders=1, values=[rounded], weights=[1])
+    except TypeError as refused:
+        print(refused)
+
+
+def two_goods() -> None:
+    """A buyer has 0, 1 or 2 for each of two goods, all as likely. The setting is one of a family."""
+    values = list(itertools.product([0, 1, 2], repeat=2))
+    setting = mechdes.families.goods([values])
+    answer = mechdes.solve(setting).best()
+    assert mechdes.check(setting, answer)
+    print("The best way to sell both goods brings", answer.value)
+    pays = {profile: row["buyer1"] for profile, row in answer.payments.items()}
+    print("a buyer with 2 and 0 pays", pays["v2_0",], "and one with 2 and 1", pays["v2_1",])
+    try:
+        mechdes.families.goods([values] * 3)
+    except ValueError as beyond:
+        print(beyond)
 
 
 def auction() -> None:
     """An item for two bidders who value it 2, 3 or 6. The setting is made in Python."""
     setting = mechdes.Auction(bidders=2, values=[2, 3, 6], weights=[2, 1, 1])
-    answer = mechdes.solve(setting)
-    assert isinstance(answer, mechdes.AuctionOptimal) and mechdes.check(setting, answer)
+    answer = mechdes.solve(setting).best()
+    assert mechdes.check(setting, answer)
     print("The best auction brings", answer.value)
     for value, odds in answer.odds.items():
         print(f"a bidder with {value} wins with the chance {odds} and pays {answer.pays[value]} on average")
@@ -69,7 +99,7 @@ def reserve_prices() -> None:
         print(f"{setting.keep:8}  {answer.value!s:6}  {min(sold, default='never')}")
 
 
-def keeps(setting: mechdes.Auction, bids: list[int], value: int) -> Fraction:
+def keeps(setting: mechdes.Auction, bids: list[mechdes.Amount], value: mechdes.Amount) -> Fraction:
     """What the first bidder is left with on average over the draws, where the item is worth so much to it."""
     told = mechdes.award(setting, 1, bids)
     return told.chances[1] * (value - told.prices.get(1, 0))
@@ -81,7 +111,8 @@ def held(times: int = 1000, seed: int = 1) -> None:
     rule = mechdes.threshold(setting, 1)                 # of one unit; no table is needed, and the numbers stay short
     print("The item is sold from", rule.reserve, "on, and brings", rule.value)
     source = random.Random(seed)                         # for a sale that counts take `secrets`, which nobody can foresee
-    paid, gain, wins, had = Fraction(0), Fraction(0), collections.Counter[int](), collections.Counter[int]()
+    wins, had = collections.Counter[mechdes.Amount](), collections.Counter[mechdes.Amount]()
+    paid, gain = Fraction(0), Fraction(0)
     for _ in range(times):
         bids = source.choices(setting.values, setting.weights, k=setting.bidders)
         draw = source.randrange(mechdes.award(setting, 1, bids).draws)
@@ -104,14 +135,24 @@ def compromises() -> None:
 
 
 def refusals() -> None:
-    """What the program refuses is an exception, which says why."""
+    """What the program refuses is an exception, which says why and where."""
     try:
         mechdes.solve(mechdes.Auction(bidders=2, values=[3, 2], weights=[1, 1]))
     except mechdes.SettingRefused as refused:
-        print("Values must ascend. The program says:", refused)
+        print("The program says:", refused)
 
 
-PARTS: tuple[Callable[[], None], ...] = (divorce, price, auction, reserve_prices, held, compromises, refusals)
+PARTS: tuple[Callable[[], None], ...] = (
+    divorce,
+    price,
+    cents,
+    two_goods,
+    auction,
+    reserve_prices,
+    held,
+    compromises,
+    refusals,
+)
 
 
 def main() -> None:

@@ -27,7 +27,8 @@ test("the words of each command are those of docs/FORMATS.md", () => {
   const names = { PROFILE: "p", DRAW1: "d1", DRAW2: "d2", DRAW: "d", W: "w", SETTING: "setting", ANSWER: "second", PIVOTS: "second", ODDS: "second", CONDITIONS: "second" };
   const values = { width: "w", units: "n", ofUnits: "n", number: "n", profile: "p", first: "d1", second: "d2", draw: "d" };
   for (const line of listed.trim().split("\n")) {
-    const [, ...words] = line.replace(/[[\]]/g, "").trim().split(/\s+/);
+    // (the page asks for no basis)
+    const [, ...words] = line.replace("[--from BASIS]", "").replace(/[[\]]/g, "").trim().split(/\s+/);
     const expected = words.map((word) => (word === "NUMBER" ? "n" : names[word] ?? word));
     assert.deepEqual(wordsOf(commandOf(words[0]), values), expected, line);
   }

@@ -1,7 +1,7 @@
 import assert from "node:assert/strict";
 import { test } from "node:test";
 
-import { readToml } from "../toml.js";
+import { PLACES, readToml } from "../toml.js";
 
 /** What a text is read as, with ordinary objects for its tables. */
 const read = (text) => JSON.parse(JSON.stringify(readToml(text)));
@@ -29,14 +29,20 @@ test("a key of every object is a key like others", () => {
   assert.deepEqual(Object.entries(readToml("__proto__ = 1\ntoString = 2\n")), [["__proto__", 1], ["toString", 2]]);
 });
 
-test("numbers can be made with their places", () => {
-  const text = "\ufeffa = [1, -20] # 3\nb = true\nc = \"4\"\n";
-  const { a, b, c } = readToml(text, (amount, start, end) => [amount, text.slice(start, end)]);
-  assert.deepEqual([a, b, c], [[[1, "1"], [-20, "-20"]], true, "4"]);
+test("values can be made with their kinds and places", () => {
+  const text = '\ufeffa = [1, -20] # 3\nb = true\nc = "4"\nd = 1.5\ne = 1979-05-27\n';
+  const { a, b, c, d, e } = readToml(text, (kind, found, start, end) => [kind, text.slice(start, end)]);
+  const kinds = [["integer", "1"], ["integer", "-20"], ["truth value", "true"], ["text", '"4"'], ["float", "1.5"], ["date", "1979-05-27"]];
+  assert.deepEqual([...a, b, c, d, e], kinds);
+});
+
+test("lists, tables and keys have their places", () => {
+  const top = readToml("a = [\n]\n[b]\nc = 1\n");
+  assert.deepEqual([top.a[PLACES].at, top.b[PLACES].at, top.b[PLACES].keys.get("c")], [4, 8, 12]);
 });
 
 test("what has no end is no document", () => {
-  for (const text of ['a = "', "a = [1", "a", "a = {"]) {
+  for (const text of ['a = "', "a = [1", "a", "a = {", "a = b", "a = 1 2", "a = 1\na = 2", "[a]\n[a]", "a = [1 2]", "[a", "= 1"]) {
     assert.throws(() => readToml(text), SyntaxError, text);
   }
 });

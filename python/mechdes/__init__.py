@@ -11,11 +11,13 @@
     print(mechdes.solve(auction).odds)                          # {2: Fraction(3, 8), 3: Fraction(3, 8), 6: Fraction(7, 8)}
 
 Every command of the program is a function here, and gives a value whose numbers are exact. What the program refuses is raised as
-a `Refused`, with its status and its line. `sweep` solves many settings side by side, and `frontier` finds all compromises of two
-objectives. `python/build` makes the library that is loaded at the first call; where it is missing, `LibraryMissing` says so.
+a `Refused`, with its status, its line, and a sentence that tells what is wrong and where. `sweep` solves many settings side by side,
+`frontier` finds all compromises of two objectives, and `families` makes settings that come up again and again. `python/build` makes
+the library that is loaded at the first call; where it is missing, `LibraryMissing` says so.
 """
 
-from ._library import Caller, Library, Reply, call, library, library_path, use
+from . import families
+from ._library import Caller, Executable, Library, Reply, call, library, library_path, use
 from .answers import (
     Answer,
     Audit,
@@ -33,6 +35,7 @@ from .answers import (
     Leaf,
     Multiplier,
     Node,
+    NotOptimal,
     Optimal,
     Price,
     Program,
@@ -55,6 +58,7 @@ from .answers import (
     Verdict,
     Violated,
     WidePath,
+    WithoutBest,
     Worst,
 )
 from .commands import (
@@ -104,15 +108,21 @@ from .errors import (
     UsageRefused,
     WordRefused,
 )
+from .explaining import explain
+from .explanations import Explanation, Fact, Section
 from .frontiers import Corner, Edge, Frontier, draw_frontier, frontier
 from .mechanisms import AuctionMechanism, Mechanism, SaleMechanism, UnitsMechanism
 from .reading import parse
 from .records import Printed
-from .settings import Agent, AnySetting, Auction, Objective, Profile, Setting, SettingLike, read_setting
+from .refusals import Sentence
+from .settings import Agent, Amount, AnySetting, Auction, Number, Objective, Profile, Setting, SettingLike, read_setting
 from .sweeps import solve_all, sweep
+
+__version__ = "1.0.0"
 
 __all__ = [
     "Agent",
+    "Amount",
     "Answer",
     "AnswerLike",
     "AnswerNotRead",
@@ -135,6 +145,9 @@ __all__ = [
     "Draw",
     "Drill",
     "Edge",
+    "Executable",
+    "Explanation",
+    "Fact",
     "Fairest",
     "Frontier",
     "GeneralOptimal",
@@ -147,6 +160,8 @@ __all__ = [
     "Multiplier",
     "NoFrontier",
     "Node",
+    "NotOptimal",
+    "Number",
     "Objective",
     "Optimal",
     "OutOfMemory",
@@ -166,6 +181,8 @@ __all__ = [
     "Rule",
     "SaleMechanism",
     "SaleOptimal",
+    "Section",
+    "Sentence",
     "Setting",
     "SettingLike",
     "SettingNotRead",
@@ -187,8 +204,10 @@ __all__ = [
     "Violated",
     "Welfare",
     "WidePath",
+    "WithoutBest",
     "WordRefused",
     "Worst",
+    "__version__",
     "asym",
     "asymcheck",
     "audit",
@@ -201,8 +220,10 @@ __all__ = [
     "draw",
     "draw_frontier",
     "drill",
+    "explain",
     "fair",
     "faircheck",
+    "families",
     "find",
     "find_fair",
     "frontier",

@@ -6,6 +6,8 @@ import ctypes
 import functools
 import os
 import pathlib
+import subprocess
+import tempfile
 import threading
 from collections.abc import Callable, Sequence
 from typing import NamedTuple, Protocol
@@ -25,7 +27,7 @@ class Reply(NamedTuple):
 
 
 class Caller(Protocol):
-    """Whatever carries out the commands: a `Library`, or what stands in for one."""
+    """Whatever carries out the commands: a `Library`, an `Executable`, or what stands in for one."""
 
     def call(self, words: Sequence[str], setting: bytes = b"", second: bytes = b"") -> Reply:
         """Carries out a command over two files, as `Library.call` does."""
@@ -86,6 +88,25 @@ class Library:
         if held is None:
             held = self._held.buffer = ctypes.create_string_buffer(room)
         return held
+
+
+class Executable:
+    """The program of a path, run anew for each call over files in a folder of its own.
+
+    Where it ends by a signal the status is 128 and the number of the signal. Raises `OSError` where it cannot be run.
+    """
+
+    def __init__(self, path: str | os.PathLike[str]) -> None:
+        self._path = os.path.abspath(path)
+
+    def call(self, words: Sequence[str], setting: bytes = b"", second: bytes = b"") -> Reply:
+        """Carries out a command, as `Library.call` does. The second file has one of the names that the commands here give it."""
+        with tempfile.TemporaryDirectory(prefix="mechdes-") as folder:
+            for name in ("setting", "answer", "conditions", "pivots", "odds"):
+                if name in words:
+                    pathlib.Path(folder, name).write_bytes(setting if name == "setting" else second)
+            ran = subprocess.run([self._path, *words], cwd=folder, stdin=subprocess.DEVNULL, capture_output=True, check=False)
+        return Reply(ran.returncode if ran.returncode >= 0 else 128 - ran.returncode, ran.stdout, ran.stderr)
 
 
 def _function(path: pathlib.Path) -> Callable[..., int]:

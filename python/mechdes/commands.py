@@ -12,6 +12,7 @@ that are no multiple of its denominator; and those that take a width raise `Usag
 
 from __future__ import annotations
 
+import dataclasses
 import math
 import os
 import random as randomness
@@ -65,18 +66,38 @@ from .reading import (
     read_threshold,
     read_verdict,
 )
-from .settings import AnySetting, Auction, Setting, SettingLike, file_bytes, read_setting, setting_bytes
+from .refusals import Sentence, sentence_of
+from .settings import (
+    Amount,
+    AnySetting,
+    Auction,
+    Number,
+    Setting,
+    SettingLike,
+    at_scale,
+    exact,
+    file_bytes,
+    read_setting,
+    setting_bytes,
+)
 
 AnswerLike: TypeAlias = Answer | Mechanism | str | bytes | os.PathLike[str]
 AnswerOfCommand: TypeAlias = Optimal | Infeasible | Unbounded | TooWide | Undecided
 ConditionsLike: TypeAlias = Sequence[Condition] | str | bytes | os.PathLike[str]
 
 
+def _scale(setting: SettingLike) -> int:
+    """The factor of all amounts in the texts about a setting: that of a value, and 1 of a file, which has whole numbers."""
+    return setting.scale if isinstance(setting, (Setting, Auction)) else 1
+
+
 def answer_bytes(setting: SettingLike, answer: AnswerLike) -> bytes:
     """The bytes of an answer's file. A mechanism is written as a table, in the order of the setting's names."""
     if isinstance(answer, AuctionTable):
-        _try_values(setting, answer)
+        answer = _of_auction(setting, answer)
     if isinstance(answer, Answer):
+        if isinstance(setting, (Setting, Auction)) and setting.scale != answer.scale:
+            raise ValueError(f"the answer is about a setting with the scale {answer.scale}, and not {setting.scale}")
         return answer.text().encode()
     if isinstance(answer, Mechanism):
         return _table(setting, answer).text().encode()
@@ -90,11 +111,13 @@ def _table(setting: SettingLike, mechanism: Mechanism) -> Table:
     return Table(setting=named, mechanism=mechanism)
 
 
-def _try_values(setting: SettingLike, table: AuctionTable) -> None:
+def _of_auction(setting: SettingLike, table: AuctionTable) -> AuctionTable:
+    """The table as one of the auction, where it was made by hand."""
     named = read_setting(setting)
     if not isinstance(named, Auction):
         raise ValueError("an AuctionTable is one of an auction, and the setting is none")
     _wanted("odds", table.odds, named.values)
+    return dataclasses.replace(table, setting=named) if table.setting is None else table
 
 
 def _mechanism_bytes(setting: SettingLike, answer: AnswerLike) -> bytes:
@@ -108,8 +131,15 @@ def _printed(expected: set[int], words: Sequence[str], setting: bytes = b"", sec
     """What a command prints, where it ends with one of the statuses that are expected."""
     status, out, err = call(words, setting, second)
     if status not in expected:
-        raise refusal(status, (err or out).decode())
+        line = (err or out).decode()
+        raise refusal(status, line, _meaning(words, line, setting, second))
     return out.decode()
+
+
+def _meaning(words: Sequence[str], line: str, setting: bytes, second: bytes) -> Sentence | None:
+    """What a refusal of the program means, by the words and the files of the call, which have no names of their own."""
+    names = {word: "" for word in ("setting", "answer", "conditions", "pivots", "odds")}
+    return sentence_of(words, line, lambda name: setting if name == "setting" else second, names)
 
 
 # Those of another command have its name.
@@ -179,11 +209,21 @@ def solve(setting: SettingLike, width: int = 62) -> GeneralOptimal | AuctionOpti
     return _answered(["solve", "setting", *_width(width)], setting, {0, 10, 11, 12}, kinds)
 
 
-def find(setting: SettingLike) -> GeneralOptimal | Infeasible | Unbounded | Undecided:
+def find(
+    setting: SettingLike, hint: str | bytes | os.PathLike[str] | None = None
+) -> GeneralOptimal | Infeasible | Unbounded | Undecided:
     """The best mechanism of a general setting, as `solve` gives it, but with longer numbers on the way: most settings for which
     `solve` is too wide have an answer here. Where several mechanisms are best it may be another one. Undecided says nothing of the
-    setting."""
-    return _answered(["find", "setting"], setting, {0, 10, 11, 22}, (GeneralOptimal, Infeasible, Unbounded, Undecided))
+    setting.
+
+    hint  a basis of the setting's linear program, as a path or a text, at which the search begins (`find --from`). It decides only
+          how soon an answer comes, and which of several
+
+    Raises `AnswerRefused` for a hint that is refused.
+    """
+    words = ["find", "setting", *([] if hint is None else ["--from", "basis"])]
+    kinds = (GeneralOptimal, Infeasible, Unbounded, Undecided)
+    return _answered(words, setting, {0, 10, 11, 22}, kinds, second=b"" if hint is None else file_bytes(hint))
 
 
 def require(setting: SettingLike, conditions: ConditionsLike) -> Required | Infeasible | Unbounded | Undecided:
@@ -192,9 +232,13 @@ def require(setting: SettingLike, conditions: ConditionsLike) -> Required | Infe
 
     conditions  a list of `Revenue`, `Welfare`, `Utility`, `Chance` and `Payment`; or a conditions file as a path or a text
 
-    Raises `AnswerRefused` for conditions that are refused.
+    Raises `AnswerRefused` for conditions that are refused. A path or a text is for the file of the setting: it has amounts at the
+    setting's scale.
     """
-    second = file_bytes(conditions) if isinstance(conditions, (str, bytes, os.PathLike)) else conditions_text(conditions).encode()
+    if isinstance(conditions, (str, bytes, os.PathLike)):
+        second = file_bytes(conditions)
+    else:
+        second = conditions_text(conditions, _scale(setting)).encode()
     kinds = (Required, Infeasible, Unbounded, Undecided)
     return _answered(["require", "setting", "conditions"], setting, {0, 10, 11, 22}, kinds, second=second)
 
@@ -216,29 +260,35 @@ def asym(setting: SettingLike, width: int = 62) -> SaleOptimal | TooWide:
     return _answered(["asym", "setting", *_width(width)], setting, {0, 12}, (SaleOptimal, TooWide))
 
 
-def units(setting: SettingLike, number: int, width: int = 62) -> UnitsOptimal | TooWide:
+def units(setting: SettingLike, units: int, width: int = 62) -> UnitsOptimal | TooWide:
     """The best mechanism of an auction of so many units, 1 to 12, of which each bidder wants one. Another number raises
     `WordRefused`."""
-    return _answered(["units", *_width(width), "--", "setting", str(number)], setting, {0, 12}, (UnitsOptimal, TooWide), number)
+    return _answered(["units", *_width(width), "--", "setting", str(units)], setting, {0, 12}, (UnitsOptimal, TooWide), units)
 
 
-def threshold(setting: SettingLike, number: int) -> Threshold:
+def threshold(setting: SettingLike, units: int) -> Threshold:
     """The best auction of so many units, 1 to 12, in which only winners pay: its reserve, its pools, and what it brings; of one
     unit what a winner pays in each case. Another number raises `WordRefused`."""
-    return read_threshold(_printed({0}, ["threshold", "--", "setting", str(number)], setting_bytes(setting)))
+    return read_threshold(_printed({0}, ["threshold", "--", "setting", str(units)], setting_bytes(setting)), _scale(setting))
 
 
-def award(setting: SettingLike, number: int, profile: Sequence[int], draw: int = 0) -> Award:
+def award(setting: SettingLike, units: int, profile: Sequence[Number], draw: int = 0) -> Award:
     """Who wins so many units in the auction of `threshold` at a profile of values, and what each winner pays.
 
     draw  from 0 on, below the `draws` of what comes: as many as bidders who share the edge, or one where nobody does. Draw only
-    after
-          all reports are in, by a source of chance that all trust
+          after all reports are in, by a source of chance that all trust
 
     Raises `WordRefused` for a wrong number, what is no profile, and a draw out of range.
     """
-    words = ["award", "--", "setting", str(number), ",".join(map(str, profile)), str(draw)]
-    return read_award(_printed({0}, words, setting_bytes(setting)))
+    words = ["award", "--", "setting", str(units), _reports(setting, profile), str(draw)]
+    return read_award(_printed({0}, words, setting_bytes(setting)), _scale(setting))
+
+
+def _reports(setting: SettingLike, profile: Sequence[Any]) -> str:
+    """The word for a profile: of an auction with its values at the scale. Raises `ValueError` where one has no whole number."""
+    if isinstance(setting, Auction):
+        profile = [at_scale(exact(value, "profile"), setting.scale) for value in profile]
+    return ",".join(map(str, profile))
 
 
 def determ(setting: SettingLike, width: int = 62) -> Rule | Infeasible | Unbounded | TooWide:
@@ -253,15 +303,15 @@ def iron(setting: SettingLike) -> AuctionOptimal | Undecided:
     return _answered(["iron", "setting"], setting, {0, 22}, (AuctionOptimal, Undecided))
 
 
-def iron_units(setting: SettingLike, number: int) -> UnitsOptimal | Undecided:
+def iron_units(setting: SettingLike, units: int) -> UnitsOptimal | Undecided:
     """What `units` finds, in closed form, also where `units` is too wide; or undecided, where its multipliers have more than 62
     bits. Another number than 1 to 12 raises `WordRefused`."""
-    return _answered(["ironunits", "--", "setting", str(number)], setting, {0, 22}, (UnitsOptimal, Undecided), number)
+    return _answered(["ironunits", "--", "setting", str(units)], setting, {0, 22}, (UnitsOptimal, Undecided), units)
 
 
 def read(setting: SettingLike, answer: AnswerLike, units: int | None = None) -> Answer:
-    """An answer as a value. One that a command gave is given back as it is. `units` is the number that `units` was asked for, which
-    its text does not say.
+    """An answer as a value. One that a command gave is given back as it is. `units` is how many units it is about, where it is a
+    text of `units` or `ironunits`, which do not say it.
 
     Raises `UnknownAnswer` where its kind is not known, and `AnswerNotRead` where it does not fit the setting. It is read and not
     checked: `check` does that.
@@ -299,9 +349,17 @@ def asymcheck(setting: SettingLike, answer: AnswerLike) -> Verdict:
     return read_verdict(_printed({0, 20, 22}, words, setting_bytes(setting), answer_bytes(setting, answer)))
 
 
-def unitcheck(setting: SettingLike, number: int, answer: AnswerLike) -> Verdict:
-    """Whether what an answer of `units` about so many units claims is so. It uses nothing of the part that searches. Another number
-    than 1 to 12 raises `WordRefused`."""
+def unitcheck(setting: SettingLike, answer: AnswerLike, units: int | None = None) -> Verdict:
+    """Whether what an answer of `units` or `iron_units` claims is so. It uses nothing of the part that searches.
+
+    units  how many units the answer is about; a `UnitsOptimal` says it itself
+
+    Another number than 1 to 12 raises `WordRefused`. Raises `ValueError` where the answer is about another number of units, and
+    where nothing says how many they are.
+    """
+    _, number = _units_option(answer, units)
+    if number is None:
+        raise ValueError("nothing says how many units the answer is about: give units=")
     words = ["unitcheck", "--", "setting", str(number), "answer"]
     return read_verdict(_printed({0, 20, 22}, words, setting_bytes(setting), answer_bytes(setting, answer)))
 
@@ -335,7 +393,7 @@ def replay(setting: SettingLike, pivots: AnswerLike | Sequence[tuple[int, int]],
     return read_replay(_printed({0, 12}, words, setting_bytes(setting), answer_bytes(setting, pivots)))
 
 
-def _odds_text(odds: Mapping[int, Fraction], values: Sequence[int]) -> str:
+def _odds_text(odds: Mapping[Any, Fraction], values: Sequence[Amount]) -> str:
     if set(odds) != set(values):
         raise ValueError(f"odds are wanted for just these values: {list(values)}")
     numbers = [Fraction(odds[value]) for value in values]
@@ -343,7 +401,7 @@ def _odds_text(odds: Mapping[int, Fraction], values: Sequence[int]) -> str:
     return f"interim,{denominator}\nodds,{','.join(str(number * denominator) for number in numbers)}\nend\n"
 
 
-def realise(setting: SettingLike, odds: AnswerLike | Mapping[int, Fraction]) -> Realised | Violated:
+def realise(setting: SettingLike, odds: AnswerLike | Mapping[Any, Fraction]) -> Realised | Violated:
     """Whether some auction has given odds: how often a bidder wins, by its value. They are given as a mapping from each value to
     a fraction, or as a text or path of an odds file."""
     if isinstance(odds, Mapping):
@@ -360,7 +418,7 @@ def realise(setting: SettingLike, odds: AnswerLike | Mapping[int, Fraction]) -> 
 def run(
     setting: Setting,
     answer: AnswerLike,
-    profile: Sequence[str] | Sequence[int],
+    profile: Sequence[str] | Sequence[Amount],
     first: int,
     second: int = 0,
     *,
@@ -373,7 +431,7 @@ def run(
 def run(
     setting: SettingLike,
     answer: AnswerLike,
-    profile: Sequence[str] | Sequence[int],
+    profile: Sequence[str] | Sequence[Amount],
     first: int,
     second: int = 0,
     *,
@@ -385,7 +443,7 @@ def run(
 def run(
     setting: SettingLike,
     answer: AnswerLike,
-    profile: Sequence[str] | Sequence[int],
+    profile: Sequence[str] | Sequence[Amount],
     first: int,
     second: int = 0,
     *,
@@ -402,7 +460,7 @@ def run(
     `draw` makes both draws.
     """
     option, number = _units_option(answer, units)
-    words = ["run", *option, "--", "setting", "answer", ",".join(map(str, profile)), str(first), str(second)]
+    words = ["run", *option, "--", "setting", "answer", _reports(setting, profile), str(first), str(second)]
     text = _printed({0}, words, setting_bytes(setting), _mechanism_bytes(setting, answer))
     return read_draw(read_setting(setting), text, number)
 
@@ -410,7 +468,7 @@ def run(
 def draw(
     setting: SettingLike,
     answer: AnswerLike,
-    profile: Sequence[str] | Sequence[int],
+    profile: Sequence[str] | Sequence[Amount],
     random: randomness.Random | None = None,
     *,
     units: int | None = None,
@@ -459,7 +517,14 @@ def report(setting: SettingLike, answer: AnswerLike, units: int | None = None) -
     option, _ = _units_option(answer, units)
     words = ["report", *option, "setting", "answer"]
     text = _printed({0, 21}, words, setting_bytes(setting), _mechanism_bytes(setting, answer))
-    return read_report(read_setting(setting), text)
+    named = read_setting(setting)
+    return read_report(named, text, () if named.scale == 1 else _conditions(named, answer, units))
+
+
+def _conditions(setting: AnySetting, answer: AnswerLike, units: int | None) -> tuple[Condition, ...]:
+    """The conditions of the designer that an answer has."""
+    found = answer if isinstance(answer, Mechanism) else read(setting, answer, units)
+    return found.conditions if isinstance(found, (Required, Infeasible, Unbounded)) else ()
 
 
 def make(number: int) -> AnySetting:

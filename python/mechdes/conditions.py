@@ -4,13 +4,14 @@ conditions files of docs/FORMATS.md."""
 from __future__ import annotations
 
 import dataclasses
+import math
 from collections.abc import Iterable, Iterator, Sequence
 from fractions import Fraction
 from typing import Any, ClassVar, Literal, TypeAlias
 
 from .errors import AnswerNotRead
 from .records import Record, Records, units
-from .settings import Profile, Setting
+from .settings import Number, Profile, Setting, exact
 
 Side: TypeAlias = Literal["least", "most"]
 
@@ -21,16 +22,17 @@ class Condition:
     """What is measured, where all tell the truth, is to be at least or at most a number.
 
     side         `least` or `most`
-    bound        the number
-    denominator  that of the bound in the text; None for the least one
+    bound        the number: whole, a fraction or a decimal text
+    denominator  that of the bound in the text of a setting whose scale is 1; None for the least one
 
     Raises `ValueError` for another side, and for a bound that is no multiple of one over the denominator; and `TypeError` for one
     that is no exact number.
     """
 
     word: ClassVar[str]
+    is_amount: ClassVar[bool] = True  # of an amount, the text has the bound at the scale of the setting
     side: Side
-    bound: Fraction | int
+    bound: Number
     denominator: int | None
 
     def __post_init__(self) -> None:
@@ -38,18 +40,19 @@ class Condition:
             raise ValueError(f"a side is `least` or `most`, not {self.side!r}")
         if self.denominator is not None and self.denominator < 1:
             raise ValueError(f"{self.denominator} is no denominator")
+        object.__setattr__(self, "bound", exact(self.bound, "bound"))
         self.record()
 
     def names(self) -> tuple[str, ...]:
         """The fields between the word and the side."""
         return ()
 
-    def record(self) -> Record:
-        """The record of the condition."""
-        if isinstance(self.bound, bool) or not isinstance(self.bound, (Fraction, int)):
-            raise TypeError(f"a fraction or a whole number is wanted, not {self.bound!r}")
-        denominator = self.bound.denominator if self.denominator is None else self.denominator
-        return self.word, *self.names(), self.side, units(self.bound, denominator), denominator
+    def record(self, scale: int = 1) -> Record:
+        """The record of the condition, for a setting of this scale."""
+        bound, factor = exact(self.bound, "bound"), scale if self.is_amount else 1
+        denominator = bound.denominator if self.denominator is None else self.denominator
+        common = math.gcd(denominator, factor)
+        return self.word, *self.names(), self.side, units(bound, denominator) * (factor // common), denominator // common
 
 
 @dataclasses.dataclass(frozen=True)
@@ -58,7 +61,7 @@ class Revenue(Condition):
 
     word = "revenue"
     side: Side
-    bound: Fraction | int
+    bound: Number
     denominator: int | None = None
 
 
@@ -68,7 +71,7 @@ class Welfare(Condition):
 
     word = "welfare"
     side: Side
-    bound: Fraction | int
+    bound: Number
     denominator: int | None = None
 
 
@@ -79,7 +82,7 @@ class Utility(Condition):
     word = "utility"
     agent: str
     side: Side
-    bound: Fraction | int
+    bound: Number
     denominator: int | None = None
 
     def names(self) -> tuple[str, ...]:
@@ -91,9 +94,10 @@ class Chance(Condition):
     """On how often an outcome is expected to come; with a profile (the names of all types, in the order of the agents), on how
     often it comes there."""
 
+    is_amount = False
     outcome: str
     side: Side
-    bound: Fraction | int
+    bound: Number
     denominator: int | None = None
     profile: Profile | None = None
 
@@ -113,7 +117,7 @@ class Payment(Condition):
     word = "pay"
     agent: str
     side: Side
-    bound: Fraction | int
+    bound: Number
     denominator: int | None = None
     type: str | None = None
 
@@ -121,20 +125,21 @@ class Payment(Condition):
         return (self.agent,) if self.type is None else (self.agent, self.type)
 
 
-def condition_records(conditions: Iterable[Condition]) -> Iterator[Record]:
-    """The records of conditions, in their order."""
+def condition_records(conditions: Iterable[Condition], scale: int) -> Iterator[Record]:
+    """The records of conditions, in their order, for a setting of this scale."""
     for condition in conditions:
-        yield condition.record()
+        yield condition.record(scale)
 
 
-def conditions_text(conditions: Iterable[Condition]) -> str:
-    """The text of a conditions file."""
-    records: list[Record] = [("require", 1), *condition_records(conditions), ("end",)]
+def conditions_text(conditions: Iterable[Condition], scale: int = 1) -> str:
+    """The text of a conditions file, for a setting of this scale."""
+    records: list[Record] = [("require", 1), *condition_records(conditions, scale), ("end",)]
     return "".join(",".join(map(str, record)) + "\n" for record in records)
 
 
 def read_conditions(setting: Setting, text: str) -> tuple[Condition, ...]:
-    """The conditions of a file. Raises `AnswerNotRead` where the text is none, or names what the setting has not."""
+    """The conditions of a file, whose amounts are divided by the setting's scale. Raises `AnswerNotRead` where the text is none, or
+    names what the setting has not."""
     records = Records(text)
     (version,) = records.take("require", 1)
     if version != "1":
@@ -162,7 +167,7 @@ def _condition(records: Records, setting: Setting, word: str, fields: list[str])
     if side not in SIDES:
         raise records.wrong(f"{side} is neither `least` nor `most`")
     of: Any = side
-    over = records.positive(denominator)
+    over = records.positive(denominator) * (1 if word in ("chance", "at") else setting.scale)
     bound = Fraction(records.number(numerator), over)
     if word in ("revenue", "welfare"):
         return Revenue(of, bound, over) if word == "revenue" else Welfare(of, bound, over)

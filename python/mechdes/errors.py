@@ -4,6 +4,8 @@ from __future__ import annotations
 
 import pathlib
 
+from .refusals import Sentence
+
 
 class MechdesError(Exception):
     """The root of all exceptions of this package."""
@@ -52,27 +54,50 @@ class NoFrontier(MechdesError):
 class Refused(MechdesError):
     """A call that the program refuses, or ends otherwise than the function is for.
 
-    status  the status of the program, as docs/FORMATS.md lists them
-    text    what the program printed: its line on standard error where there is one
+    status    the status of the program, as docs/FORMATS.md lists them
+    text      what the program printed: its line on standard error where there is one
+    sentence  what that means: which file, where in it, what was found there and what is wanted; None where it is not known
     """
 
-    def __init__(self, status: int, text: str) -> None:
-        super().__init__(status, text)
+    def __init__(self, status: int, text: str, sentence: Sentence | None = None) -> None:
+        super().__init__(status, text, sentence)
         self.status = status
         self.text = text
+        self.sentence = sentence
 
     @property
-    def line(self) -> str:
+    def message(self) -> str:
         """The program's line, without its name: `setting refused: zero weight`."""
         return self.text.strip().removeprefix("mechdes: ")
 
     @property
     def reason(self) -> str:
         """What stands last in the line: `zero weight`."""
-        return self.line.split(" refused: ")[-1]
+        return self.message.split(" refused: ")[-1]
+
+    @property
+    def line(self) -> int | None:
+        """The line of the file that is wrong, from 1, where it is known."""
+        return self.sentence.line if self.sentence else None
+
+    @property
+    def key(self) -> str | None:
+        """The key, record or word that is wrong, as docs/FORMATS.md calls it, where it is known."""
+        return (self.sentence.key or None) if self.sentence else None
+
+    @property
+    def found(self) -> str | None:
+        """What stands there, in words, where it is known."""
+        return (self.sentence.found or None) if self.sentence else None
+
+    @property
+    def wanted(self) -> str | None:
+        """What is wanted there, in words, where it is known."""
+        return (self.sentence.wanted or None) if self.sentence else None
 
     def __str__(self) -> str:
-        return f"{self.line or 'no line'} (status {self.status})"
+        told = f": {self.sentence.text}" if self.sentence else ""
+        return f"{self.message or 'no line'} (status {self.status}){told}"
 
 
 class UsageRefused(Refused):
@@ -98,6 +123,6 @@ class OutOfMemory(Refused, MemoryError):
 _BY_STATUS: dict[int, type[Refused]] = {64: UsageRefused, 65: SettingRefused, 66: AnswerRefused, 67: WordRefused, 72: OutOfMemory}
 
 
-def refusal(status: int, text: str) -> Refused:
+def refusal(status: int, text: str, sentence: Sentence | None = None) -> Refused:
     """The exception of a status."""
-    return _BY_STATUS.get(status, Refused)(status, text)
+    return _BY_STATUS.get(status, Refused)(status, text, sentence)

@@ -6,16 +6,14 @@ import dataclasses
 import itertools
 import math
 from fractions import Fraction
-from typing import TYPE_CHECKING, Any, TypeAlias
+from typing import Any, TypeAlias
 
-from .answers import AuctionOptimal, GeneralOptimal, TooWide
+from .answers import AuctionOptimal, AuctionTable, GeneralOptimal, Report, TooWide
 from .commands import check, find, iron, report, solve
 from .errors import NoFrontier, SettingRefused
-from .mechanisms import _frame
+from .mechanisms import Mechanism
 from .settings import Auction, Objective, Setting, SettingLike, read_setting
-
-if TYPE_CHECKING:
-    import pandas
+from .showing import Grid, Shown, View, counted
 
 ObjectiveLike: TypeAlias = str | Objective
 Weights: TypeAlias = tuple[int, int]
@@ -49,8 +47,8 @@ class Edge:
     proved: bool
 
 
-@dataclasses.dataclass(frozen=True)
-class Frontier:
+@dataclasses.dataclass(frozen=True, repr=False)
+class Frontier(Shown):
     """All corners, from the most of the first objective to the most of the second, with the edges between them."""
 
     corners: tuple[Corner, ...]
@@ -73,13 +71,14 @@ class Frontier:
                 return right.second + part * (left.second - right.second)
         return self.corners[-1].second
 
-    def to_pandas(self) -> pandas.DataFrame:
-        """A table with a row for each corner, as fractions."""
+    def _view(self) -> View:
+        """A row for each corner."""
         first, second = self.names
-        return _frame(
-            {k: {first: corner.first, second: corner.second, "weights": corner.weights} for k, corner in enumerate(self.corners)},
-            ["corner"],
-        )
+        rows = {
+            place: {first: corner.first, second: corner.second, "weights": corner.weights}
+            for place, corner in enumerate(self.corners)
+        }
+        return View(f"{counted(len(rows), 'corner')}, {'complete' if self.complete else 'not complete'}", Grid(["corner"], rows))
 
 
 def _objective(objective: ObjectiveLike) -> Objective:
@@ -92,6 +91,17 @@ def _objective(objective: ObjectiveLike) -> Objective:
 
 def _name(objective: ObjectiveLike, place: str) -> str:
     return objective if isinstance(objective, str) else f"{place} objective"
+
+
+def _value_of(answer: GeneralOptimal | AuctionOptimal, setting: Setting | Auction) -> Fraction:
+    """The value of an answer's mechanism by the objective of a setting, which may have another scale than that of the answer."""
+    if setting.scale == answer.scale:
+        return report(setting, answer).value
+    if isinstance(answer, GeneralOptimal):
+        return report(setting, Mechanism(answer.lotteries, answer.payments)).value
+    told = report(setting, AuctionTable(odds=answer.odds, pays=answer.pays))
+    assert isinstance(told, Report)  # the answer's masses are an auction with these odds
+    return told.value
 
 
 class _Search:
@@ -111,7 +121,7 @@ class _Search:
         verdict = check(setting, answer)
         if not verdict:
             raise NoFrontier(f"for the weights {weights} the certificate is not valid: {verdict}", answer)
-        first, second = (report(self.setting.with_objective(part), answer).value for part in (self.first, self.second))
+        first, second = (_value_of(answer, self.setting.with_objective(part)) for part in (self.first, self.second))
         return Corner(first, second, weights, setting, answer)
 
     def ends(self) -> tuple[Corner, Corner]:

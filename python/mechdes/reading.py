@@ -47,19 +47,21 @@ from .answers import (
     WidePath,
     Worst,
     elements,
+    members,
 )
-from .conditions import take_conditions
+from .conditions import Condition, take_conditions
 from .errors import AnswerNotRead, UnknownAnswer
 from .mechanisms import AuctionMechanism, Counts, Mechanism, SaleMechanism, UnitsMechanism
 from .records import Over, Printed, Records
-from .settings import AnySetting, Auction, Profile, Setting, SettingLike, read_setting
+from .settings import Amount, AnySetting, Auction, Profile, Setting, SettingLike, of_scale, read_setting
 
 
 def _by_profile(
-    records: Records, word: str, setting: Setting, names: Sequence[str], denominator: int
+    records: Records, word: str, setting: Setting, names: Sequence[str], denominator: int, scale: int = 1
 ) -> dict[Profile, dict[str, Fraction]]:
-    """The records of a word that come for each profile, as fractions by profile and name. Lotteries must be some."""
-    found, agents, over = {}, len(setting.agents), Over(records, denominator)
+    """The records of a word that come for each profile, as fractions by profile and name, of amounts at a scale. Lotteries must be
+    some."""
+    found, agents, over = {}, len(setting.agents), Over(records, denominator * scale)
     for profile in setting.profiles():
         fields = records.take(word, agents + len(names))
         records.same(fields[:agents], profile)
@@ -76,12 +78,22 @@ def _try_lottery(records: Records, fields: list[str], denominator: int) -> None:
         raise records.wrong("the numbers of a lottery do not add to the denominator, or one is below 0")
 
 
+def _value(records: Records, setting: AnySetting) -> Fraction:
+    """The record of the value."""
+    return records.fraction(records.take("value", 2), setting.scale)
+
+
 def _mechanism(records: Records, setting: Setting) -> Mechanism:
     """The records from `table` to the last of the pays."""
     denominator = records.denominator("table")
     lotteries = _by_profile(records, "lottery", setting, setting.outcomes, denominator)
-    pays = _by_profile(records, "pay", setting, setting.agent_names, denominator) if setting.payments else {}
+    pays = _pays(records, "pay", setting, denominator) if setting.payments else {}
     return Mechanism(lotteries, pays, denominator, setting.agent_names)
+
+
+def _pays(records: Records, word: str, setting: Setting, denominator: int) -> dict[Profile, dict[str, Fraction]]:
+    """The records of a word that say for each profile what each agent pays."""
+    return _by_profile(records, word, setting, setting.agent_names, denominator, setting.scale)
 
 
 def _faces(records: Records) -> tuple[Multiplier, ...]:
@@ -129,7 +141,7 @@ def _set_of(records: Records, field: str, every: Sequence[Any]) -> frozenset[Any
     bits = records.number(field)
     if not 0 < bits < 1 << len(every):
         raise records.wrong(f"{bits} is no set of {len(every)}")
-    return frozenset(element for place, element in enumerate(every) if bits >> place & 1)
+    return frozenset(members(every, bits))
 
 
 def _cuts(records: Records, setting: AnySetting) -> tuple[frozenset[Any], ...]:
@@ -141,7 +153,7 @@ def _cuts(records: Records, setting: AnySetting) -> tuple[frozenset[Any], ...]:
 def _general(records: Records, setting: Setting, kind: str, word: str, version: str) -> Answer:
     """An answer about a general setting (`general`), or a fairest one (`fair`)."""
     if word == "optimal":
-        value, mechanism = records.fraction(records.take("value", 2)), _mechanism(records, setting)
+        value, mechanism = _value(records, setting), _mechanism(records, setting)
         bound, multipliers = _bound(records)
         records.end()
         made = Fairest if kind == "fair" else GeneralOptimal
@@ -163,7 +175,7 @@ def _general(records: Records, setting: Setting, kind: str, word: str, version: 
 
 def _unbounded(records: Records, setting: Setting, kind: str) -> Unbounded:
     mechanism = _mechanism(records, setting)
-    ray = _by_profile(records, "ray", setting, setting.agent_names, mechanism.denominator)
+    ray = _pays(records, "ray", setting, mechanism.denominator)
     records.end()
     return Unbounded(setting=setting, kind=kind, mechanism=mechanism, ray=ray)
 
@@ -172,9 +184,9 @@ def _required(records: Records, setting: Setting, kind: str, word: str, version:
     """An answer of `require`: one as of `find`, with the conditions of the designer in front, and their shadows behind."""
     conditions = take_conditions(records, setting)
     if word == "optimal":
-        value, mechanism = records.fraction(records.take("value", 2)), _mechanism(records, setting)
+        value, mechanism = _value(records, setting), _mechanism(records, setting)
         bound, multipliers = _bound(records)
-        shadows = _shadows(records, len(conditions))
+        shadows = _shadows(records, [1 if condition.is_amount else setting.scale for condition in conditions])
         records.end()
         return Required(
             setting=setting,
@@ -195,16 +207,16 @@ def _required(records: Records, setting: Setting, kind: str, word: str, version:
     raise UnknownAnswer(f"an answer of an unknown kind: {kind}, {word}")
 
 
-def _shadows(records: Records, count: int) -> tuple[Fraction | None, ...]:
-    """The shadows of so many conditions, as far as they are told."""
+def _shadows(records: Records, scales: Sequence[int]) -> tuple[Fraction | None, ...]:
+    """The shadows of the conditions, as far as they are told: of each condition at its own scale."""
     found: list[Fraction | None] = []
     for field, *shadow in records.all("shadow", 3):
         place = records.number(field)
-        if not len(found) <= place < count:
+        if not len(found) <= place < len(scales):
             raise records.wrong("no such condition, or not the next one")
         found += [None] * (place - len(found))
-        found.append(records.fraction(shadow))
-    found += [None] * (count - len(found))
+        found.append(records.fraction(shadow, scales[place]))
+    found += [None] * (len(scales) - len(found))
     return tuple(found)
 
 
@@ -239,7 +251,7 @@ def _leaf(records: Records, setting: Setting, fixed: Mapping[Profile, str]) -> L
 def _rule(records: Records, setting: Setting, kind: str, word: str, version: str) -> Answer:
     """An answer of `determ`. The mechanism is the one in front of the tree; those of the leaves are bounds."""
     if word == "optimal":
-        value = records.fraction(records.take("value", 2))
+        value = _value(records, setting)
         mechanism, tree = _mechanism(records, setting), _tree(records, setting)
         records.end()
         if any(1 not in row.values() for row in mechanism.lotteries.values()):
@@ -268,14 +280,14 @@ def _fixed(records: Records, setting: Setting) -> dict[Profile, str]:
     return found
 
 
-def _by_value(records: Records, word: str, auction: Auction, denominator: int) -> dict[int, Fraction]:
+def _by_value(records: Records, word: str, auction: Auction, denominator: int) -> dict[Amount, Fraction]:
     over = Over(records, denominator)
     return dict(zip(auction.values, map(over.__getitem__, records.take(word, len(auction.values))), strict=True))
 
 
-def _masses(records: Records, auction: Auction, denominator: int) -> dict[Counts, dict[int, Fraction]]:
+def _masses(records: Records, auction: Auction, denominator: int) -> dict[Counts, dict[Amount, Fraction]]:
     """The mass records: by counts and value, one for each list of counts."""
-    found: dict[Counts, dict[int, Fraction]] = {}
+    found: dict[Counts, dict[Amount, Fraction]] = {}
     width, over = len(auction.values), Over(records, denominator)
     last: Counts = ()
     for fields in records.all("mass", 2 * width):
@@ -302,7 +314,7 @@ def _auction(records: Records, auction: Auction, kind: str, word: str, version: 
         return AuctionTable(setting=auction, kind=kind, odds=odds, pays=pays, denominator=denominator)
     if word != "optimal":
         raise UnknownAnswer(f"an answer of an unknown kind: {kind}, {word}")
-    value = records.fraction(records.take("value", 2))
+    value = _value(records, auction)
     mechanism, cuts = _auction_mechanism(records, auction, kind, units), _cuts(records, auction)
     bound, multipliers = _bound(records)
     records.end()
@@ -310,11 +322,11 @@ def _auction(records: Records, auction: Auction, kind: str, word: str, version: 
     return made(setting=auction, kind=kind, value=value, mechanism=mechanism, cuts=cuts, bound=bound, multipliers=multipliers)
 
 
-def _interim(records: Records, auction: Auction) -> tuple[dict[int, Fraction], dict[int, Fraction], int]:
+def _interim(records: Records, auction: Auction) -> tuple[dict[Amount, Fraction], dict[Amount, Fraction], int]:
     """The records from `interim` to the pays: the odds, the pays, and their denominator."""
     denominator = records.denominator("interim")
-    odds, pays = (_by_value(records, name, auction, denominator) for name in ("odds", "pays"))
-    return odds, pays, denominator
+    odds = _by_value(records, "odds", auction, denominator)
+    return odds, _by_value(records, "pays", auction, denominator * auction.scale), denominator
 
 
 def _auction_mechanism(records: Records, auction: Auction, kind: str, units: int | None) -> AuctionMechanism:
@@ -343,9 +355,10 @@ def _sale(records: Records, setting: Setting, kind: str, word: str, version: str
         return _too_wide(records, setting, kind, version, cuts=cuts)
     if word != "optimal":
         raise UnknownAnswer(f"an answer of an unknown kind: {kind}, {word}")
-    value = records.fraction(records.take("value", 2))
+    value = _value(records, setting)
     denominator = records.denominator("interim")
-    odds, pays = (_by_type(records, name, setting, denominator) for name in ("odds", "pays"))
+    odds = _by_type(records, "odds", setting, denominator)
+    pays = _by_type(records, "pays", setting, denominator * setting.scale)
     masses = _by_profile(records, "mass", setting, setting.agent_names, denominator)
     mechanism, cuts = SaleMechanism(setting.weights(), odds, pays, masses, denominator), _cuts(records, setting)
     bound, multipliers = _bound(records)
@@ -472,13 +485,13 @@ def read_draw(setting: AnySetting, text: str, units: int | None = None) -> Draw 
     records = Records(text)
     if units is not None and isinstance(setting, Auction):
         winners = _winners(records, setting.bidders, units)
-        return UnitsDraw(winners, *_paid(records, range(1, setting.bidders + 1)))
+        return UnitsDraw(winners, *_paid(records, range(1, setting.bidders + 1), setting.scale), setting.scale)
     (outcome,) = records.take("outcome", 1)
     if isinstance(setting, Setting) and not setting.payments:
         records.nothing()
         return Draw(outcome, {})
     names = range(1, setting.bidders + 1) if isinstance(setting, Auction) else setting.agent_names
-    return Draw(outcome, *_paid(records, names))
+    return Draw(outcome, *_paid(records, names, setting.scale), setting.scale)
 
 
 def _winners(records: Records, bidders: int, units: int) -> tuple[int, ...]:
@@ -491,69 +504,69 @@ def _winners(records: Records, bidders: int, units: int) -> tuple[int, ...]:
     return tuple(found)
 
 
-def _paid(records: Records, names: Sequence[Any]) -> tuple[dict[Any, Fraction], int]:
+def _paid(records: Records, names: Sequence[Any], scale: int) -> tuple[dict[Any, Fraction], int]:
     """The last record, of what each of some names pays, and its denominator."""
     denominator, *paid = records.take("pays", 1 + len(names))
-    over = Over(records, records.positive(denominator))
+    over = Over(records, records.positive(denominator) * scale)
     records.nothing()
     return dict(zip(names, map(over.__getitem__, paid), strict=True)), records.number(denominator)
 
 
-def read_threshold(text: str) -> Threshold:
-    """What `threshold` prints."""
+def read_threshold(text: str, scale: int = 1) -> Threshold:
+    """What `threshold` prints of an auction of this scale."""
     records = Records(text)
     (version,) = records.take("threshold", 1)
     if version != "1":
         raise UnknownAnswer(f"an auction of an unknown version: {version}")
     units = records.positive(records.take("units", 1)[0])
-    value, revenue, welfare = (records.fraction(records.take(word, 2)) for word in ("value", "revenue", "welfare"))
+    value, revenue, welfare = (records.fraction(records.take(word, 2), scale) for word in ("value", "revenue", "welfare"))
     (told,) = records.take("reserve", 1)
-    reserve = None if told == "none" else records.number(told)
-    pools = tuple(_pool(records, fields) for fields in records.all("pool", 2))
+    reserve = None if told == "none" else of_scale(records.number(told), scale)
+    pools = tuple(_pool(records, fields, scale) for fields in records.all("pool", 2))
     if reserve != (pools[0][0] if pools else None):
         raise records.wrong("the reserve is not the least value of the lowest pool")
-    prices = tuple(_price(records, fields, len(pools)) for fields in records.all("price", 5))
+    prices = tuple(_price(records, fields, len(pools), scale) for fields in records.all("price", 5))
     records.end()
     return Threshold(
-        units=units, value=value, revenue=revenue, welfare=welfare, reserve=reserve, pools=pools, prices=prices
+        units=units, value=value, revenue=revenue, welfare=welfare, reserve=reserve, pools=pools, prices=prices, scale=scale
     )
 
 
-def _pool(records: Records, fields: list[str]) -> tuple[int, int]:
+def _pool(records: Records, fields: list[str], scale: int) -> tuple[Amount, Amount]:
     least, greatest = records.numbers(fields)
     if least > greatest:
         raise records.wrong("the least value of a pool is above the greatest")
-    return least, greatest
+    return of_scale(least, scale), of_scale(greatest, scale)
 
 
-def _price(records: Records, fields: list[str], pools: int) -> Price:
+def _price(records: Records, fields: list[str], pools: int, scale: int) -> Price:
     """A price, by pools of which there are so many."""
     pool, count = records.number(fields[0]), records.number(fields[2])
     other = None if fields[1] == "none" else records.number(fields[1])
     if not 0 <= (other or 0) <= pool < pools or (count == 0) != (other is None):
         raise records.wrong("no case of a price")
-    return Price(pool, other, count, records.fraction(fields[3:]))
+    return Price(pool, other, count, records.fraction(fields[3:], scale))
 
 
-def read_award(text: str) -> Award:
-    """What `award` prints."""
+def read_award(text: str, scale: int = 1) -> Award:
+    """What `award` prints of an auction of this scale."""
     records = Records(text)
-    chances, prices = (_by_bidder(records, word) for word in ("chance", "price"))
+    chances, prices = _by_bidder(records, "chance"), _by_bidder(records, "price", scale)
     winners = tuple(records.number(bidder) for (bidder,) in records.all("wins", 1))
     records.end()
     may_win = [bidder for bidder, chance in chances.items() if chance]
     if list(chances) != list(range(1, len(chances) + 1)) or list(prices) != may_win or not set(winners) <= set(may_win):
         raise AnswerNotRead("other bidders are wanted")
-    return Award(chances, prices, winners)
+    return Award(chances, prices, winners, scale)
 
 
-def _by_bidder(records: Records, word: str) -> dict[int, Fraction]:
+def _by_bidder(records: Records, word: str, scale: int = 1) -> dict[int, Fraction]:
     """The records of a word that have a bidder and a fraction, in ascending order of bidders."""
     found: dict[int, Fraction] = {}
     for bidder, *amount in records.all(word, 3):
         if records.number(bidder) <= max(found, default=0):
             raise records.wrong("another bidder is wanted")
-        found[records.number(bidder)] = records.fraction(amount)
+        found[records.number(bidder)] = records.fraction(amount, scale)
     return found
 
 
@@ -570,17 +583,18 @@ def read_drill(text: str) -> Drill:
     return Drill(records.number(number), kind, word, found, read_verdict(verdict))
 
 
-def read_report(setting: AnySetting, text: str) -> Report | Violated:
-    """What `report` prints."""
-    records = Records(text)
+def read_report(setting: AnySetting, text: str, conditions: Sequence[Condition] = ()) -> Report | Violated:
+    """What `report` prints. `conditions` are those of the answer, which the text does not name; without them it is refused where it
+    tells of any and the setting has a scale."""
+    records, scale = Records(text), setting.scale
     if isinstance(setting, Auction) and records.word() == "violated":
         return _violated(records, setting)
-    value, revenue, welfare = (records.fraction(records.take(word, 2)) for word in ("value", "revenue", "welfare"))
+    value, revenue, welfare = (records.fraction(records.take(word, 2), scale) for word in ("value", "revenue", "welfare"))
     keys = 1 if isinstance(setting, Auction) else 2
     types: dict[Any, TypeReport] = {}
     for fields in records.all("type", keys + 4):
-        told = TypeReport(records.fraction(fields[keys : keys + 2]), records.fraction(fields[keys + 2 :]))
-        types[records.number(fields[0]) if keys == 1 else (fields[0], fields[1])] = told
+        told = TypeReport(records.fraction(fields[keys : keys + 2], scale), records.fraction(fields[keys + 2 :], scale))
+        types[of_scale(records.number(fields[0]), scale) if keys == 1 else (fields[0], fields[1])] = told
     if tuple(types) != elements(setting):
         raise records.wrong("other types are wanted")
     gains = tuple(_worst(records, setting, fields, True) for fields in records.all("gain"))
@@ -588,9 +602,10 @@ def read_report(setting: AnySetting, text: str) -> Report | Violated:
     deficit = None
     if records.word() == "deficit":
         profile, *least = records.take("deficit", 3)
-        deficit = (tuple(profile.split("+")), records.fraction(least))
+        deficit = (tuple(profile.split("+")), records.fraction(least, scale))
     tight = tuple(name for (name,) in records.all("tight", 1))
-    conditions = tuple(_standing(records, place, fields) for place, fields in enumerate(records.all("condition", 4)))
+    found = enumerate(records.all("condition", 4))
+    standings = tuple(_standing(records, place, fields, conditions, scale) for place, fields in found)
     records.end()
     return Report(
         value=value,
@@ -601,15 +616,20 @@ def read_report(setting: AnySetting, text: str) -> Report | Violated:
         losses=losses,
         deficit=deficit,
         tight=tight,
-        conditions=conditions,
+        conditions=standings,
+        scale=scale,
     )
 
 
-def _standing(records: Records, place: int, fields: list[str]) -> Standing:
+def _standing(records: Records, place: int, fields: list[str], conditions: Sequence[Condition], scale: int) -> Standing:
     """The record of the condition of the designer with a number."""
     if records.number(fields[0]) != place or fields[1] not in ("met", "missed"):
         raise records.wrong("the next condition is wanted, met or missed")
-    return Standing(fields[1] == "met", records.fraction(fields[2:]))
+    if scale != 1:
+        if place >= len(conditions):
+            raise records.wrong("the setting has a scale, and it is not known whether this condition is on an amount")
+        scale = scale if conditions[place].is_amount else 1
+    return Standing(fields[1] == "met", records.fraction(fields[2:], scale), scale)
 
 
 def _worst(records: Records, setting: AnySetting, fields: list[str], is_gain: bool) -> Worst:
@@ -618,9 +638,9 @@ def _worst(records: Records, setting: AnySetting, fields: list[str], is_gain: bo
     if len(fields) != isinstance(setting, Setting) + 1 + is_gain + each + 2:
         raise records.wrong("another number of fields is wanted")
     *names, numerator, denominator = fields
-    amount = records.fraction([numerator, denominator])
+    amount = records.fraction([numerator, denominator], setting.scale)
     if isinstance(setting, Auction):
-        value, *told = records.numbers(names)
+        value, *told = (of_scale(number, setting.scale) for number in records.numbers(names))
         return Worst(None, value, amount, told[0] if told else None)
     return Worst(names[0], names[1], amount, names[2] if is_gain else None, tuple(names[-1].split("+")) if each else None)
 
@@ -637,16 +657,15 @@ _ALONE: dict[str, Callable[[str], Printed]] = {
     "audit": read_audit,
     "rows": read_program,
     "replay": read_replay,
-    "threshold": read_threshold,
-    "award": read_award,
     "drill": read_drill,
 }
+_OF_SCALES: dict[str, Callable[[str, int], Printed]] = {"threshold": read_threshold, "award": read_award}
 
 
 def parse(command: str, text: str, setting: SettingLike | None = None, units: int | None = None) -> Printed:
     """What a command printed, as a value, of which `text()` is the text again.
 
-    setting  what the command was asked about, where its text has names or numbers of that
+    setting  what the command was asked about, where its text has names or numbers of that, or it has a scale
     units    the number that `units` or `ironunits` was asked for, or `run` of an answer about several units
 
     Raises `UnknownAnswer` for what this package does not know, `AnswerNotRead` where the text is none of the command, and
@@ -654,8 +673,10 @@ def parse(command: str, text: str, setting: SettingLike | None = None, units: in
     """
     if command in _ALONE:
         return _ALONE[command](text)
-    if command not in (*_ANSWERS, "run", *_OF_SETTINGS):
+    if command not in (*_ANSWERS, "run", *_OF_SETTINGS, *_OF_SCALES):
         raise ValueError(f"no command prints answers by the name {command!r}")
+    if command in _OF_SCALES:
+        return _OF_SCALES[command](text, 1 if setting is None else read_setting(setting).scale)
     named = None if setting is None else read_setting(setting)
     if named is None or command == "realise" and not isinstance(named, Auction):
         raise ValueError(f"{command} is about a setting, which is missing or of another kind")

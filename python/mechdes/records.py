@@ -12,12 +12,13 @@ from fractions import Fraction
 from typing import TypeAlias
 
 from .errors import AnswerNotRead
+from .showing import Shown
 
 Record: TypeAlias = tuple[object, ...]  # a word with its further fields
 _NUMBER = re.compile(r"0|-?[1-9][0-9]*").fullmatch
 
 
-class Printed:
+class Printed(Shown):
     """What a command prints, as a value: `text` has just that, made anew from the value's parts.
 
     Where a text by another hand has a value that is not in least terms, quotes or empty lines, these are not kept: what is written
@@ -47,13 +48,14 @@ def units(number: Fraction | int, denominator: int) -> int:
     return number.numerator * factor
 
 
-def terms(number: Fraction | int) -> tuple[int, int]:
-    """The two fields of a fraction in least terms."""
-    return number.numerator, number.denominator
+def terms(number: Fraction | int, scale: int = 1) -> tuple[int, int]:
+    """The two fields of a fraction in least terms, where it is an amount at a scale."""
+    scaled = number * scale
+    return scaled.numerator, scaled.denominator
 
 
 class Over(dict[str, Fraction]):
-    """Number fields as fractions over one denominator. Each text is read once."""
+    """Number fields as fractions over one denominator (of amounts times their scale). Each text is read once."""
 
     def __init__(self, records: Records, denominator: int) -> None:
         super().__init__()
@@ -112,10 +114,10 @@ class Records:
         """Whole numbers."""
         return tuple(map(self.number, fields))
 
-    def fraction(self, fields: list[str]) -> Fraction:
-        """A fraction of two fields."""
+    def fraction(self, fields: list[str], scale: int = 1) -> Fraction:
+        """A fraction of two fields, which is divided by the scale where it is an amount."""
         numerator, denominator = fields
-        return Fraction(self.number(numerator), self.positive(denominator))
+        return Fraction(self.number(numerator), self.positive(denominator) * scale)
 
     def sparse(self, fields: Iterable[str]) -> dict[int, int]:
         """Pairs of a column and its number, which is not 0, in ascending order of columns."""

@@ -186,14 +186,14 @@ class SecondOpinion:
     }
 
     def call(self, words: Sequence[str], setting: bytes = b"", second: bytes = b"") -> Reply:
-        """Carries out a command. Raises `NotImplementedError` for one that second-opinion/ does not have, or another width."""
+        """Carries out a command. Raises `NotImplementedError` for one that second-opinion/ does not have, another width, or a basis."""
         name, *rest = words
         if "--width" in rest:
             at = rest.index("--width")
             if rest[at + 1] != "62":
                 raise NotImplementedError(f"a width of {rest[at + 1]}")
             del rest[at : at + 2]
-        if name not in self._commands:
+        if name not in self._commands or "--from" in rest:
             raise NotImplementedError(name)
         with tempfile.TemporaryDirectory() as folder:
             paths = {"setting": pathlib.Path(folder) / "setting", "answer": pathlib.Path(folder) / "answer"}

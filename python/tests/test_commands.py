@@ -8,7 +8,6 @@ import importlib.util
 import pickle
 import random
 import sys
-import types
 import unittest
 import unittest.mock
 from collections.abc import Callable, Sequence
@@ -17,7 +16,7 @@ from typing import Any
 
 import mechdes
 
-from .common import calling, example, needs_library, stored, text
+from .common import Recorder, calling, example, needs_library, stored, text
 
 
 class Solving(unittest.TestCase):
@@ -48,6 +47,18 @@ class Solving(unittest.TestCase):
             self.assertIs(type(command(example("unbounded-revenue"))), mechdes.Unbounded)
 
     @needs_library
+    def test_a_basis_decides_which_answer_comes(self) -> None:
+        setting = example("posted-price")
+        rest = "column,3\ncolumn,4\ncolumn,5\nslack,0\n"
+        for basis, multipliers in (("column,0\ncolumn,1\n", {1: 1, 2: 3, 3: 1, 5: 6}), ("column,0\nslack,3\n", {1: 1, 2: 2, 5: 3})):
+            found = mechdes.find(setting, f"{basis}{rest}end\n")
+            self.assertEqual((type(found), found.value), (mechdes.GeneralOptimal, Fraction(3, 2)))
+            self.assertIn("".join(f"row,{row},0,{number}\n" for row, number in multipliers.items()), found.text())
+        with self.assertRaises(mechdes.AnswerRefused) as refused:
+            mechdes.find(setting, f"{rest}end\n")
+        self.assertEqual(refused.exception.line, "answer refused: line 5: record")
+
+    @needs_library
     def test_the_other_searches(self) -> None:
         self.assertEqual(mechdes.fair(example("fair-split")).value, Fraction(4, 5))
         self.assertEqual(mechdes.asym(example("strong-and-weak")).value, Fraction(17, 4))
@@ -65,6 +76,23 @@ class Solving(unittest.TestCase):
         drilled = mechdes.drill(1)
         self.assertEqual((drilled.kind, drilled.word, drilled.value), ("auction", "optimal", Fraction(727535, 38416)))
         self.assertTrue(drilled.verdict)
+
+    def test_the_best_answer_comes_or_what_it_is_instead_is_raised(self) -> None:
+        answer = mechdes.solve(example("posted-price"))
+        self.assertIs(answer.best(), answer)
+        # The value of posted-price.md as a fraction and as a float: half of the buyers pay 3.
+        self.assertEqual((answer.best().value, float(answer.best().value)), (Fraction(3, 2), 1.5))
+        undecided = mechdes.read(example("auction-beyond"), "undecided\n")
+        for name, given, word in (
+            ("two-claims", mechdes.solve(example("two-claims")), "infeasible"),
+            ("unbounded-revenue", mechdes.solve(example("unbounded-revenue")), "unbounded"),
+            ("auction-beyond", undecided, "undecided"),
+            ("posted-price", mechdes.read(example("posted-price"), stored("posted-price")), "table"),
+        ):
+            with self.subTest(name), self.assertRaisesRegex(mechdes.NotOptimal, f", {word}\\): ") as caught:
+                given.best()
+            self.assertIs(caught.exception.answer, given)
+            self.assertEqual(pickle.loads(pickle.dumps(caught.exception)).answer, given)
 
     def test_the_words_of_earlier_versions_are_there(self) -> None:
         setting = text("two-goods.toml")
@@ -103,9 +131,16 @@ class Checking(unittest.TestCase):
 
     def test_an_answer_about_several_units_is_checked(self) -> None:
         setting, answer = example("seats"), text("seats-three.csv")
-        self.assertTrue(mechdes.unitcheck(setting, 3, answer))
-        rejected = mechdes.unitcheck(setting, 3, answer.replace("value,484,81", "value,6,1"))
+        self.assertTrue(mechdes.unitcheck(setting, answer, units=3))
+        rejected = mechdes.unitcheck(setting, answer.replace("value,484,81", "value,6,1"), units=3)
         self.assertEqual((bool(rejected), rejected.condition, rejected.numbers), (False, 2, (484, 81)))
+
+        with self.assertRaisesRegex(ValueError, "units="):
+            mechdes.unitcheck(setting, answer)
+        read = mechdes.read(setting, answer, units=3)
+        self.assertTrue(mechdes.unitcheck(setting, read))
+        with self.assertRaisesRegex(ValueError, "about 3 units, not 2"):
+            mechdes.unitcheck(setting, read, units=2)
 
     @needs_library
     def test_the_tree_of_determ_is_checked(self) -> None:
@@ -374,24 +409,6 @@ class Telling(unittest.TestCase):
         self.assertTrue(mapped)
 
 
-class Recorder(types.ModuleType):
-    """What stands in for pandas: it keeps what a table is made of."""
-
-    class MultiIndex:
-        @staticmethod
-        def from_tuples(keys: list[tuple[Any, ...]], names: Sequence[str]) -> Any:
-            return keys, list(names)
-
-    @staticmethod
-    def Index(keys: list[Any], name: str) -> Any:
-        return keys, [name]
-
-    @staticmethod
-    def DataFrame(rows: list[Any], index: Any, dtype: type) -> Any:
-        assert dtype is object
-        return rows, *index
-
-
 class TableParts(unittest.TestCase):
     def table(self, value: Any) -> tuple[list[dict[str, Any]], list[Any], list[str]]:
         with unittest.mock.patch.dict(sys.modules, pandas=Recorder("pandas")):
@@ -447,9 +464,9 @@ class Refused(unittest.TestCase):
     def refuses(self, kind: type[mechdes.Refused], status: int, line: str, call: Callable[[], object]) -> None:
         with self.assertRaises(kind) as caught:
             call()
-        self.assertEqual((caught.exception.status, caught.exception.line), (status, line))
+        self.assertEqual((caught.exception.status, caught.exception.message), (status, line))
         again = pickle.loads(pickle.dumps(caught.exception))
-        self.assertEqual((type(again), again.status, again.line), (kind, status, line))
+        self.assertEqual((type(again), again.status, again.message), (kind, status, line))
 
     def test_each_status_is_an_exception_of_its_own(self) -> None:
         setting, answer = example("posted-price"), stored("posted-price-answer")
@@ -505,7 +522,8 @@ class Refused(unittest.TestCase):
         self.refuses(mechdes.SettingRefused, 65, "setting refused: not a sale", lambda: mechdes.asym(setting))
         self.refuses(mechdes.WordRefused, 67, "number refused", lambda: mechdes.make(-1))
         self.refuses(mechdes.WordRefused, 67, "number refused", lambda: mechdes.units(example("seats"), 13))
-        self.refuses(mechdes.WordRefused, 67, "number refused", lambda: mechdes.unitcheck(example("seats"), 0, text("seats-three.csv")))
+        seats, three = example("seats"), stored("seats-three")
+        self.refuses(mechdes.WordRefused, 67, "number refused", lambda: mechdes.unitcheck(seats, three, 0))
         self.refuses(mechdes.WordRefused, 67, "pivot 1 refused", lambda: mechdes.replay(setting, [(0, 99)]))
         self.refuses(mechdes.UsageRefused, 64, "usage", lambda: mechdes.solve(setting, width=63))
 
@@ -605,7 +623,7 @@ class Wiring(unittest.TestCase):
                 20,
                 "rejected,9,1,3,4\n",
                 mechdes.unitcheck,
-                [auction, 2, "answer,1,units,toowide\n"],
+                [auction, "answer,1,units,toowide\n", 2],
                 mechdes.Verdict,
                 (["unitcheck", "--", "setting", "2", "answer"], auction, b"answer,1,units,toowide\n"),
             ),

@@ -1,31 +1,24 @@
 """How the library is called: by one of its form that tells what it is given. And what is said where there is none."""
 
 import concurrent.futures
-import os
-import pathlib
 import pickle
-import shutil
 import subprocess
 import tempfile
 import unittest
 
 import mechdes
 
-from .common import EXAMPLES, PYTHON, without_library
+from .common import EXAMPLES, PYTHON, echo_library, without_library
 
 IMPORTS = "import mechdes; mechdes.Auction(bidders=1, values=[1], weights=[1]).to_toml(); "
-COMPILER = os.environ.get("CC", "cc")
 
 
-@unittest.skipIf(shutil.which(COMPILER) is None, "no C compiler is there")
 class Calls(unittest.TestCase):
     @classmethod
     def setUpClass(cls) -> None:
         folder = tempfile.TemporaryDirectory()
         cls.addClassCleanup(folder.cleanup)
-        cls.path = pathlib.Path(folder.name) / "libecho.so"
-        source = pathlib.Path(__file__).with_name("echo.c")
-        subprocess.run([COMPILER, "-shared", "-fPIC", "-o", str(cls.path), str(source)], check=True)
+        cls.path = echo_library(folder.name)
 
     def test_words_and_files_come_as_they_are(self) -> None:
         told = mechdes.Library(self.path).call(["check", "setting", "ü"], b"a\0b", b"\xff")

@@ -15,6 +15,7 @@ from .stand_in import Refused as RefusedBySecondOpinion
 from .stand_in import setting as second_opinion
 
 WRONG = ["0", "1", "2", "3", "-1", "1.0", "true", "false", '"bayes"', '""', "[]", "[1]", "[[1]]", '["a", "b"]', "{ }", "1000001"]
+WRONG += ['"1"', '["1", "2"]', '[["1"]]', "[0.5, 0.5]"]
 
 POSTED = mechdes.Setting(
     truth="dominant",
@@ -90,12 +91,33 @@ class Settings(unittest.TestCase):
             path.write_text(POSTED.to_toml())
             self.assertEqual(mechdes.solve(path).value, Fraction(3, 2))
 
-    def test_numbers_that_are_not_whole_are_refused(self) -> None:
-        for wrong in (1.0, Fraction(1, 2), "1", True):
-            with self.subTest(wrong), self.assertRaises(TypeError):
+    def test_numbers_that_are_not_exact_are_refused(self) -> None:
+        for wrong, kind in ((1.0, TypeError), (True, TypeError), (None, TypeError), ("one", ValueError), ("1/3", ValueError)):
+            with self.subTest(wrong), self.assertRaises(kind):
                 mechdes.Auction(bidders=2, values=[1, 2], weights=[1, wrong])
-            with self.subTest(wrong), self.assertRaises(TypeError):
+            with self.subTest(wrong), self.assertRaises(kind):
                 mechdes.Agent("a", ["t"], [[wrong]], weights=[1])
+        told = r"agent.utility: 0.1 is a float, which is rounded: write '0.1' or Fraction\('0.1'\) for that number"
+        with self.assertRaisesRegex(TypeError, told):
+            mechdes.Agent("a", ["t"], [[0.1]], weights=[1])
+        for wrong in (Fraction(1, 2), "1", 2.0):
+            with self.subTest(wrong), self.assertRaisesRegex(TypeError, "bidders: a whole number is wanted"):
+                mechdes.Auction(bidders=wrong, values=[1], weights=[1])
+
+    def test_an_auction_has_one_weight_for_each_value(self) -> None:
+        for values, weights, told in (
+            ([5, 10], [40], "values has the length 2, and weights has the length 1"),
+            ([], [1], "values has the length 0, and weights has the length 1"),
+        ):
+            with self.subTest(values), self.assertRaisesRegex(ValueError, told):
+                mechdes.Auction(bidders=2, values=values, weights=weights)
+        file = text("auction-ironed.toml").replace("weights = [2, 1, 1]", "weights = [2, 1]")
+        self.assertNotEqual(file, text("auction-ironed.toml"))
+        with self.assertRaises(mechdes.SettingNotRead):
+            mechdes.read_setting(file)
+        with self.assertRaises(mechdes.SettingRefused) as refused:
+            mechdes.solve(file)
+        self.assertEqual(refused.exception.reason, "shape")
 
     def test_parts_of_another_kind_are_refused(self) -> None:
         good = {"truth": "bayes", "rational": "none", "payments": False, "outcomes": ["x"], "agents": []}

@@ -113,13 +113,13 @@ class Sweeps(unittest.TestCase):
         found.close()
 
     def test_a_command_of_a_number(self) -> None:
-        found = mechdes.sweep([EXAMPLES / "seats.toml", EXAMPLES / "posted-price.toml"], "threshold", number=3)
+        found = mechdes.sweep([EXAMPLES / "seats.toml", EXAMPLES / "posted-price.toml"], "threshold", units=3)
         (_, seats), (_, refused) = found
         self.assertEqual((seats.value, type(refused)), (Fraction(484, 81), mechdes.SettingRefused))
 
     @needs_library
     def test_other_commands_with_their_options(self) -> None:
-        ((_, seats),) = mechdes.sweep([EXAMPLES / "seats.toml"], "units", number=3)
+        ((_, seats),) = mechdes.sweep([EXAMPLES / "seats.toml"], "units", units=3)
         self.assertEqual(seats.value, Fraction(484, 81))
         ((_, found),) = mechdes.sweep([EXAMPLES / "divorce.toml"], width=4)
         self.assertIs(type(found), mechdes.TooWide)

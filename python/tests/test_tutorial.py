@@ -31,6 +31,20 @@ class Tutorial(unittest.TestCase):
         # The page posted-price.md.
         self.assertIn("The best price is 3 and brings 3/2\n", printed(tutorial.price))
 
+    def test_cents(self) -> None:
+        # 0.6 times 34.90, which is more than 19.90.
+        told = printed(tutorial.cents).splitlines()
+        self.assertEqual(told[0], "The best price brings 20.94, which is exactly 1047/50")
+        self.assertEqual(told[1], "AuctionOptimal (auction): value 1047/50 (20.94); 1 bidder, 2 values, scale 10")
+        self.assertIn("values: 19.9 is a float, which is rounded: write '19.9' or Fraction('19.9')", told[-1])
+
+    def test_two_goods(self) -> None:
+        # Hart and Nisan: one good for 2, and both for 3.
+        told = printed(tutorial.two_goods)
+        self.assertIn("The best way to sell both goods brings 13/9\na buyer with 2 and 0 pays 2 and one with 2 and 1 3\n", told)
+        # Three buyers with nine types each: (3 + 1) ^ 2 outcomes are within the limits, and 9 ^ 3 profiles.
+        self.assertIn("rows of the linear program, and a setting has at most 4096\n", told)
+
     def test_auction(self) -> None:
         # The page auction-ironed.md.
         told = printed(tutorial.auction)
@@ -66,9 +80,9 @@ class Tutorial(unittest.TestCase):
         )
 
     def test_refusals(self) -> None:
-        self.assertEqual(
-            printed(tutorial.refusals), "Values must ascend. The program says: setting refused: values order (status 65)\n"
-        )
+        sentence = "the setting, line 5: the value 2 stands behind 3: values ascend"
+        told = f"The program says: setting refused: values order (status 65): {sentence}\n"
+        self.assertEqual(printed(tutorial.refusals), told)
 
 
 class Scripts(unittest.TestCase):
@@ -87,6 +101,8 @@ class Scripts(unittest.TestCase):
             "{2: Fraction(3, 8), 3: Fraction(3, 8), 6: Fraction(7, 8)}\n",
             "\nanswer,1,general,optimal\n",
             "63/16\n",
+            "6 (Fraction(1, 2), Fraction(4, 3)) (1, 3)\n1 1.0\n4/3\nvalue,6,1\n",
+            "\n5/2\n9/4\n1/6\n",
             "0 71/25\n",
             "True\n",
         ):

@@ -84,18 +84,23 @@ def expect_condition(records: Records, others: dict[str, int]) -> str:
 
 
 def with_bound(records: Records, setting: GeneralSetting, named: DesignerCondition) -> DesignerCondition:
-    """The condition of a record, whose last three fields are its side and its bound. The denominator is refused where a number
-    of the rows is too great."""
+    """The condition of a record, whose last three fields are its side and its bound. The numerator is refused where the right
+    side of a row is too great, and else the denominator where a number of the left side is."""
     last = len(records.fields)
     side = records.word(last - 2, "least", "most")
     num, den = records.integer(last - 1, -GREATEST, GREATEST), records.integer(last, 1, GREATEST)
     condition = replace(named, side=side, num=num, den=den)
-    numbers = payment_numbers(setting, condition)
-    for terms, right in undivided_rows(setting, condition):
-        numbers += [right, *terms.values()]
-    if any(abs(number) > GREATEST_IN_ROW for number in numbers):
-        records.refuse(f"field {last}")
+    rows = list(undivided_rows(setting, condition))
+    refuse_wide(records, last - 1, (right for _, right in rows))
+    refuse_wide(records, last, payment_numbers(setting, condition))
+    refuse_wide(records, last, (number for terms, _ in rows for number in terms.values()))
     return condition
+
+
+def refuse_wide(records: Records, place: int, numbers: Iterable[int]) -> None:
+    """Refuses the field at a place where one of the numbers that it makes is too great."""
+    if any(abs(number) > GREATEST_IN_ROW for number in numbers):
+        records.refuse(f"field {place}")
 
 
 def payment_numbers(setting: GeneralSetting, condition: DesignerCondition) -> list[int]:

@@ -41,7 +41,7 @@ def main(words: list[str]) -> NoReturn:
     numbers, statuses, differing = random.Random(5), collections.Counter[int](), 0
     for toml in sorted(TOP.glob("examples/*.toml")):
         its = setting.read_setting(toml.read_bytes())
-        calls = [(csv, word, ()) for csv in [*stored(toml), *made(numbers, its)] for word in COMMANDS]
+        calls: list[tuple[bytes, str, tuple[str, ...]]] = [(csv, word, ()) for csv in [*stored(toml), *made(numbers, its)] for word in COMMANDS]
         calls += [(csv, "report", units_words(numbers)) for csv in [*stored(toml), *made_units(numbers, its)]]
         for csv, word, options in calls:
             status, is_same = compared(path, word, toml, csv, options)

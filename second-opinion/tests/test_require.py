@@ -332,22 +332,22 @@ end
         self.assertIsNone(self.refused(PAIR, "require,1", "", "end"))
 
     def test_numbers_of_rows(self):
-        # Of an average 6 times NUM stands in the row, and of a payment NUM itself.
+        # Of an average 6 times NUM stands in the row, and of a payment NUM itself. The right side is the fault of NUM.
         most = 2**44
         for line, place in (
             (f"pay,one,least,{most},{most}", None),
             (f"pay,one,least,{-most},{most}", None),
             (f"pay,one,least,1,{most + 1}", "field 5"),
-            (f"pay,one,least,{most + 1},1", "field 5"),
-            (f"at,l+l,a,most,{-most - 1},1", "field 6"),
+            (f"pay,one,least,{most + 1},1", "field 4"),
+            (f"at,l+l,a,most,{-most - 1},1", "field 5"),
             (f"revenue,most,{most // 6},1", None),
-            (f"revenue,most,{most // 6 + 1},1", "field 4"),
+            (f"revenue,most,{most // 6 + 1},1", "field 3"),
             (f"chance,a,most,0,{most // 2}", None),
             (f"chance,a,most,0,{most // 2 + 1}", "field 5"),
             # At h and r all get 2 + 1 of b, with the weight 2.
             (f"welfare,most,0,{most // 6}", None),
             (f"welfare,most,0,{most // 6 + 1}", "field 4"),
-            (f"revenue,least,{GREAT},{GREAT}", "field 4"),
+            (f"revenue,least,{GREAT},{GREAT}", "field 3"),
         ):
             wanted = place and f"line 2: {place}"
             self.assertEqual(self.refused(PAIR, "require,1", line, "end"), wanted, line)

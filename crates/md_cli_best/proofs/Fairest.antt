@@ -1,9 +1,11 @@
 -- What the answer of the fair program shows, by its kind.
 use Rattle.std.proofs.Common.{◌≡◌, ◌≢◌, ◌↔◌, ℕ, List, Ok, inl, inr, arith}
+use Rattle.md_math.specs.Sizes.{IsWithin}
 use Rattle.md_setting.specs.Setting.{GeneralSetting}
 use Rattle.md_lp.specs.Program.{Program}
 use Rattle.md_lp.specs.declared.pivot.Pivot.{Pivot}
 use Rattle.md_lp.specs.declared.wide.Wide.{Wide}
+use Rattle.md_mech.specs.Accepted.{number_limit}
 use Rattle.md_mech.specs.Admissible.{IsAdmissible}
 use Rattle.md_mech.specs.Optimal.{IsInfeasible}
 use Rattle.md_simplex.specs.declared.order.Order.{Order}
@@ -13,10 +15,11 @@ use Rattle.md_simplex.specs.declared.step.Step.{Step}
 use Rattle.md_simplex.specs.declared.step.Step.TheVariants as steps
 use Rattle.md_simplex.specs.Runs.{IsLeft, IsTaken, MeetsWideBasis}
 use Rattle.md_question.specs.Findings.{ClaimsInfeasible, ClaimsUnbounded, WhereInfeasible, WhereOptimal, WhereUnbounded}
+use Rattle.md_question.specs.Question.{Question}
 use Rattle.md_question.specs.Shown.{IsShown, IsSo}
 use Rattle.md_question.specs.declared.finding.Finding.{Finding}
 use Rattle.md_question.specs.declared.finding.Finding.TheVariants.{Optimal, Infeasible, Unbounded}
-use Rattle.md_question_check.specs.Verdicts.{IsVerdictOn}
+use Rattle.md_question_check.specs.Verdicts.{HasNarrowLevel, IsVerdictOn}
 use Rattle.md_question_check.specs.declared.verdict.Verdict.TheVariants.{Valid}
 use Rattle.md_question_solve.specs.Found.{ClaimsEnd, IsFound, IsWideFor}
 use Rattle.md_fair.specs.Bounds.{HasNoLeastBound}
@@ -26,8 +29,8 @@ use Rattle.md_fair.specs.FairQuestion.{fair_question}
 use Rattle.md_fair.specs.FairRows.{text_of_fair}
 use Rattle.md_fair.specs.FairText.{fair_answer_of}
 use Rattle.md_fair.specs.declared.answer.FairAnswer.TheVariants.{Found, TooWide}
-use Rattle.md_fair.specs.Least.{IsLeastValueOf}
-use Rattle.md_cli_best.specs.Fair.{HasNarrowLevelIn, IsFairSaying, status_of_finding}
+use Rattle.md_fair.specs.Least.{IsLeastValueOf, least_of}
+use Rattle.md_cli_best.specs.Fair.{IsFairSaying, status_of_finding}
 use Rattle.md_cli_best.specs.Headline.{IsEndStatus}
 use Rattle.md_cli_driver.specs.Saying.{Saying}
 
@@ -40,6 +43,7 @@ pub record IsShownFair (s : GeneralSetting) (width : ℕ) (answer : Finding) : T
   pub infeasible : WhereInfeasible (λ face. IsInfeasible s) answer
   pub unbounded : WhereUnbounded (GrowsFair s) answer
   pub admissible : WhereUnbounded (λ mechanism ray. IsAdmissible s mechanism) answer
+  pub narrow : WhereOptimal (λ value mechanism bound. IsWithin number_limit (least_of s mechanism)) answer
   pub certified : (p : Program) → IsFairProgram s p → IsShown (fair_question s) p answer
   pub wide : (p : Program) → IsFairProgram s p → MeetsWideBasis Forward p width → MeetsWideBasis Backward p width → ⊥
   pub taken : (p : Program) (order : Order) (pivots : List Pivot) (step : Step) → IsFairProgram s p → IsTaken order p width pivots step → ClaimsEnd step answer
@@ -51,6 +55,19 @@ so : (s : GeneralSetting) (width : ℕ) (answer : Finding) → IsShownFair s wid
 so s width (Optimal value m bound) h = (h.optimal, h.value)
 so s width (Infeasible face) h = h.infeasible
 so s width (Unbounded m ray) h = h.unbounded
+
+-- the level of the mechanism that was found, if there is one, has at most 62 bits
+abbrev pub HasNarrowLevelIn : Question → Finding → Type 0
+HasNarrowLevelIn q (Optimal value mechanism bound) = HasNarrowLevel q mechanism
+HasNarrowLevelIn q (Infeasible face) = Unit {0}
+HasNarrowLevelIn q (Unbounded mechanism ray) = HasNarrowLevel q mechanism
+
+-- so it has where that of a best one has, and that of one without a bound
+pub narrow-in : (q : Question) (finding : Finding) → WhereOptimal (λ value mechanism bound. HasNarrowLevel q mechanism) finding → WhereUnbounded (λ mechanism ray. HasNarrowLevel q mechanism) finding
+    → HasNarrowLevelIn q finding
+narrow-in q (Optimal value mechanism bound) best unbounded = best
+narrow-in q (Infeasible face) best unbounded = tt
+narrow-in q (Unbounded mechanism ray) best unbounded = unbounded
 
 -- where the level is narrow, the checker finds it valid
 pub fair-valid : (s : GeneralSetting) (p : Program) (finding : Finding) → IsFairProgram s p → ((r : Program) → IsFairProgram s r → IsShown (fair_question s) r finding) → IsSo (fair_question s) finding
@@ -102,7 +119,7 @@ of_answer s width saying answer h is text reads =
         shows = so s width answer h;
         admissible = h.admissible;
         certified = h.certified;
-        valid = λ narrow. fair-valid s h.solved.program answer h.solved.is_program h.certified (so s width answer h) h.admissible narrow;
+        valid = λ unbounded. fair-valid s h.solved.program answer h.solved.is_program h.certified (so s width answer h) h.admissible (narrow-in (fair_question s) answer h.narrow unbounded);
         status = is;
         text = text;
         read_back = reads;

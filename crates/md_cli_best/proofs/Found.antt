@@ -20,17 +20,17 @@ use Rattle.md_answer.specs.Rows.{text_of_answer}
 use Rattle.md_answer.specs.declared.answer.Answer.{Answer}
 use Rattle.md_answer.specs.declared.answer.Answer.TheVariants as answers
 use Rattle.md_check.specs.Verdicts.{IsVerdict}
-use Rattle.md_question_check.specs.Verdicts.{IsVerdictOn}
+use Rattle.md_question_check.specs.Verdicts.{HasNarrowLevel, IsVerdictOn}
 use Rattle.md_question_check.specs.declared.verdict.Verdict.TheVariants.{Valid}
 use Rattle.md_solve.specs.Answered.{ClaimsUnbounded, IsTooWide}
 use Rattle.md_solve.specs.Bounds.{HasNoBound}
 use Rattle.md_solve.specs.Solved as solved
 use Rattle.md_check.proofs.OptimalValues.{value-of_each}
 use Rattle.md_cli_driver.specs.Saying.{Saying, undecided_text}
-use Rattle.md_cli_best.specs.Fair.{HasNarrowLevelIn, status_of_finding}
+use Rattle.md_cli_best.specs.Fair.{status_of_finding}
 use Rattle.md_cli_best.specs.Finding.{IsFindHeadline, IsFinding, IsFindingBy, IsFindStatus}
 use Rattle.md_cli_best.specs.Headline.{PrintsInfeasible, PrintsOptimal, PrintsUnbounded}
-use Rattle.md_cli_best.proofs.Fairest.{no_bound-status, none-status}
+use Rattle.md_cli_best.proofs.Fairest.{HasNarrowLevelIn, no_bound-status, none-status}
 
 -- ---- by any question
 
@@ -42,7 +42,7 @@ found-status status (Unbounded m ray) is other = absurd (omega (arith, is, other
 
 module _ (q : Question) (NoBound : Type 0) (text_of : Finding → List ℕ) (Reads : List ℕ → Finding → Type 0) (saying : Saying) where
   pub said-found : (finding : Finding) → IsCertifiedFinding q finding → findings.ClaimsUnbounded finding ↔ NoBound → saying.status ≡ status_of_finding finding → saying.text ≡ text_of finding
-      → Reads saying.text finding → (HasNarrowLevelIn q finding → IsVerdictOn q finding Valid) → IsFindingBy q NoBound text_of Reads saying
+      → Reads saying.text finding → (findings.WhereUnbounded (λ m ray. HasNarrowLevel q m) finding → IsVerdictOn q finding Valid) → IsFindingBy q NoBound text_of Reads saying
   said-found finding h unbounded is text reads valid = record {
     told = inl (record { finding = finding; certified = h; valid = valid; status = is; text = text; read_back = reads });
     answered = λ other found. found-status saying.status finding is;

@@ -1,5 +1,6 @@
 -- What is said of what was found under conditions of the designer, with the shadows of these, and where nothing was.
-use Rattle.std.proofs.Common.{◌≡◌, ◌≤ℤ◌, pos, List, [], Option, Ok, refl, inl, inr}
+use Rattle.std.proofs.Common.{◌≡◌, ◌≤ℤ◌, pos, List, [], Option, Ok, refl, inl, inr, arith}
+use Rattle.std.proofs.lemmas.Int.{ints}
 use Rattle.std.proofs.lemmas.List.Elements.{All-nil}
 use Rattle.md_math.proofs.SizeLaws.{IsWithin-zero}
 use Rattle.md_num.specs.declared.frac.Frac.{Frac}
@@ -22,10 +23,10 @@ use Rattle.md_require_text.specs.RequiredRows.{text_of_required}
 use Rattle.md_require_text.specs.RequiredText.{required_answer_of}
 use Rattle.md_require_text.specs.Told.{AreShadowsFor, IsFractionIfTold}
 use Rattle.md_cli_driver.specs.Saying.{Saying, undecided_text}
-use Rattle.md_cli_best.specs.Fair.{HasNarrowLevelIn, status_of_finding}
+use Rattle.md_cli_best.specs.Fair.{status_of_finding}
 use Rattle.md_cli_best.specs.Requiring.{IsRequiring, with_conditions}
 use Rattle.md_cli_best.specs.RequiredBounds.{HasNoRequiredBound}
-use Rattle.md_cli_best.proofs.Fairest.{no_bound-status, none-status}
+use Rattle.md_cli_best.proofs.Fairest.{HasNarrowLevelIn, no_bound-status, none-status}
 use Rattle.md_cli_best.proofs.Found.{certified-valid, found-status}
 use Rattle.md_cli_best.proofs.RequiredBounds.{exactly_unbounded}
 
@@ -61,7 +62,7 @@ module _ (s : GeneralSetting) (conditions : List Condition) where
           shadows = shadows;
           certified = h;
           valid = verdict;
-          holds = answer-claim s conditions finding shadows fit verdict (claim finding h);
+          holds = answer-claim s conditions finding shadows (omega (arith, ints, total)) fit verdict (claim finding h);
           status = is;
           text = text;
           read_back = reads;

@@ -13,7 +13,6 @@ use Rattle.md_simplex.specs.declared.order.Order.TheVariants.{Forward, Backward}
 use Rattle.md_simplex.specs.declared.step.Step.{Step}
 use Rattle.md_simplex.specs.Runs.{IsFirstWideOf, IsTaken, MeetsWideBasis}
 use Rattle.md_question.specs.Findings.{WhereUnbounded}
-use Rattle.md_question.specs.Question.{Question}
 use Rattle.md_question.specs.Shown.{IsShown, IsSo}
 use Rattle.md_question.specs.declared.finding.Finding.{Finding}
 use Rattle.md_question.specs.declared.finding.Finding.TheVariants.{Optimal, Infeasible, Unbounded}
@@ -38,16 +37,10 @@ status_of_finding (Optimal value mechanism bound) = 0
 status_of_finding (Infeasible face) = 10
 status_of_finding (Unbounded mechanism ray) = 11
 
--- the level of the mechanism that was found, if there is one, has at most 62 bits
-abbrev pub HasNarrowLevelIn : Question → Finding → Type 0
-HasNarrowLevelIn q (Optimal value mechanism bound) = HasNarrowLevel q mechanism
-HasNarrowLevelIn q (Infeasible face) = Unit {0}
-HasNarrowLevelIn q (Unbounded mechanism ray) = HasNarrowLevel q mechanism
-
 -- The one answer of a setting within a width, its status, and its text, which reads back as the answer. What it claims is so, over
 -- mechanisms of any denominator: that its mechanism is the fairest and has this value, that none is admissible, or that the least
 -- which an agent gets on average has no bound. Its numbers show it, in whatever terms the fair program is written, so that the
--- checker finds it valid where the least that its mechanism gives has at most 62 bits.
+-- checker finds it valid; where the least has no bound, it does where the least that the mechanism gives has at most 62 bits.
 pub record IsFairestSaying (s : GeneralSetting) (width : ℕ) (saying : Saying) : Type 0 where
   pub answer : Finding
   pub solved : IsFound (fair_question s) width answer
@@ -55,7 +48,7 @@ pub record IsFairestSaying (s : GeneralSetting) (width : ℕ) (saying : Saying) 
   pub shows : IsSo (fair_question s) answer
   pub admissible : WhereUnbounded (λ mechanism ray. IsAdmissible s mechanism) answer
   pub certified : (p : Program) → IsFairProgram s p → IsShown (fair_question s) p answer
-  pub valid : HasNarrowLevelIn (fair_question s) answer → IsFairVerdict s (Found answer) Valid
+  pub valid : WhereUnbounded (λ mechanism ray. HasNarrowLevel (fair_question s) mechanism) answer → IsFairVerdict s (Found answer) Valid
   pub status : saying.status ≡ status_of_finding answer
   pub text : saying.text ≡ text_of_fair s (Found answer)
   pub read_back : fair_answer_of s saying.text ≡ Ok (Found answer)

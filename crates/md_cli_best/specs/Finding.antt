@@ -1,16 +1,19 @@
 -- What `find` and `findfair` say of a general setting: what is found on the two stated paths or off them, or that nothing was.
-use Rattle.std.specs.Prelude.{◌≡◌, ◌≢◌, ◌⊎◌, ◌↔◌, ℕ, List, Ok}
+use Rattle.std.specs.Prelude.{◌≡◌, ◌≢◌, ◌⊎◌, ◌↔◌, ℕ, List, Result, Ok, Err}
 use Rattle.md_setting.specs.Setting.{GeneralSetting}
 use Rattle.md_setting.specs.ByKind.{WhereGeneral}
+use Rattle.md_setting.specs.Rows.{column_count, row_count}
 use Rattle.md_setting.specs.declared.file.SettingFile.{SettingFile}
+use Rattle.md_setting.specs.declared.file.SettingFile.TheVariants.{General, Auction}
 use Rattle.md_mech.specs.Optimal.{IsInfeasible}
 use Rattle.md_question.specs.Best.{best_question}
 use Rattle.md_question.specs.Certified.{IsCertifiedFinding}
+use Rattle.md_question.specs.Findings.{WhereUnbounded}
 use Rattle.md_question.specs.Question.{AdmitsNone, Question}
 use Rattle.md_question.specs.declared.finding.Finding.{Finding}
 use Rattle.md_question_solve.specs.Found.{HasWidePaths}
 use Rattle.md_question_solve.specs.Found as paths
-use Rattle.md_question_check.specs.Verdicts.{IsVerdictOn}
+use Rattle.md_question_check.specs.Verdicts.{HasNarrowLevel, IsVerdictOn}
 use Rattle.md_question_check.specs.declared.verdict.Verdict.TheVariants.{Valid}
 use Rattle.md_answer.specs.Answers as answers
 use Rattle.md_answer.specs.Rows.{text_of_answer}
@@ -23,19 +26,23 @@ use Rattle.md_fair.specs.FairQuestion.{fair_question}
 use Rattle.md_fair.specs.FairRows.{text_of_fair}
 use Rattle.md_fair.specs.FairText.{fair_answer_of}
 use Rattle.md_fair.specs.declared.answer.FairAnswer.TheVariants.{Found}
+use Rattle.md_parts.specs.declared.refusal.AnswerRefusal.{AnswerRefusal}
+use Rattle.md_find_basis.specs.Basis.{Listed, basis_of}
+use Rattle.md_cli_driver.specs.declared.refusal.Refusal.{Refusal}
+use Rattle.md_cli_driver.specs.declared.refusal.Refusal.TheVariants as refusal
 use Rattle.md_cli_driver.specs.Saying.{Saying, undecided_text}
-use Rattle.md_cli_best.specs.Fair.{HasNarrowLevelIn, status_of_finding}
+use Rattle.md_cli_best.specs.Fair.{status_of_finding}
 use Rattle.md_cli_best.specs.Headline.{PrintsInfeasible, PrintsOptimal, PrintsUnbounded}
 
 -- ---- a question
 
 -- What was found, in its records, which read back as it, and with the status of its kind: what it claims is so, and its numbers show
--- it, so that the checker finds it valid where the level of its mechanism has at most 62 bits. Which finding it is of several is not
--- said.
+-- it, so that the checker finds it valid; where there is no bound, it does where the level of the mechanism has at most 62 bits. Which
+-- finding it is of several is not said.
 pub record IsFound (q : Question) (text_of : Finding → List ℕ) (Reads : List ℕ → Finding → Type 0) (saying : Saying) : Type 0 where
   pub finding : Finding
   pub certified : IsCertifiedFinding q finding
-  pub valid : HasNarrowLevelIn q finding → IsVerdictOn q finding Valid
+  pub valid : WhereUnbounded (λ mechanism ray. HasNarrowLevel q mechanism) finding → IsVerdictOn q finding Valid
   pub status : saying.status ≡ status_of_finding finding
   pub text : saying.text ≡ text_of finding
   pub read_back : Reads saying.text finding
@@ -86,6 +93,17 @@ IsFind file saying = WhereGeneral (λ s. IsFinding s saying) file
 -- what is shown by a text that was printed with a status
 abbrev pub IsFindShownBy : SettingFile → ℕ → List ℕ → Type 0
 IsFindShownBy file status text = WhereGeneral (λ s. IsFindHeadline s status text) file
+
+-- ---- `find` from a basis
+
+abbrev pub basis_or_refusal : Result Listed AnswerRefusal → Result Listed Refusal
+basis_or_refusal (Ok basis) = Ok basis
+basis_or_refusal (Err e) = Err (refusal.Answer e)
+
+-- the basis that the second file lists of the program of a general setting
+abbrev pub basis_in : SettingFile → List ℕ → Result Listed Refusal
+basis_in (General s) bytes = basis_or_refusal (basis_of (column_count s) (row_count s) bytes)
+basis_in (Auction a) bytes = Err refusal.OtherKind
 
 -- ---- `findfair`
 

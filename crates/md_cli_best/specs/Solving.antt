@@ -9,7 +9,7 @@ use Rattle.md_answer.specs.AuctionRows.{text_of_auction_answer}
 use Rattle.md_answer.specs.Rows.{text_of_answer}
 use Rattle.md_answer.specs.declared.answer.Answer.{Answer}
 use Rattle.md_answer.specs.declared.answer.Answer.TheVariants.{Table, Optimal, Infeasible, Unbounded, AuctionOptimal, TooWide}
-use Rattle.md_solve.specs.AuctionSolved.{IsAuctionSolved}
+use Rattle.md_solve.specs.AuctionSolved.{IsAuctionSolved, IsSameButMasses}
 use Rattle.md_solve.specs.Solved.{IsSolved}
 use Rattle.md_cli_best.specs.AuctionHeadline.{IsAuctionHeadline}
 use Rattle.md_cli_best.specs.Headline.{IsHeadline}
@@ -34,12 +34,14 @@ pub record IsSolving (s : GeneralSetting) (width : ℕ) (saying : Saying) : Type
   pub only : (other : Answer) → IsSolved s width other → (saying.status ≡ status_of_answer other) × (saying.text ≡ text_of_answer s other)
   pub headline : IsHeadline s width saying.status saying.text
 
--- an answer to an auction, of which all but the mass table is fixed
+-- An answer to an auction, its status and its text. Auction and width alone decide all but the mass table: each answer that the cut run
+-- gives differs from this one in nothing but its masses.
 pub record IsAuctionSolving (a : SymmetricAuction) (width : ℕ) (saying : Saying) : Type 0 where
   pub answer : Answer
   pub solved : IsAuctionSolved a width answer
   pub status : saying.status ≡ status_of_answer answer
   pub text : saying.text ≡ text_of_auction_answer a answer
+  pub only : (other : Answer) → IsAuctionSolved a width other → IsSameButMasses answer other
   pub headline : IsAuctionHeadline a width saying.status saying.text
 
 abbrev pub IsSolve : ℕ → SettingFile → Saying → Type 0

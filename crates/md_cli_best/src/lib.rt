@@ -12,7 +12,7 @@ mod solve;
 pub use determ::Determ;
 pub use drill::Drill;
 pub use fair::Fair;
-pub use find::{Find, FindFair};
+pub use find::{Find, FindFair, FindFrom};
 pub use make::Make;
 pub use require::{Conditions, Require};
 pub use solve::Solve;

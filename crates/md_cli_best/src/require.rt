@@ -109,7 +109,7 @@ fn required(
     ensures status { IfOk result (λ answered. IsFindStatus answered.status) }
 {
     let requiring = Requiring::new(setting, conditions);
-    match find_question(alloc, &requiring) {
+    match find_question(alloc, &requiring, None) {
         Ok(finding) => found(alloc, setting, conditions, finding),
         Err(SimplexError::TooWide { .. }) => not_found(alloc),
         Err(SimplexError::Memory) => Err(NoMemory),

@@ -1,9 +1,8 @@
 //! The records of a program.
-ghost use Rattle.std.specs.Prelude.{◌≡◌, ◌++◌, ◌∷◌, [], ◌<◌, ◌≤◌, ℕ, IfOk, length, take, slice_get};
-ghost use Rattle.std.specs.Option.{ForSome};
+ghost use Rattle.std.specs.Prelude.{◌≡◌, ◌<◌, IfOk, length};
 ghost use Rattle.md_mech.specs.Rows.{conditions_of};
 ghost use Rattle.md_lp.specs.Program.{row_count};
-ghost use Rattle.md_cli_lp.specs.ProgramTexts.{IsListing, cost_record, end_record, names_of, program_record, program_records, program_text, row_head, row_record, row_records, texts_of, word_of};
+ghost use Rattle.md_cli_lp.specs.ProgramTexts.{IsListing, names_of, program_record, program_records, program_text, row_head, row_record, texts_of, word_of};
 
 use crate::pairs::{with_costs, with_terms};
 use md_lp::{Lp, RowKind};

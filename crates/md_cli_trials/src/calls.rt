@@ -27,6 +27,9 @@ pub(crate) const FIRST_VOTER: &str =
 
 const PIVOTS: &str = "pivot,4,0\npivot,1,1\nend\n";
 
+/// That of the price that brings most, by which its answer comes.
+const BASIS: &str = "column,0\ncolumn,1\ncolumn,3\ncolumn,4\ncolumn,5\nslack,0\nend\n";
+
 const HIGHER_VALUE: &str = "interim,4\nodds,0,3\nend\n";
 
 /// A bidder with the value 2 has one of two units for 2.
@@ -39,13 +42,14 @@ const ALWAYS: &str = "interim,1\nodds,1,1\nend\n";
 const ONE_BUYER_SALE_ANSWER: &str =
     "answer,1,asym,optimal\nvalue,5,2\ninterim,1\nodds,buyer,0,1\npays,buyer,0,3\nmass,low,0\nmass,high,1\ncut,1\ncut,2\nbound,1\nrow,2,0,1\nrow,3,0,1\nrow,5,0,1\nend\n";
 
-static FILES: [(&str, &str); 21] = [
+static FILES: [(&str, &str); 22] = [
     ("one", ONE_TYPE),
     ("one-table", ONE_TYPE_TABLE),
     ("price", POSTED_PRICE),
     ("price-answer", POSTED_PRICE_ANSWER),
     ("above", PRICE_ABOVE_VALUE),
     ("pivots", PIVOTS),
+    ("basis", BASIS),
     ("vote", VOTE),
     ("first", FIRST_VOTER),
     ("reach", OUT_OF_REACH),
@@ -64,7 +68,7 @@ static FILES: [(&str, &str); 21] = [
 ];
 
 /// The calls. The last ones are refused.
-pub(crate) static CALLS: [Call; 49] = [
+pub(crate) static CALLS: [Call; 51] = [
     (&["audit", "one", "one-table"], 2, 0, "admissible\n"),
     (
         &["audit", "price", "above"],
@@ -93,6 +97,12 @@ pub(crate) static CALLS: [Call; 49] = [
         1,
         0,
         "answer,1,general,optimal\nvalue,3,2\n",
+    ),
+    (
+        &["find", "price", "--from", "basis"],
+        2,
+        0,
+        POSTED_PRICE_ANSWER,
     ),
     (
         &["findfair", "vote"],
@@ -266,6 +276,12 @@ pub(crate) static CALLS: [Call; 49] = [
         2,
         66,
         "mechdes: answer refused: line 1: record\n",
+    ),
+    (
+        &["find", "reach", "--from", "basis"],
+        2,
+        66,
+        "mechdes: answer refused: line 2: field 2\n",
     ),
     (
         &["replay", "price", "one-table"],

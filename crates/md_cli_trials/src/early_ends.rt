@@ -1,4 +1,4 @@
-//! Files that end early: each front of an answer of each kind, of an odds file and of a pivots file.
+//! Files that end early: each front of an answer of each kind, of an odds file, of a pivots file and of a basis.
 use crate::answers::{ONE_BUYER_ANSWER, POSTED_PRICE_ANSWER};
 use crate::calling::carried_out;
 use crate::settings::{
@@ -8,7 +8,7 @@ use std::alloc::{AllocError, Global};
 use std::test::Fail;
 
 // A command, a setting, its second file, and the status of the whole file.
-static FILES: [(&str, &str, &str, u8); 16] = [
+static FILES: [(&str, &str, &str, u8); 17] = [
     ("check", POSTED_PRICE, POSTED_PRICE_ANSWER, 0),
     (
         "check",
@@ -85,11 +85,20 @@ static FILES: [(&str, &str, &str, u8); 16] = [
         0,
     ),
     ("replay", POSTED_PRICE, "pivot,4,0\npivot,1,1\nend\n", 0),
+    ("find", OUT_OF_REACH, "column,0\nslack,0\nend\n", 10),
 ];
+
+// The word for the second file, which `find` has as an option.
+fn second_word(command: &str) -> &str {
+    match command {
+        "find" => "--from=second",
+        _ => "second",
+    }
+}
 
 // The status of a command over a setting and a second file.
 fn status_of(alloc: Global, command: &str, setting: &str, second: &[u8]) -> Result<u8, AllocError> {
-    let words = [command, "setting", "second"];
+    let words = [command, "setting", second_word(command)];
     Ok(carried_out(alloc, &words, setting.as_bytes(), second)?.status)
 }
 

@@ -7,12 +7,13 @@ use Rattle.clap.specs.Faults.{is_free_app}
 use Rattle.clap.specs.Simple.{built}
 use Rattle.md_cli_words.specs.Forms.{arguments_of, app_of_form}
 use Rattle.md_cli_words.specs.declared.form.Form.{Form}
-use Rattle.md_cli_words.specs.declared.form.Form.TheVariants.{One, OneWidth, Two, TwoWidth, TwoUnits, NumberWidth, OneNumber, TwoNumber, NumberDraw, Draws, Number}
+use Rattle.md_cli_words.specs.declared.form.Form.TheVariants.{One, OneWidth, OneBasis, Two, TwoWidth, TwoUnits, NumberWidth, OneNumber, TwoNumber, NumberDraw, Draws, Number}
 
 -- each form's command is one of which clap states the matches and the faults
 pub app_of_form-simple : (form : Form) → is_simple_and_free (app_of_form form) ≡ true
 app_of_form-simple One = refl
 app_of_form-simple OneWidth = refl
+app_of_form-simple OneBasis = refl
 app_of_form-simple Two = refl
 app_of_form-simple TwoWidth = refl
 app_of_form-simple TwoUnits = refl

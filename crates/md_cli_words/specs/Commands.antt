@@ -7,7 +7,7 @@
 --   replay SETTING PIVOTS [--width W]
 --   realise SETTING ODDS
 --   fair SETTING [--width W]
---   find SETTING
+--   find SETTING [--from BASIS]
 --   findfair SETTING
 --   faircheck SETTING ANSWER
 --   require SETTING CONDITIONS
@@ -32,7 +32,7 @@ use Rattle.clap.specs.Words.{Text}
 use Rattle.md_cli_words.specs.declared.command.Command.{Command}
 use Rattle.md_cli_words.specs.declared.command.Command.TheVariants.{Audit, Rows, Check, Solve, Replay, Realise, Fair, Find, FindFair, FairCheck, Require, RequireCheck, Asym, AsymCheck, Units, UnitCheck, Threshold, Award, Determ, DetermCheck, Run, Report, Iron, IronUnits, Make, Drill}
 use Rattle.md_cli_words.specs.declared.form.Form.{Form}
-use Rattle.md_cli_words.specs.declared.form.Form.TheVariants.{One, OneWidth, Two, TwoWidth, TwoUnits, NumberWidth, OneNumber, TwoNumber, NumberDraw, Draws, Number}
+use Rattle.md_cli_words.specs.declared.form.Form.TheVariants.{One, OneWidth, OneBasis, Two, TwoWidth, TwoUnits, NumberWidth, OneNumber, TwoNumber, NumberDraw, Draws, Number}
 
 -- The command of a name. A text is a list of bytes, and the name is compared byte by byte: a part of a name, or one in
 -- other letters, is none.
@@ -71,7 +71,7 @@ abbrev pub command_in : List Text → Option Command
 command_in [] = None
 command_in (word ∷ more) = command_named word
 
--- which arguments have to be there, and whether a width or a number of units may be asked for
+-- which arguments have to be there, and whether a width, a number of units or a basis may be named
 abbrev pub form_of : Command → Form
 form_of Rows = One
 form_of Solve = OneWidth
@@ -80,7 +80,7 @@ form_of Check = Two
 form_of Replay = TwoWidth
 form_of Realise = Two
 form_of Fair = OneWidth
-form_of Find = One
+form_of Find = OneBasis
 form_of FindFair = One
 form_of FairCheck = Two
 form_of Require = Two

@@ -6,7 +6,7 @@
 use Rattle.std.specs.Prelude.{◌==◌, List, length, Option, Some, None, true, codes, if◌then◌else◌}
 use Rattle.clap.specs.Words.{App, Row, Rule, Text, fault_of, matches_of, new_app, new_rule, with_rule}
 use Rattle.md_cli_words.specs.declared.form.Form.{Form}
-use Rattle.md_cli_words.specs.declared.form.Form.TheVariants.{One, OneWidth, Two, TwoWidth, TwoUnits, NumberWidth, OneNumber, TwoNumber, NumberDraw, Draws, Number}
+use Rattle.md_cli_words.specs.declared.form.Form.TheVariants.{One, OneWidth, OneBasis, Two, TwoWidth, TwoUnits, NumberWidth, OneNumber, TwoNumber, NumberDraw, Draws, Number}
 
 -- an argument known by its place, which has to be there
 abbrev pub place_rule : Text → Rule
@@ -19,6 +19,10 @@ width_rule = record (new_rule (codes "width")) { long = Some (codes "width") }
 -- the option --units, likewise
 abbrev pub units_rule : Rule
 units_rule = record (new_rule (codes "units")) { long = Some (codes "units") }
+
+-- the option --from, which takes the name of the second file
+abbrev pub from_rule : Rule
+from_rule = record (new_rule (codes "second")) { long = Some (codes "from") }
 
 -- no argument
 abbrev pub no_place : App
@@ -45,6 +49,7 @@ with_draws app = with_place (with_draw app) (codes "second_draw")
 abbrev pub app_of_form : Form → App
 app_of_form One = with_place no_place (codes "first")
 app_of_form OneWidth = with_rule (with_place no_place (codes "first")) width_rule
+app_of_form OneBasis = with_rule (with_place no_place (codes "first")) from_rule
 app_of_form Two = with_files no_place
 app_of_form TwoWidth = with_rule (with_files no_place) width_rule
 app_of_form TwoUnits = with_rule (with_files no_place) units_rule

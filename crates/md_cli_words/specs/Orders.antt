@@ -7,6 +7,7 @@ asked held = record {
   command = held.command;
   setting = held.setting.now;
   second = held.second.now;
+  has_second = held.has_second;
   width = held.width;
   profile = held.profile.now;
   first_draw = held.first_draw;

@@ -1,6 +1,6 @@
 -- What the words of a call ask for. The first word names a command, and `clap` reads the rest as the arguments of that
 -- command (Commands and Forms say which).
-use Rattle.std.specs.Prelude.{ℕ, ℤ, pos, negsuc, ◌&&◌, nat_le, List, [], Option, Some, None, Result, Ok, Err, codes, if◌then◌else◌, option_map, option_and_then}
+use Rattle.std.specs.Prelude.{ℕ, ℤ, pos, negsuc, Bool, true, false, ◌&&◌, nat_le, List, [], Option, Some, None, Result, Ok, Err, codes, if◌then◌else◌, option_map, option_and_then}
 use Rattle.clap.specs.Words.{Row, Text, first_of}
 use Rattle.md_num.specs.WholeText.{whole_of}
 use Rattle.md_num.specs.declared.whole.NumRefusal.{NumRefusal}
@@ -8,12 +8,13 @@ use Rattle.md_cli_words.specs.Commands.{command_in, form_of}
 use Rattle.md_cli_words.specs.Forms.{app_of_form, arguments_of}
 use Rattle.md_cli_words.specs.declared.command.Command.{Command}
 
--- a command with what it is asked for: the names of its files and its width, the profile and the draws at which an outcome
+-- a command with what it is asked for: the names of its files, whether it has a second one, and its width, the profile and the draws at which an outcome
 -- is drawn, the number of a setting or of units, and the number of units where --units asks for one
 pub record Order : Type 0 where
   pub command : Command
   pub setting : Text
   pub second : Text
+  pub has_second : Bool
   pub width : ℕ
   pub profile : Text
   pub first_draw : ℤ
@@ -74,6 +75,14 @@ text_or_empty (Some text) = text
 abbrev pub text_in : Text → List Row → Text
 text_in id found = text_or_empty (first_of id found)
 
+-- an argument is there
+abbrev pub is_told : Option Text → Bool
+is_told None = false
+is_told (Some text) = true
+
+abbrev pub is_there : Text → List Row → Bool
+is_there id found = is_told (first_of id found)
+
 abbrev pub number_in : Text → List Row → Option ℤ
 number_in id found = number_or_zero (first_of id found)
 
@@ -89,6 +98,7 @@ order_with command found width first second number units = record {
   command = command;
   setting = text_in (codes "first") found;
   second = text_in (codes "second") found;
+  has_second = is_there (codes "second") found;
   width = width;
   profile = text_in (codes "profile") found;
   first_draw = first;

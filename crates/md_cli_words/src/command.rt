@@ -21,7 +21,7 @@ pub enum Command {
     Realise,
     /// `fair SETTING [--width W]` finds the fairest mechanism of a setting within a width.
     Fair,
-    /// `find SETTING` finds the best mechanism of a setting, off the stated paths too.
+    /// `find SETTING [--from BASIS]` finds the best mechanism of a setting, off the stated paths too, from a basis where one is given.
     Find,
     /// `findfair SETTING` finds the fairest mechanism of a setting, off the stated paths too.
     FindFair,
@@ -110,7 +110,8 @@ pub(crate) fn form(command: Command) -> Form
     ensures { result ≡ form_of command }
 {
     match command {
-        Command::Rows | Command::Find | Command::FindFair | Command::Iron => Form::One,
+        Command::Rows | Command::FindFair | Command::Iron => Form::One,
+        Command::Find => Form::OneBasis,
         Command::Solve | Command::Fair | Command::Asym | Command::Determ => Form::OneWidth,
         Command::Audit
         | Command::Check

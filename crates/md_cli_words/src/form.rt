@@ -1,18 +1,20 @@
 //! The forms that the arguments of commands have, each with the command of `clap` that reads it.
 ghost use Rattle.std.specs.Prelude.{◌≡◌, IfOk};
 ghost use Rattle.clap.specs.Words.{app_of, with_rule};
-ghost use Rattle.md_cli_words.specs.Forms.{app_of_form, place_rule, units_rule, width_rule, with_draw, with_draws, with_files, with_number};
+ghost use Rattle.md_cli_words.specs.Forms.{app_of_form, from_rule, place_rule, units_rule, width_rule, with_draw, with_draws, with_files, with_number};
 
 use clap::{Arg, Command};
 use std::alloc::{AllocError, Global};
 
-/// How many arguments stand in a row, and whether the option `--width` or `--units` may stand among them.
+/// How many arguments stand in a row, and whether the option `--width`, `--units` or `--from` may stand among them.
 #[derive(Clone, Copy)]
 pub(crate) enum Form {
     /// One argument.
     One,
     /// One argument, and a width or none.
     OneWidth,
+    /// One argument, and the second file or none.
+    OneBasis,
     /// Two arguments.
     Two,
     /// Two arguments, and a width or none.
@@ -61,6 +63,14 @@ fn with_units(alloc: Global, command: Command<'_>) -> Result<Command<'_>, AllocE
     command.arg(units)
 }
 
+// The command with the option `--from`, which takes the name of the second file.
+fn with_basis(alloc: Global, command: Command<'_>) -> Result<Command<'_>, AllocError>
+    ensures { IfOk result (λ more. app_of more ≡ with_rule (app_of command.entry) from_rule) }
+{
+    let basis = Arg::new(alloc, "second").long("from");
+    command.arg(basis)
+}
+
 // The command with two arguments, which are the names of files.
 fn with_files<'a>(alloc: Global, command: Command<'a>) -> Result<Command<'a>, AllocError>
     ensures { IfOk result (λ more. app_of more ≡ with_files (app_of command.entry)) }
@@ -103,6 +113,10 @@ pub(crate) fn reader_of<'a>(alloc: Global, form: Form) -> Result<Command<'a>, Al
         Form::OneWidth => {
             let one = with_place(alloc, bare, "first")?;
             with_width(alloc, one)
+        }
+        Form::OneBasis => {
+            let one = with_place(alloc, bare, "first")?;
+            with_basis(alloc, one)
         }
         Form::Two => with_files(alloc, bare),
         Form::TwoWidth => {

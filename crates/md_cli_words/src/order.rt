@@ -3,7 +3,7 @@ ghost use Rattle.std.specs.Prelude.{◌≡◌, IfOk, IfErr, IsSome, map, option_
 ghost use Rattle.clap.specs.Words.{found_of, rows_of};
 ghost use Rattle.md_cli_words.specs.Commands.{command_in};
 ghost use Rattle.md_cli_words.specs.Orders.{asked};
-ghost use Rattle.md_cli_words.specs.Words.{command_of, number_in, number_of, order_in, order_of_found, text_in, units_in, width_in, width_of, width_of_number};
+ghost use Rattle.md_cli_words.specs.Words.{command_of, is_there, number_in, number_of, order_in, order_of_found, text_in, units_in, width_in, width_of, width_of_number};
 
 use crate::command::{Command, command_in, form};
 use crate::cut::{cut, text_of};
@@ -24,6 +24,8 @@ pub struct Order<'a> {
     pub setting: &'a str,
     /// The name of the second file.
     pub second: &'a str,
+    /// Whether a second file is named.
+    pub has_second: bool,
     /// The width that is asked for; the greatest one where none is.
     pub width: Width,
     /// The reports at which an outcome is drawn, as they were typed.
@@ -80,6 +82,7 @@ fn order_from<'a>(command: Command, matches: &ArgMatches<'a>) -> Option<Order<'a
         command,
         setting: text_from(matches, "first"),
         second: text_from(matches, "second"),
+        has_second: has_text(matches, "second"),
         width: width_from(matches)?,
         profile: text_from(matches, "profile"),
         first_draw: number_from(matches, "first_draw")?,
@@ -94,6 +97,16 @@ fn text_from<'a>(matches: &ArgMatches<'a>, id: &str) -> &'a str
     ensures { result.now ≡ text_in id.now (rows_of (found_of matches.now)) }
 {
     text_of(matches, id).unwrap_or("")
+}
+
+// Whether an argument is there.
+fn has_text(matches: &ArgMatches<'_>, id: &str) -> bool
+    ensures { result ≡ is_there id.now (rows_of (found_of matches.now)) }
+{
+    match text_of(matches, id) {
+        Some(_) => true,
+        None => false,
+    }
 }
 
 // The number that an argument says, or 0.

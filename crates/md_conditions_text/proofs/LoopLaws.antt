@@ -17,10 +17,10 @@ use Rattle.md_require.specs.declared.condition.Condition.{Condition}
 use Rattle.md_require.specs.Limits.{AreConditionsFor, IsConditionFor}
 use Rattle.md_require.specs.RequireQuestion.{require_rows}
 use Rattle.md_conditions_text.specs.declared.kind.Kind.{Kind}
-use Rattle.md_conditions_text.specs.ConditionFields.{bound_fields, condition_from, condition_of, denominator_place, measure_fields, next_texts}
+use Rattle.md_conditions_text.specs.ConditionFields.{bound_fields, condition_from, condition_of, measure_fields, next_texts}
 use Rattle.md_conditions_text.specs.ConditionsText.{behind, conditions_in, conditions_read, narrow, next_condition, small_condition}
 use Rattle.md_conditions_text.specs.Kinds.{kind_ahead, word_of}
-use Rattle.md_conditions_text.specs.Narrow.{are_few, has_narrow_rows}
+use Rattle.md_conditions_text.specs.Narrow.{are_few, has_narrow_rows, wide_place}
 
 -- ---- what was read in two steps
 
@@ -56,7 +56,7 @@ next-first s found kind rest after c h =
     let outer = in-steps (small_condition s kind rest) (λ small. behind s found small) c after h in
     let inner = in-steps (condition_of s kind rest) (λ told. narrow s kind told) outer.one outer.mid outer.first_is in
     let last : outer.mid ≡ after = passed (are_few s (found ++ outer.one ∷ [])) outer.one c outer.mid after (Line outer.mid.read) outer.next_is in
-    let first : inner.mid ≡ outer.mid = passed (has_narrow_rows s inner.one) inner.one outer.one inner.mid outer.mid (Cell inner.mid.read (denominator_place kind)) inner.next_is in
+    let first : inner.mid ≡ outer.mid = passed (has_narrow_rows s inner.one) inner.one outer.one inner.mid outer.mid (Cell inner.mid.read (wide_place s kind inner.one)) inner.next_is in
     subst (λ (r : Rest). WasFirst rest r) (first ∙ last) (condition-first s kind rest inner.mid inner.one inner.first_is)
 
 -- ---- one record

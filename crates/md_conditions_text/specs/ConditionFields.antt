@@ -89,6 +89,9 @@ condition_of s kind = do
   numbers ← read_record (word_of kind) (measure_fields s texts kind ++ bound_fields)
   nothing_more (condition_from kind numbers)
 
--- the place of its denominator among the fields of its record, the word being field 1
+-- the places of the numerator and the denominator of its bound among the fields of its record, the word being field 1
+abbrev pub numerator_place : Kind → ℕ
+numerator_place kind = measure_count kind + 3
+
 abbrev pub denominator_place : Kind → ℕ
 denominator_place kind = measure_count kind + 4

@@ -10,12 +10,12 @@ use Rattle.md_parts.specs.LastRecord.{read_end}
 use Rattle.md_require.specs.declared.condition.Condition.{Condition}
 use Rattle.md_conditions_text.specs.declared.kind.Kind.{Kind}
 use Rattle.md_conditions_text.specs.Kinds.{kind_of}
-use Rattle.md_conditions_text.specs.ConditionFields.{condition_of, denominator_place}
-use Rattle.md_conditions_text.specs.Narrow.{has_narrow_rows, are_few}
+use Rattle.md_conditions_text.specs.ConditionFields.{condition_of}
+use Rattle.md_conditions_text.specs.Narrow.{has_narrow_rows, wide_place, are_few}
 
--- the numbers of its rows are small enough; else the denominator is refused, in the record that was read last
+-- the numbers of its rows are small enough; else the field that makes one too large is refused, in the record that was read last
 abbrev pub narrow : GeneralSetting → Kind → Condition → Reading Condition
-narrow s kind c rest = if has_narrow_rows s c then Ok (c, rest) else Err (Cell rest.read (denominator_place kind))
+narrow s kind c rest = if has_narrow_rows s c then Ok (c, rest) else Err (Cell rest.read (wide_place s kind c))
 
 -- it may stand behind those that came before it; else the record that was read last is refused
 abbrev pub behind : GeneralSetting → List Condition → Condition → Reading Condition

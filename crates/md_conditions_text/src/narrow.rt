@@ -11,8 +11,9 @@ ghost use Rattle.md_require.specs.Named.{IsInside, amounts_at, named};
 ghost use Rattle.md_require.specs.Places.{IsIn};
 ghost use Rattle.md_require.specs.RequireQuestion.{require_rows};
 ghost use Rattle.md_conditions_text.specs.Known.{IsTold};
-ghost use Rattle.md_conditions_text.specs.Narrow.{has_narrow_chances, has_narrow_parts, has_narrow_pays, has_narrow_row, has_narrow_rows, is_narrow};
+ghost use Rattle.md_conditions_text.specs.Narrow.{has_narrow_chances, has_narrow_parts, has_narrow_pays, has_narrow_right, has_narrow_row, has_narrow_rows, is_narrow, whole_by, wide_place};
 
+use crate::kind::Kind;
 use md_num::product;
 use md_require::{Amount, Condition, Measured, amount_at, chance_part, pay_part, whole};
 use md_setting::Setting;
@@ -107,6 +108,41 @@ fn has_narrow_pays(setting: &Setting, den: i128, amount: Amount, rank: u32) -> b
         }
     }
     true
+}
+
+/// The field that makes a number of the rows of a condition too large.
+pub(crate) fn wide_place(setting: &Setting, kind: Kind, condition: &Condition) -> u64
+    requires { IsTold setting.now condition.now }
+    ensures { result ≡ wide_place setting.now kind condition.now }
+{
+    let measures = kind.measures() as u64;
+    if has_narrow_right(setting, condition) {
+        measures + 4
+    } else {
+        measures + 3
+    }
+}
+
+// Whether the right sides of the rows of a condition are small enough.
+fn has_narrow_right(setting: &Setting, condition: &Condition) -> bool
+    requires { IsTold setting.now condition.now }
+    ensures { result ≡ has_narrow_right setting.now condition.now }
+{
+    is_narrow(product(condition.num, whole_by(setting, condition.measured)))
+}
+
+// The weight of all profiles, where an average over them is measured.
+fn whole_by(setting: &Setting, measured: Measured) -> i128
+    ensures value { result ≡ whole_by setting.now measured }
+    ensures size { IsWithin 1000000 result }
+{
+    match measured {
+        Measured::Revenue
+        | Measured::Welfare
+        | Measured::Utility { .. }
+        | Measured::Chance { .. } => setting.total(),
+        Measured::ChanceAt { .. } | Measured::Payment { .. } | Measured::PaymentAs { .. } => 1,
+    }
 }
 
 // Whether a number is small enough.

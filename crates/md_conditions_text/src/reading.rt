@@ -11,7 +11,7 @@ ghost use Rattle.md_conditions_text.specs.ConditionsText.{behind, conditions_of,
 
 use crate::condition_reading::read_condition;
 use crate::kind::{Kind, kind_of};
-use crate::narrow::{has_narrow_rows, row_count};
+use crate::narrow::{has_narrow_rows, row_count, wide_place};
 use md_num::NoMemory;
 use md_parts::{AnswerRefusal, Reader, read_last};
 use md_records::Records;
@@ -70,7 +70,7 @@ fn is_small(
     if has_narrow_rows(setting, &condition) {
         Ok(condition)
     } else {
-        Err(reader.refusal_at(kind.measures() as u64 + 4))
+        Err(reader.refusal_at(wide_place(setting, kind, &condition)))
     }
 }
 

@@ -1,8 +1,10 @@
 //! The fairest mechanism, found.
 ghost use Rattle.std.specs.Prelude.{◌≡◌, ◌↔◌, List, IfErr, IfOk, MatchResult};
+ghost use Rattle.md_math.specs.Sizes.{IsWithin};
 ghost use Rattle.md_lp.specs.Program.{Program};
 ghost use Rattle.md_lp.specs.declared.pivot.Pivot.{Pivot};
 ghost use Rattle.md_lp.specs.declared.wide.Wide.{Wide};
+ghost use Rattle.md_mech.specs.Accepted.{number_limit};
 ghost use Rattle.md_mech.specs.Admissible.{IsAdmissible};
 ghost use Rattle.md_mech.specs.declared.mechanism.Mechanism.{Mechanism};
 ghost use Rattle.md_mech.specs.Optimal.{IsInfeasible};
@@ -20,7 +22,7 @@ ghost use Rattle.md_fair.specs.Bounds.{HasNoLeastBound};
 ghost use Rattle.md_fair.specs.FairProgram.{IsFairProgram};
 ghost use Rattle.md_fair.specs.FairQuestion.{fair_question};
 ghost use Rattle.md_fair.specs.Fairest.{GrowsFair, IsOptimalFair};
-ghost use Rattle.md_fair.specs.Least.{HasLeast, IsLeastValueOf};
+ghost use Rattle.md_fair.specs.Least.{HasLeast, IsLeastValueOf, least_of};
 
 use md_fair::Fairest;
 use md_num::Width;
@@ -45,9 +47,11 @@ pub fn solve_fair(alloc: Global, setting: &Setting, width: Width) -> Result<Find
     // A setting and a width have one answer.
     ensures only { (other : Finding) → IsFound (fair_question setting.now) width other → IfOk result (λ answer. answer ≡ other) }
 
-    // What is claimed is so, over mechanisms of any denominator, with numbers of any size. Each mechanism has a least.
+    // What is claimed is so, over mechanisms of any denominator, with numbers of any size. Each mechanism has a least; that of a fairest
+    // one, in units of one over its denominator and the weight of all profiles, has at most 62 bits.
     ensures optimal { IfOk result (WhereOptimal (λ value mechanism bound. IsOptimalFair setting.now mechanism)) }
     ensures value { IfOk result (WhereOptimal (λ value mechanism bound. IsLeastValueOf setting.now mechanism value)) }
+    ensures narrow { IfOk result (WhereOptimal (λ value mechanism bound. IsWithin number_limit (least_of setting.now mechanism))) }
     ensures infeasible { IfOk result (WhereInfeasible (λ face. IsInfeasible setting.now)) }
     ensures unbounded { IfOk result (WhereUnbounded (GrowsFair setting.now)) }
     ensures admissible { IfOk result (WhereUnbounded (λ mechanism ray. IsAdmissible setting.now mechanism)) }
@@ -87,6 +91,9 @@ pub fn solve_fair(alloc: Global, setting: &Setting, width: Width) -> Result<Find
 pub fn find_fair(alloc: Global, setting: &Setting) -> Result<Finding, SimplexError>
     ensures certified { IfOk result (IsCertifiedFinding (fair_question setting.now)) }
 
+    // The least of a fairest mechanism, in units of one over its denominator and the weight of all profiles, has at most 62 bits.
+    ensures narrow { IfOk result (WhereOptimal (λ value mechanism bound. IsWithin number_limit (least_of setting.now mechanism))) }
+
     // That there is no bound is claimed wherever it is so.
     ensures no_bound { IfOk result (λ finding. ClaimsUnbounded finding ↔ HasNoLeastBound setting.now) }
 
@@ -95,5 +102,5 @@ pub fn find_fair(alloc: Global, setting: &Setting) -> Result<Finding, SimplexErr
 {
     let _shaped = setting.space();
     let fairest = Fairest { setting };
-    find_question(alloc, &fairest)
+    find_question(alloc, &fairest, None)
 }

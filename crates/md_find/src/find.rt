@@ -8,7 +8,7 @@ use crate::dictionary::Dictionary;
 use crate::dual::{Repair, dual_walk};
 use crate::find_error::FindError;
 use crate::first_best::take_first_best;
-use crate::judge::is_certified;
+use crate::judge::judged;
 use crate::leap::leap;
 use crate::reading::read;
 use crate::start::first_dictionary;
@@ -89,11 +89,7 @@ pub fn find_by(alloc: Global, lp: &Lp, start: Start) -> Result<Certificate, Find
     ensures fits { IfOk result (Fits lp.now) }
 {
     let certificate = search(alloc, lp, start)?;
-    if is_certified(lp, &certificate) {
-        Ok(certificate)
-    } else {
-        Err(FindError::NotValid)
-    }
+    judged(lp, certificate)
 }
 
 /// A certificate of a program, if one is found: by the walk from the first best, or else from where one term of each exact row is basic, the first, the second or the third, or else from the first basis. A walk makes 20,000 pivots at most, and is left where a number of a row has more than 126 bits or one of the certificate more than 62. What is found is judged by what a certificate has to show, and given back only where it shows it.

@@ -7,6 +7,8 @@ use std::alloc::{AllocError, AllocFailed};
 pub enum FindError {
     /// The program has no such start, or the walk cannot go on from it.
     NoPlace,
+    /// The columns of a basis depend on each other, or are too many or too few.
+    Singular,
     /// A number of a row has more than 126 bits.
     TooWide,
     /// A number of the certificate has more than 62 bits.

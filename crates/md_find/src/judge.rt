@@ -1,9 +1,10 @@
 //! Whether a certificate that was found is valid.
-ghost use Rattle.std.specs.Prelude.{◌-◌, ◌^◌, ◌≤ℤ◌, ◌↔◌, All, IsTrue, pos};
+ghost use Rattle.std.specs.Prelude.{◌-◌, ◌^◌, ◌≤ℤ◌, ◌↔◌, All, IfOk, IsTrue, pos};
 ghost use Rattle.md_math.specs.Sizes.{AllWithin, IsWithin};
 ghost use Rattle.md_cert.specs.Certified.{Certified};
 ghost use Rattle.md_cert.specs.Fitting.{Fits, FitsBound, FitsColumns, FitsRows, IsDenominator};
 
+use crate::find_error::FindError;
 use crate::fraction::GREATEST;
 use md_cert::{Bound, Certificate, check_lp};
 use md_lp::Lp;
@@ -121,8 +122,8 @@ fn fits(lp: &Lp, certificate: &Certificate) -> bool
     }
 }
 
-/// Whether a certificate shows what it claims of a program.
-pub fn is_certified(lp: &Lp, certificate: &Certificate) -> bool
+// Whether a certificate shows what it claims of a program.
+fn is_certified(lp: &Lp, certificate: &Certificate) -> bool
     ensures certified { IsTrue result → Certified lp.now certificate.now }
     ensures fits { IsTrue result → Fits lp.now certificate.now }
 {
@@ -130,4 +131,19 @@ pub fn is_certified(lp: &Lp, certificate: &Certificate) -> bool
         return false;
     }
     check_lp(lp, certificate).is_none()
+}
+
+/// A certificate that was found, where it shows what it claims of a program.
+///
+/// # Errors
+/// Where it does not.
+pub fn judged(lp: &Lp, certificate: Certificate) -> Result<Certificate, FindError>
+    ensures certified { IfOk result (Certified lp.now) }
+    ensures fits { IfOk result (Fits lp.now) }
+{
+    if is_certified(lp, &certificate) {
+        Ok(certificate)
+    } else {
+        Err(FindError::NotValid)
+    }
 }

@@ -22,3 +22,4 @@ mod weights;
 
 pub use find::{Start, find_by, find_certificate};
 pub use find_error::FindError;
+pub use judge::judged;

@@ -9,7 +9,9 @@ use Rattle.md_lp.specs.declared.pivot.Pivot.{Pivot}
 use Rattle.md_lp.specs.declared.wide.Wide.{Wide}
 use Rattle.md_lp.proofs.SamePrograms.{IsSameProgram}
 use Rattle.md_mech.specs.Accepted.{IsAccepted}
+use Rattle.md_mech.specs.declared.mechanism.Mechanism.{Mechanism}
 use Rattle.md_cert.specs.Certified.{Certified}
+use Rattle.md_cert.specs.Fitting.{Fits}
 use Rattle.md_cert.specs.declared.certificate.Certificate.{Certificate}
 use Rattle.md_cert.specs.declared.certificate.Certificate.TheVariants as certificates
 use Rattle.md_cert.proofs.Duality.{optimal-claim, infeasible-claim}
@@ -35,8 +37,8 @@ use Rattle.md_question.specs.Shown.{IsFindingTo, IsShown, IsSo}
 use Rattle.md_question.specs.declared.finding.Finding.{Finding}
 use Rattle.md_question.specs.declared.finding.Finding.TheVariants.{Optimal, Infeasible, Unbounded}
 use Rattle.md_question.proofs.FindingLaws.{exactly_infeasible, program-rows, same_program, shown-every, so-admitted}
-use Rattle.md_question_solve.specs.Found.{ClaimsEnd, HasValueIn, HasWidePaths, IsFound, IsFoundBy, IsLeftFor, IsWideFor, reading_in}
-use Rattle.md_question_solve.specs.Readings.{FitsReading, HasOwnPoints, TellsCertificate, WhereBest}
+use Rattle.md_question_solve.specs.Found.{ClaimsEnd, HasValueIn, HasWidePaths, IsFound, IsFoundBy, IsLeftFor, IsOfPoint, IsWideFor, reading_in}
+use Rattle.md_question_solve.specs.Readings.{FitsReading, HasOwnPoints, IsOfBestPoint, TellsCertificate, WhereBest}
 use Rattle.md_question_solve.specs.declared.reading.Reading.{Reading}
 use Rattle.md_question_solve.specs.declared.reading.Reading.TheVariants as readings
 use Rattle.md_question_solve.proofs.RunCertified.{run-certified}
@@ -62,7 +64,33 @@ best-accepted s rows (readings.Optimal m bound) h = h.0
 best-accepted s rows (readings.Infeasible face) h = tt
 best-accepted s rows (readings.Unbounded m ray) h = tt
 
+-- ---- the mechanism of a best point
+
+pub of-best_point : (s : GeneralSetting) (p : Program) (c : Certificate) (reading : Reading) → Certified p c → Fits p c → TellsCertificate s c reading → WhereBest (IsOfBestPoint s p) reading
+of-best_point s p (certificates.Optimal den point bound) (readings.Optimal m told) c fits h = record {
+  den = den;
+  point = point;
+  best = optimal-claim p den bound.den (number_at point) (number_at bound.main) (number_at bound.face) c;
+  fits = fits.1;
+  is = h.0;
+}
+of-best_point s p c (readings.Infeasible face) certified fits h = tt
+of-best_point s p c (readings.Unbounded m ray) certified fits h = tt
+of-best_point s p (certificates.Infeasible face) (readings.Optimal m told) c fits h = absurd h
+of-best_point s p (certificates.Unbounded den point ray) (readings.Optimal m told) c fits h = absurd h
+
+-- of a finding that tells the reading
+pub where-best : (P : Mechanism → Type 0) (finding : Finding) → WhereBest P (reading_in finding) → WhereOptimal (λ value m bound. P m) finding
+where-best P (Optimal value m bound) h = h
+where-best P (Infeasible face) h = tt
+where-best P (Unbounded m ray) h = tt
+
 module _ (q : Question) where
+  pub of-point : (p : Program) (finding : Finding) → IsProgramFor q p → WhereOptimal (λ value m bound. IsOfBestPoint q.setting p m) finding → WhereOptimal (λ value m bound. IsOfPoint q m) finding
+  of-point p (Optimal value m bound) is h = record { program = p; is_program = is; of_best = h }
+  of-point p (Infeasible face) is h = tt
+  of-point p (Unbounded m ray) is h = tt
+
   pub found-same : (p r : Program) (width : ℕ) (finding : Finding) → IsProgramFor q p → IsProgramFor q r → IsFoundBy q p width finding → IsFoundBy q r width finding
   found-same p r width finding here there h = (record { end = h.0.end; run = run-same p r (same_program q p r here there) width h.0.end h.0.run; tells = h.0.tells }, h.1)
 

@@ -2,6 +2,7 @@
 -- wide bases, where it has no taken path.
 use Rattle.std.specs.Prelude.{ℕ}
 use Rattle.md_lp.specs.Program.{Program}
+use Rattle.md_mech.specs.declared.mechanism.Mechanism.{Mechanism}
 use Rattle.md_lp.specs.declared.wide.Wide.{Wide}
 use Rattle.md_simplex.specs.declared.order.Order.TheVariants.{Forward, Backward}
 use Rattle.md_simplex.specs.declared.simplex_error.SimplexError.{SimplexError}
@@ -13,7 +14,7 @@ use Rattle.md_question.specs.Findings.{ClaimsInfeasible, ClaimsOptimal, ClaimsUn
 use Rattle.md_question.specs.Question.{IsProgramFor, Question}
 use Rattle.md_question.specs.declared.finding.Finding.{Finding}
 use Rattle.md_question.specs.declared.finding.Finding.TheVariants.{Optimal, Infeasible, Unbounded}
-use Rattle.md_question_solve.specs.Readings.{TellsRun}
+use Rattle.md_question_solve.specs.Readings.{IsOfBestPoint, TellsRun}
 use Rattle.md_question_solve.specs.declared.reading.Reading.{Reading}
 use Rattle.md_question_solve.specs.declared.reading.Reading.TheVariants as readings
 
@@ -36,6 +37,12 @@ pub record IsFound (q : Question) (width : ℕ) (finding : Finding) : Type 0 whe
   pub program : Program
   pub is_program : IsProgramFor q program
   pub found : IsFoundBy q program width finding
+
+-- the mechanism is that of a best point of the question's program, with a number of at most 62 bits for each column
+pub record IsOfPoint (q : Question) (m : Mechanism) : Type 0 where
+  pub program : Program
+  pub is_program : IsProgramFor q program
+  pub of_best : IsOfBestPoint q.setting program m
 
 -- the claim is that of the end of a path
 abbrev pub ClaimsEnd : Step → Finding → Type 0

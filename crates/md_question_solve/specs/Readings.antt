@@ -1,5 +1,5 @@
 -- What is read off the taken path of a program whose points are mechanisms of a setting.
-use Rattle.std.specs.Prelude.{◌≡◌, ◌≤◌, ℕ, ℤ}
+use Rattle.std.specs.Prelude.{◌≡◌, ◌≤◌, ℕ, ℤ, List}
 use Rattle.md_math.specs.Lists.{number_at}
 use Rattle.md_setting.specs.Setting.{GeneralSetting}
 use Rattle.md_setting.specs.Rows.{column_count}
@@ -7,6 +7,8 @@ use Rattle.md_mech.specs.Accepted.{IsAccepted}
 use Rattle.md_mech.specs.declared.mechanism.Mechanism.{Mechanism}
 use Rattle.md_lp.specs.Program.{Program}
 use Rattle.md_lp.specs.Point.{Meets}
+use Rattle.md_cert.specs.Claims.{IsOptimalPoint}
+use Rattle.md_cert.specs.Fitting.{FitsColumns}
 use Rattle.md_cert.specs.declared.certificate.Certificate.{Certificate}
 use Rattle.md_cert.specs.declared.certificate.Certificate.TheVariants as certificates
 use Rattle.md_parts.specs.Fitting.{AreMultipliers, HasFraction, IsBoundOver, IsRayFor}
@@ -47,6 +49,14 @@ FitsReading s rows (Unbounded m ray) = IsAccepted s m × IsRayFor s ray
 abbrev pub WhereBest : (Mechanism → Type 0) → Reading → Type 0
 WhereBest P (Optimal m bound) = P m
 WhereBest P _ = Unit {0}
+
+-- the mechanism is that of a best point of the program, with a number of at most 62 bits for each column
+pub record IsOfBestPoint (s : GeneralSetting) (p : Program) (m : Mechanism) : Type 0 where
+  pub den : ℤ
+  pub point : List ℤ
+  pub best : IsOptimalPoint p den (number_at point)
+  pub fits : FitsColumns p point
+  pub is : m ≡ mechanism_of s den (number_at point)
 
 -- the first wide entry of each path is a fraction in its range
 abbrev pub HasFractions : SimplexError → Type 0

@@ -9,7 +9,7 @@ ghost use Rattle.md_cert.specs.Fitting.{Fits, FitsColumns, IsDenominator};
 ghost use Rattle.md_cert.specs.declared.certificate.Certificate.{Certificate};
 ghost use Rattle.md_rows.specs.Points.{mechanism_of};
 ghost use Rattle.md_simplex.specs.Runs.{IsLeft};
-ghost use Rattle.md_question_solve.specs.Readings.{FitsReading, HasFractions, HasOwnPoints, TellsCertificate, TellsRun};
+ghost use Rattle.md_question_solve.specs.Readings.{FitsReading, HasFractions, HasOwnPoints, IsOfBestPoint, TellsCertificate, TellsRun, WhereBest};
 
 use crate::reading::Reading;
 use md_cert::{Bound, Certificate};
@@ -35,6 +35,7 @@ pub fn read_program(
     requires { HasOwnPoints setting.now lp.now }
     ensures read { IfOk result (TellsRun setting.now lp.now width) }
     ensures fits { IfOk result (FitsReading setting.now (row_count lp.now)) }
+    ensures of_point { IfOk result (WhereBest (IsOfBestPoint setting.now lp.now)) }
     ensures left { IfErr result (IsLeft lp.now width) }
     ensures wide_writable { IfErr result HasFractions }
 {

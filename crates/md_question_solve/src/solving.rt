@@ -13,8 +13,8 @@ ghost use Rattle.md_question.specs.Findings.{ClaimsInfeasible, WhereOptimal, Whe
 ghost use Rattle.md_question.specs.Question.{AdmitsNone, IsProgramFor, IsQuestion};
 ghost use Rattle.md_question.specs.Shown.{IsFindingTo, IsShown, IsSo};
 ghost use Rattle.md_question.specs.declared.finding.Finding.{Finding};
-ghost use Rattle.md_question_solve.specs.Found.{ClaimsEnd, HasValueIn, IsFound, IsFoundBy, IsLeftFor, reading_in};
-ghost use Rattle.md_question_solve.specs.Readings.{HasFractions, WhereBest};
+ghost use Rattle.md_question_solve.specs.Found.{ClaimsEnd, HasValueIn, IsFound, IsFoundBy, IsLeftFor, IsOfPoint, reading_in};
+ghost use Rattle.md_question_solve.specs.Readings.{HasFractions, IsOfBestPoint, WhereBest};
 
 use crate::read::read_program;
 use crate::reading::Reading;
@@ -44,6 +44,7 @@ pub fn solve_question<Q: Asks>(
     // What is claimed is so, over mechanisms of any denominator, with numbers of any size.
     ensures so { IfOk result (IsSo (Q.asked question.now)) }
     ensures admitted { IfOk result (WhereUnbounded (λ mechanism ray. (Q.asked question.now).admits mechanism)) }
+    ensures of_point { IfOk result (WhereOptimal (λ value mechanism bound. IsOfPoint (Q.asked question.now) mechanism)) }
 
     // Where a path is taken, the claim is that of its end.
     ensures taken { (p : Program) (order : Order) (pivots : List Pivot) (step : Step) → IsProgramFor (Q.asked question.now) p → IsTaken order p width pivots step → MatchResult result (ClaimsEnd step) (λ error. error ≡ SimplexError.Memory) }
@@ -79,6 +80,7 @@ pub(crate) fn found<Q: Asks>(
 ) -> Result<Finding, SimplexError>
     requires { IsProgramFor (Q.asked question.now) lp.now }
     ensures found { IfOk result (IsFoundBy (Q.asked question.now) lp.now width) }
+    ensures of_point { IfOk result (WhereOptimal (λ value mechanism bound. IsOfBestPoint (Q.asked question.now).setting lp.now mechanism)) }
     ensures left { IfErr result (IsLeft lp.now width) }
     ensures writable { IfOk result (IsFindingTo (Q.asked question.now)) }
     ensures wide_writable { IfErr result HasFractions }

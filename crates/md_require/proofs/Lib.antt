@@ -13,6 +13,7 @@ pub mod StandingLaws
 pub mod MovedDuality
 pub mod MovedForms
 pub mod ShadowLaws
+pub mod SlackLaws
 pub mod ShortLaws
 pub mod PriceLaws
 pub mod DivisorLaws

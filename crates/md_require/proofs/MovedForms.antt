@@ -63,60 +63,64 @@ shared n (f ∷ fs) (row ∷ rows) are =
 
 -- ---- right sides that move
 
--- another right side alone
-abbrev pub AreLike : (ℕ → ℤ) → List Form → List Form → Type 0
-AreLike x [] [] = Unit {0}
-AreLike x [] (g ∷ gs) = ⊥
-AreLike x (f ∷ fs) [] = ⊥
-AreLike x (f ∷ fs) (g ∷ gs) = (g.kind ≡ f.kind) × (g.left x ≡ f.left x) × AreLike x fs gs
+-- the same conditions with other right sides, in other terms: so many times the left sides
+abbrev pub AreLike : ℤ → (ℕ → ℤ) → List Form → List Form → Type 0
+AreLike scale x [] [] = Unit {0}
+AreLike scale x [] (g ∷ gs) = ⊥
+AreLike scale x (f ∷ fs) [] = ⊥
+AreLike scale x (f ∷ fs) (g ∷ gs) = (g.kind ≡ f.kind) × (g.left x ≡ scale *ℤ f.left x) × AreLike scale x fs gs
 
 -- where a right side moves, its row has no face multiplier
-abbrev pub AreStill : (ℕ → ℤ) → List Form → List Form → Type 0
-AreStill face [] [] = Unit {0}
-AreStill face [] (g ∷ gs) = ⊥
-AreStill face (f ∷ fs) [] = ⊥
-AreStill face (f ∷ fs) (g ∷ gs) = ((g.right -ℤ f.right) *ℤ face 0 ≡ pos 0) × AreStill (λ r. face (suc r)) fs gs
+abbrev pub AreStill : ℤ → (ℕ → ℤ) → List Form → List Form → Type 0
+AreStill scale face [] [] = Unit {0}
+AreStill scale face [] (g ∷ gs) = ⊥
+AreStill scale face (f ∷ fs) [] = ⊥
+AreStill scale face (f ∷ fs) (g ∷ gs) = ((g.right -ℤ scale *ℤ f.right) *ℤ face 0 ≡ pos 0) × AreStill scale (λ r. face (suc r)) fs gs
 
 -- what each right side moved by, times its share
-abbrev pub moved_at : (ℕ → ℤ) → List Form → List Form → ℕ → ℤ
-moved_at shares [] gs r = pos 0
-moved_at shares (f ∷ fs) [] r = pos 0
-moved_at shares (f ∷ fs) (g ∷ gs) zero = shares 0 *ℤ (g.right -ℤ f.right)
-moved_at shares (f ∷ fs) (g ∷ gs) (suc r) = moved_at (λ q. shares (suc q)) fs gs r
+abbrev pub moved_at : ℤ → (ℕ → ℤ) → List Form → List Form → ℕ → ℤ
+moved_at scale shares [] gs r = pos 0
+moved_at scale shares (f ∷ fs) [] r = pos 0
+moved_at scale shares (f ∷ fs) (g ∷ gs) zero = shares 0 *ℤ (g.right -ℤ scale *ℤ f.right)
+moved_at scale shares (f ∷ fs) (g ∷ gs) (suc r) = moved_at scale (λ q. shares (suc q)) fs gs r
 
 -- all of it, by the main multipliers
-abbrev pub gained : (ℕ → ℤ) → (ℕ → ℤ) → List Form → List Form → ℤ
-gained shares main [] gs = pos 0
-gained shares main (f ∷ fs) [] = pos 0
-gained shares main (f ∷ fs) (g ∷ gs) = (shares 0 *ℤ (g.right -ℤ f.right)) *ℤ main 0 +ℤ gained (λ r. shares (suc r)) (λ r. main (suc r)) fs gs
+abbrev pub gained : ℤ → (ℕ → ℤ) → (ℕ → ℤ) → List Form → List Form → ℤ
+gained scale shares main [] gs = pos 0
+gained scale shares main (f ∷ fs) [] = pos 0
+gained scale shares main (f ∷ fs) (g ∷ gs) = (shares 0 *ℤ (g.right -ℤ scale *ℤ f.right)) *ℤ main 0 +ℤ gained scale (λ r. shares (suc r)) (λ r. main (suc r)) fs gs
 
-gained-dot : (shares main : ℕ → ℤ) (x : ℕ → ℤ) (fs gs : List Form) → AreLike x fs gs → dot (length fs) (moved_at shares fs gs) main ≡ gained shares main fs gs
-gained-dot shares main x [] [] like = refl
-gained-dot shares main x [] (g ∷ gs) like = absurd like
-gained-dot shares main x (f ∷ fs) [] like = absurd like
-gained-dot shares main x (f ∷ fs) (g ∷ gs) like =
-    let each : ℕ → ℤ = λ r. moved_at shares (f ∷ fs) (g ∷ gs) r *ℤ main r in
+gained-dot : (scale : ℤ) (shares main : ℕ → ℤ) (x : ℕ → ℤ) (fs gs : List Form) → AreLike scale x fs gs → dot (length fs) (moved_at scale shares fs gs) main ≡ gained scale shares main fs gs
+gained-dot scale shares main x [] [] like = refl
+gained-dot scale shares main x [] (g ∷ gs) like = absurd like
+gained-dot scale shares main x (f ∷ fs) [] like = absurd like
+gained-dot scale shares main x (f ∷ fs) (g ∷ gs) like =
+    let each : ℕ → ℤ = λ r. moved_at scale shares (f ∷ fs) (g ∷ gs) r *ℤ main r in
     let later : sum_to (length fs) (λ r. each (r + 1)) ≡ sum_to (length fs) (λ r. each (suc r)) = sum_to-same (length fs) (λ r. each (r + 1)) (λ r. each (suc r)) (λ r l. (let next : r + 1 ≡ suc r = omega arith in ap each next)) in
-    sum_to-front (length fs) each ∙ ap (λ z. each 0 +ℤ z) (later ∙ gained-dot (λ r. shares (suc r)) (λ r. main (suc r)) x fs gs like.2)
+    sum_to-front (length fs) each ∙ ap (λ z. each 0 +ℤ z) (later ∙ gained-dot scale (λ r. shares (suc r)) (λ r. main (suc r)) x fs gs like.2)
 
 -- one row
-module _ (share by times e right fixed moved : ℤ) (is : share *ℤ by ≡ times) (right_is : fixed ≡ by *ℤ right) where
-  moved-right : times *ℤ (e *ℤ right) +ℤ e *ℤ (share *ℤ (moved -ℤ fixed)) ≡ share *ℤ (e *ℤ moved)
+module _ (scale share by times e right fixed moved : ℤ) (is : share *ℤ by ≡ times) (right_is : fixed ≡ by *ℤ right) where
+  moved-right : (scale *ℤ times) *ℤ (e *ℤ right) +ℤ e *ℤ (share *ℤ (moved -ℤ scale *ℤ fixed)) ≡ share *ℤ (e *ℤ moved)
   moved-right =
-      ap (λ z. z +ℤ e *ℤ (share *ℤ (moved -ℤ fixed))) (ap (λ z. z *ℤ (e *ℤ right)) (sym is) ∙ part share by e right ∙ ap (λ z. e *ℤ (share *ℤ z)) (sym right_is))
-      ∙ whole e share fixed moved
+      ap (λ z. z +ℤ e *ℤ (share *ℤ (moved -ℤ scale *ℤ fixed)))
+      (ap (λ z. (scale *ℤ z) *ℤ (e *ℤ right)) (sym is) ∙ part scale share by e right ∙ ap (λ z. e *ℤ (share *ℤ (scale *ℤ z))) (sym right_is))
+      ∙ whole e share (scale *ℤ fixed) moved
     where
-      part : (a b c d : ℤ) → (a *ℤ b) *ℤ (c *ℤ d) ≡ c *ℤ (a *ℤ (b *ℤ d))
-      part a b c d = simp ring
+      part : (s a b c d : ℤ) → (s *ℤ (a *ℤ b)) *ℤ (c *ℤ d) ≡ c *ℤ (a *ℤ (s *ℤ (b *ℤ d)))
+      part s a b c d = simp ring
 
       whole : (c a f m : ℤ) → c *ℤ (a *ℤ f) +ℤ c *ℤ (a *ℤ (m -ℤ f)) ≡ a *ℤ (c *ℤ m)
       whole c a f m = simp ring (omega (arith, linear))
 
-  own-left : (left row : ℤ) → left ≡ by *ℤ row → times *ℤ row ≡ share *ℤ left
-  own-left left row left_is = ap (λ z. z *ℤ row) (sym is) ∙ *ℤ_assoc share by row ∙ ap (λ z. share *ℤ z) (sym left_is)
+  own-left : (left row : ℤ) → left ≡ scale *ℤ (by *ℤ row) → (scale *ℤ times) *ℤ row ≡ share *ℤ left
+  own-left left row left_is = ap (λ z. (scale *ℤ z) *ℤ row) (sym is) ∙ turn scale share by row ∙ ap (λ z. share *ℤ z) (sym left_is)
+    where
+      turn : (s a b c : ℤ) → (s *ℤ (a *ℤ b)) *ℤ c ≡ a *ℤ (s *ℤ (b *ℤ c))
+      turn s a b c = simp ring
 
-  kept-one : (kind : RowKind) (left row : ℤ) → pos 0 <ℤ share → left ≡ by *ℤ row → Keeps kind left (e *ℤ moved)
-      → Keeps kind (times *ℤ row) (times *ℤ (e *ℤ right) +ℤ e *ℤ (share *ℤ (moved -ℤ fixed)))
+  kept-one : (kind : RowKind) (left row : ℤ) → pos 0 <ℤ share → left ≡ scale *ℤ (by *ℤ row) → Keeps kind left (e *ℤ moved)
+      → Keeps kind ((scale *ℤ times) *ℤ row) ((scale *ℤ times) *ℤ (e *ℤ right) +ℤ e *ℤ (share *ℤ (moved -ℤ scale *ℤ fixed)))
   kept-one AtMost left row up left_is keeps =
       let scaled : (share *ℤ left) ≤ℤ (share *ℤ (e *ℤ moved)) = *ℤ-le share left (e *ℤ moved) (le_from_lt (pos 0) share up) keeps in
       let mine = own-left left row left_is in
@@ -125,44 +129,49 @@ module _ (share by times e right fixed moved : ℤ) (is : share *ℤ by ≡ time
   kept-one Exact left row up left_is keeps = own-left left row left_is ∙ ap (λ z. share *ℤ z) keeps ∙ sym moved-right
 
 -- all rows
-kept-at : (n : ℕ) (times e : ℤ) (x shares : ℕ → ℤ) (fs gs : List Form) (rows : List Row) (are : AreRowsOf n fs rows) → AreSharesOf n times shares fs rows are → AreLike x fs gs → All (Holds e x) gs
-    → (r : ℕ) (d : Row) → r < length rows → Keeps (get_or rows r d).kind (times *ℤ left_of n (get_or rows r d) x) (times *ℤ (e *ℤ (get_or rows r d).right) +ℤ e *ℤ moved_at shares fs gs r)
-kept-at n times e x shares [] gs [] are h like holds r d b = absurd (omega arith)
-kept-at n times e x shares [] gs (row ∷ rows) are h like holds r d b = absurd h
-kept-at n times e x shares (f ∷ fs) gs [] are h like holds r d b = absurd h
-kept-at n times e x shares (f ∷ fs) [] (row ∷ rows) are h like holds r d b = absurd like
-kept-at n times e x shares (f ∷ fs) (g ∷ gs) (row ∷ rows) are h like holds zero d b =
-    let here : Holds e x g = All-head (Holds e x) g gs holds in
-    subst (λ k. Keeps k (times *ℤ left_of n row x) (times *ℤ (e *ℤ row.right) +ℤ e *ℤ (shares 0 *ℤ (g.right -ℤ f.right)))) (like.0 ∙ sym are.0.kind)
-    (kept-one (shares 0) are.0.by times e row.right f.right g.right h.1 are.0.right g.kind (g.left x) (left_of n row x) h.0 (like.1 ∙ are.0.left x) here)
-kept-at n times e x shares (f ∷ fs) (g ∷ gs) (row ∷ rows) are h like holds (suc r) d b =
-    kept-at n times e x (λ q. shares (suc q)) fs gs rows are.1 h.2 like.2 (All-tail (Holds e x) g gs holds) r d (omega arith)
+module _ (n : ℕ) (scale times e : ℤ) (x : ℕ → ℤ) where
+  kept-at : (shares : ℕ → ℤ) (fs gs : List Form) (rows : List Row) (are : AreRowsOf n fs rows) → AreSharesOf n times shares fs rows are → AreLike scale x fs gs → All (Holds e x) gs
+      → (r : ℕ) (d : Row) → r < length rows
+      → Keeps (get_or rows r d).kind ((scale *ℤ times) *ℤ left_of n (get_or rows r d) x) ((scale *ℤ times) *ℤ (e *ℤ (get_or rows r d).right) +ℤ e *ℤ moved_at scale shares fs gs r)
+  kept-at shares [] gs [] are h like holds r d b = absurd (omega arith)
+  kept-at shares [] gs (row ∷ rows) are h like holds r d b = absurd h
+  kept-at shares (f ∷ fs) gs [] are h like holds r d b = absurd h
+  kept-at shares (f ∷ fs) [] (row ∷ rows) are h like holds r d b = absurd like
+  kept-at shares (f ∷ fs) (g ∷ gs) (row ∷ rows) are h like holds zero d b =
+      let here : Holds e x g = All-head (Holds e x) g gs holds in
+      subst (λ k. Keeps k ((scale *ℤ times) *ℤ left_of n row x) ((scale *ℤ times) *ℤ (e *ℤ row.right) +ℤ e *ℤ (shares 0 *ℤ (g.right -ℤ scale *ℤ f.right)))) (like.0 ∙ sym are.0.kind)
+      (kept-one scale (shares 0) are.0.by times e row.right f.right g.right h.1 are.0.right g.kind (g.left x) (left_of n row x) h.0 (like.1 ∙ ap (λ z. scale *ℤ z) (are.0.left x)) here)
+  kept-at shares (f ∷ fs) (g ∷ gs) (row ∷ rows) are h like holds (suc r) d b =
+      kept-at (λ q. shares (suc q)) fs gs rows are.1 h.2 like.2 (All-tail (Holds e x) g gs holds) r d (omega arith)
 
-still-at : (e : ℤ) (x shares face : ℕ → ℤ) (fs gs : List Form) → AreLike x fs gs → AreStill face fs gs → (r : ℕ) → (e *ℤ moved_at shares fs gs r) *ℤ face r ≡ pos 0
-still-at e x shares face [] gs like still r = ap (λ z. z *ℤ face r) (*ℤ-zero e) ∙ zero-*ℤ (face r)
-still-at e x shares face (f ∷ fs) [] like still r = absurd like
-still-at e x shares face (f ∷ fs) (g ∷ gs) like still zero = turn e (shares 0) (g.right -ℤ f.right) (face 0) ∙ ap (λ z. e *ℤ (shares 0 *ℤ z)) still.0 ∙ ap (λ z. e *ℤ z) (*ℤ-zero (shares 0)) ∙ *ℤ-zero e
+still-at : (scale e : ℤ) (x shares face : ℕ → ℤ) (fs gs : List Form) → AreLike scale x fs gs → AreStill scale face fs gs → (r : ℕ) → (e *ℤ moved_at scale shares fs gs r) *ℤ face r ≡ pos 0
+still-at scale e x shares face [] gs like still r = ap (λ z. z *ℤ face r) (*ℤ-zero e) ∙ zero-*ℤ (face r)
+still-at scale e x shares face (f ∷ fs) [] like still r = absurd like
+still-at scale e x shares face (f ∷ fs) (g ∷ gs) like still zero =
+    turn e (shares 0) (g.right -ℤ scale *ℤ f.right) (face 0) ∙ ap (λ z. e *ℤ (shares 0 *ℤ z)) still.0 ∙ ap (λ z. e *ℤ z) (*ℤ-zero (shares 0)) ∙ *ℤ-zero e
   where
     turn : (a b c d : ℤ) → (a *ℤ (b *ℤ c)) *ℤ d ≡ a *ℤ (b *ℤ (c *ℤ d))
     turn a b c d = simp ring
-still-at e x shares face (f ∷ fs) (g ∷ gs) like still (suc r) = still-at e x (λ q. shares (suc q)) (λ q. face (suc q)) fs gs like.2 still.1 r
+still-at scale e x shares face (f ∷ fs) (g ∷ gs) like still (suc r) = still-at scale e x (λ q. shares (suc q)) (λ q. face (suc q)) fs gs like.2 still.1 r
 
 -- ---- the bound
 
 module _ (n : ℕ) (forms moved : List Form) (cost : (ℕ → ℤ) → ℤ) (p : Program) (is : IsProgramOf n forms cost p) where
   -- a point at which the moved forms hold costs at most the bound and what its right sides moved by
-  pub bound-moved : (den over e times : ℤ) (point main face x shares : ℕ → ℤ) → IsOptimalCertified p den point over main face → pos 0 <ℤ times → AreSharesOf n times shares forms p.rows is.rows
-      → ((j : ℕ) → j < p.columns → pos 0 ≤ℤ x j) → AreLike x forms moved → AreStill face forms moved → All (Holds e x) moved
-      → (times *ℤ (over *ℤ cost_sum p x)) ≤ℤ (times *ℤ (e *ℤ right_sum p main) +ℤ e *ℤ gained shares main forms moved)
-  bound-moved den over e times point main face x shares c up each nonneg like still holds =
-      let sum : dot (row_count p) (λ r. e *ℤ moved_at shares forms moved r) main ≡ e *ℤ gained shares main forms moved =
-      *ℤ-dot (row_count p) e (moved_at shares forms moved) main
-      ∙ ap (λ z. e *ℤ z) (ap (λ k. dot k (moved_at shares forms moved) main) (rows-length n forms p.rows is.rows) ∙ gained-dot shares main x forms moved like) in
-      subst (λ z. (times *ℤ (over *ℤ cost_sum p x)) ≤ℤ (times *ℤ (e *ℤ right_sum p main) +ℤ z)) sum
-      (bounded-moved p times e x (λ r. e *ℤ moved_at shares forms moved r) over face main (le_from_lt (pos 0) times up) nonneg c.pairs c.columns c.face_right
-      (λ r b. kept r b) (λ r b. still-at e x shares face forms moved like still r))
+  pub bound-moved : (den over e scale times : ℤ) (point main face x shares : ℕ → ℤ) → IsOptimalCertified p den point over main face → pos 0 <ℤ scale → pos 0 <ℤ times
+      → AreSharesOf n times shares forms p.rows is.rows → ((j : ℕ) → j < p.columns → pos 0 ≤ℤ x j) → AreLike scale x forms moved → AreStill scale face forms moved → All (Holds e x) moved
+      → ((scale *ℤ times) *ℤ (over *ℤ cost_sum p x)) ≤ℤ ((scale *ℤ times) *ℤ (e *ℤ right_sum p main) +ℤ e *ℤ gained scale shares main forms moved)
+  bound-moved den over e scale times point main face x shares c up_scale up each nonneg like still holds =
+      let up_both : pos 0 <ℤ (scale *ℤ times) = positive-*ℤ scale times up_scale up in
+      let sum : dot (row_count p) (λ r. e *ℤ moved_at scale shares forms moved r) main ≡ e *ℤ gained scale shares main forms moved =
+      *ℤ-dot (row_count p) e (moved_at scale shares forms moved) main
+      ∙ ap (λ z. e *ℤ z) (ap (λ k. dot k (moved_at scale shares forms moved) main) (rows-length n forms p.rows is.rows) ∙ gained-dot scale shares main x forms moved like) in
+      subst (λ z. ((scale *ℤ times) *ℤ (over *ℤ cost_sum p x)) ≤ℤ ((scale *ℤ times) *ℤ (e *ℤ right_sum p main) +ℤ z)) sum
+      (bounded-moved p (scale *ℤ times) e x (λ r. e *ℤ moved_at scale shares forms moved r) over face main (le_from_lt (pos 0) (scale *ℤ times) up_both) nonneg c.pairs c.columns c.face_right
+      (λ r b. kept r b) (λ r b. still-at scale e x shares face forms moved like still r))
     where
-      kept : (r : ℕ) → r < row_count p → Keeps (row_at p r).kind (times *ℤ left_of p.columns (row_at p r) x) (times *ℤ (e *ℤ (row_at p r).right) +ℤ e *ℤ moved_at shares forms moved r)
+      kept : (r : ℕ) → r < row_count p
+          → Keeps (row_at p r).kind ((scale *ℤ times) *ℤ left_of p.columns (row_at p r) x) ((scale *ℤ times) *ℤ (e *ℤ (row_at p r).right) +ℤ e *ℤ moved_at scale shares forms moved r)
       kept r b =
-          subst (λ k. Keeps (row_at p r).kind (times *ℤ left_of k (row_at p r) x) (times *ℤ (e *ℤ (row_at p r).right) +ℤ e *ℤ moved_at shares forms moved r)) (sym is.columns)
-          (kept-at n times e x shares forms moved p.rows is.rows each like holds r (record { kind = AtMost; terms = []; right = pos 0 }) b)
+          subst (λ k. Keeps (row_at p r).kind ((scale *ℤ times) *ℤ left_of k (row_at p r) x) ((scale *ℤ times) *ℤ (e *ℤ (row_at p r).right) +ℤ e *ℤ moved_at scale shares forms moved r)) (sym is.columns)
+          (kept-at n scale times e x shares forms moved p.rows is.rows each like holds r (record { kind = AtMost; terms = []; right = pos 0 }) b)

@@ -1,13 +1,14 @@
 -- What shadows that are read off the multipliers of a certificate say of bounds that move.
-use Rattle.std.proofs.Common.{◌≡◌, ℕ, suc, ◌+◌, ◌<◌, ℤ, pos, ◌+ℤ◌, ◌-ℤ◌, ◌*ℤ◌, ◌≤ℤ◌, ◌<ℤ◌, List, [], ◌∷◌, ◌++◌, length, All, Option, Some, None, refl, sym, ap, ap₂, ◌∙◌, subst, arith}
+use Rattle.std.proofs.Common.{◌≡◌, ℕ, suc, ◌+◌, ◌<◌, ℤ, pos, ◌+ℤ◌, ◌-ℤ◌, ◌*ℤ◌, neg_ℤ, ◌≤ℤ◌, ◌<ℤ◌, List, [], ◌∷◌, ◌++◌, length, All, Option, Some, None, refl, sym, ap, ap₂, ◌∙◌, subst, arith}
 use Rattle.std.specs.Prelude.{flat_map, map}
 use mathlib.Core.Path.{fun_ext}
 use Rattle.std.proofs.lemmas.List.{length-map}
 use Rattle.std.proofs.lemmas.List.Elements.{All-append, All-cons, All-head, All-nil, All-tail}
 use Rattle.md_math.specs.Lists.{number_at}
 use Rattle.md_math.specs.Sums.{total}
+use Rattle.md_math.proofs.Builders.{All-left, All-right}
 use Rattle.md_math.proofs.Order.{*ℤ_cancel, *ℤ-le, le_from_*ℤ, le_from_lt, positive-*ℤ}
-use Rattle.md_math.proofs.Ring.{linear, ring, *ℤ-zero, zero-*ℤ}
+use Rattle.md_math.proofs.Ring.{linear, ring, one-*ℤ, *ℤ_assoc, *ℤ_left_comm, *ℤ-zero, zero-*ℤ}
 use Rattle.md_num.specs.declared.frac.Frac.{Frac}
 use Rattle.md_setting.specs.Setting.{GeneralSetting}
 use Rattle.md_setting.specs.Meaning.{total_of}
@@ -17,9 +18,9 @@ use Rattle.md_mech.specs.Mechanism.{IsMechanism}
 use Rattle.md_mech.specs.Optimal.{worth_of}
 use Rattle.md_mech.specs.Rows.{conditions_of}
 use Rattle.md_lp.specs.Divided.{IsDivisorFor}
-use Rattle.md_lp.specs.Program.{Program, Row}
+use Rattle.md_lp.specs.Program.{Keeps, Program, Row}
 use Rattle.md_lp.specs.Point.{Meets, cost_sum, right_sum}
-use Rattle.md_lp.proofs.Dividing.{IsDivisorFor-positive, IsDivisorFor-same}
+use Rattle.md_lp.proofs.Dividing.{IsDivisorFor-positive, IsDivisorFor-same, Keeps-times}
 use Rattle.md_cert.specs.Certified.{IsOptimalCertified}
 use Rattle.md_cert.specs.declared.bound.Bound.{Bound}
 use Rattle.md_forms.specs.Forms.{Form, Holds, number_of}
@@ -37,7 +38,7 @@ use Rattle.md_require.specs.Amounts.{Amount, amounts_of, whole_of}
 use Rattle.md_require.specs.Places.{AreIn, IsIn}
 use Rattle.md_require.specs.Required.{IsRequired}
 use Rattle.md_require.specs.RequireProgram.{amount_form, amount_in, at_most_by, condition_forms, require_forms, IsRequireProgram}
-use Rattle.md_require.specs.Shadows.{AreFirm, AreParts, AreShadows, AreShadowsBy, AreToldShadows, from, IsDividedBy, IsMoved, IsPart, IsToldShadow, priced}
+use Rattle.md_require.specs.Shadows.{AreFirm, AreParts, AreShadowsBy, AreToldShadows, from, IsDividedBy, IsMoved, IsPart, IsToldShadow, LimitGains, move_of, priced}
 use Rattle.md_require.proofs.OwnProgram.{is-own, own_program}
 use Rattle.md_require.proofs.PointLaws.{all-held}
 use Rattle.md_require.proofs.MovedForms.{AreLike, AreSharesOf, AreStill, bound-moved, gained, shared}
@@ -52,47 +53,60 @@ from-suc k f = fun_ext (λ r. (let same : suc k + r ≡ suc (k + r) = omega arit
 
 -- ---- lists of forms, one behind the other
 
-like-same : (x : ℕ → ℤ) (fs : List Form) → AreLike x fs fs
-like-same x [] = tt
-like-same x (f ∷ fs) = (refl, refl, like-same x fs)
+-- the form, in other terms: so many times both its sides
+abbrev scaled_form : ℤ → Form → Form
+scaled_form scale f = record { kind = f.kind; left = λ x. scale *ℤ f.left x; right = scale *ℤ f.right }
 
-like-append : (x : ℕ → ℤ) (fs gs hs ks : List Form) → AreLike x fs gs → AreLike x hs ks → AreLike x (fs ++ hs) (gs ++ ks)
-like-append x [] [] hs ks a b = b
-like-append x [] (g ∷ gs) hs ks a b = absurd a
-like-append x (f ∷ fs) [] hs ks a b = absurd a
-like-append x (f ∷ fs) (g ∷ gs) hs ks a b = (a.0, a.1, like-append x fs gs hs ks a.2 b)
+holds-scaled : (scale e : ℤ) (x : ℕ → ℤ) (f : Form) → pos 0 <ℤ scale → Holds e x f → Holds e x (scaled_form scale f)
+holds-scaled scale e x f up h = subst (λ z. Keeps f.kind (scale *ℤ f.left x) z) (*ℤ_left_comm scale e f.right) ((Keeps-times f.kind scale (f.left x) (e *ℤ f.right) up).1 h)
+
+all-scaled : (scale e : ℤ) (x : ℕ → ℤ) (fs : List Form) → pos 0 <ℤ scale → All (Holds e x) fs → All (Holds e x) (map (scaled_form scale) fs)
+all-scaled scale e x [] up h = All-nil (Holds e x)
+all-scaled scale e x (f ∷ fs) up h =
+    All-cons (Holds e x) (scaled_form scale f) (map (scaled_form scale) fs) (holds-scaled scale e x f up (All-head (Holds e x) f fs h)) (all-scaled scale e x fs up (All-tail (Holds e x) f fs h))
+
+like-scaled : (scale : ℤ) (x : ℕ → ℤ) (fs : List Form) → AreLike scale x fs (map (scaled_form scale) fs)
+like-scaled scale x [] = tt
+like-scaled scale x (f ∷ fs) = (refl, refl, like-scaled scale x fs)
+
+like-append : (scale : ℤ) (x : ℕ → ℤ) (fs gs hs ks : List Form) → AreLike scale x fs gs → AreLike scale x hs ks → AreLike scale x (fs ++ hs) (gs ++ ks)
+like-append scale x [] [] hs ks a b = b
+like-append scale x [] (g ∷ gs) hs ks a b = absurd a
+like-append scale x (f ∷ fs) [] hs ks a b = absurd a
+like-append scale x (f ∷ fs) (g ∷ gs) hs ks a b = (a.0, a.1, like-append scale x fs gs hs ks a.2 b)
 
 nothing-moved : (z f : ℤ) → (z -ℤ z) *ℤ f ≡ pos 0
 nothing-moved z f = (let none : z -ℤ z ≡ pos 0 = omega (arith, linear) in ap (λ d. d *ℤ f) none ∙ zero-*ℤ f)
 
-still-same : (face : ℕ → ℤ) (fs : List Form) → AreStill face fs fs
-still-same face [] = tt
-still-same face (f ∷ fs) = (nothing-moved f.right (face 0), still-same (λ r. face (suc r)) fs)
+still-scaled : (scale : ℤ) (face : ℕ → ℤ) (fs : List Form) → AreStill scale face fs (map (scaled_form scale) fs)
+still-scaled scale face [] = tt
+still-scaled scale face (f ∷ fs) = (nothing-moved (scale *ℤ f.right) (face 0), still-scaled scale (λ r. face (suc r)) fs)
 
-still-append : (face : ℕ → ℤ) (fs gs hs ks : List Form) → AreStill face fs gs → AreStill (from (length fs) face) hs ks → AreStill face (fs ++ hs) (gs ++ ks)
-still-append face [] [] hs ks a b = subst (λ g. AreStill g hs ks) (from-zero face) b
-still-append face [] (g ∷ gs) hs ks a b = absurd a
-still-append face (f ∷ fs) [] hs ks a b = absurd a
-still-append face (f ∷ fs) (g ∷ gs) hs ks a b = (a.0, still-append (λ r. face (suc r)) fs gs hs ks a.1 (subst (λ g. AreStill g hs ks) (from-suc (length fs) face) b))
+still-append : (scale : ℤ) (face : ℕ → ℤ) (fs gs hs ks : List Form) → AreStill scale face fs gs → AreStill scale (from (length fs) face) hs ks → AreStill scale face (fs ++ hs) (gs ++ ks)
+still-append scale face [] [] hs ks a b = subst (λ g. AreStill scale g hs ks) (from-zero face) b
+still-append scale face [] (g ∷ gs) hs ks a b = absurd a
+still-append scale face (f ∷ fs) [] hs ks a b = absurd a
+still-append scale face (f ∷ fs) (g ∷ gs) hs ks a b = (a.0, still-append scale (λ r. face (suc r)) fs gs hs ks a.1 (subst (λ g. AreStill scale g hs ks) (from-suc (length fs) face) b))
 
-gained-same : (shares main : ℕ → ℤ) (fs : List Form) → gained shares main fs fs ≡ pos 0
-gained-same shares main [] = refl
-gained-same shares main (f ∷ fs) =
-    let here : (shares 0 *ℤ (f.right -ℤ f.right)) *ℤ main 0 ≡ pos 0 = (let none : f.right -ℤ f.right ≡ pos 0 = omega (arith, linear) in ap (λ d. (shares 0 *ℤ d) *ℤ main 0) none ∙ ap (λ z. z *ℤ main 0) (*ℤ-zero (shares 0)) ∙ zero-*ℤ (main 0)) in
-    let later = gained-same (λ r. shares (suc r)) (λ r. main (suc r)) fs in
+gained-scaled : (scale : ℤ) (shares main : ℕ → ℤ) (fs : List Form) → gained scale shares main fs (map (scaled_form scale) fs) ≡ pos 0
+gained-scaled scale shares main [] = refl
+gained-scaled scale shares main (f ∷ fs) =
+    let right = scale *ℤ f.right in
+    let here : (shares 0 *ℤ (right -ℤ right)) *ℤ main 0 ≡ pos 0 = (let none : right -ℤ right ≡ pos 0 = omega (arith, linear) in ap (λ d. (shares 0 *ℤ d) *ℤ main 0) none ∙ ap (λ z. z *ℤ main 0) (*ℤ-zero (shares 0)) ∙ zero-*ℤ (main 0)) in
+    let later = gained-scaled scale (λ r. shares (suc r)) (λ r. main (suc r)) fs in
     omega (arith, linear, here, later)
 
-gained-append : (x shares main : ℕ → ℤ) (fs gs hs ks : List Form) → AreLike x fs gs
-    → gained shares main (fs ++ hs) (gs ++ ks) ≡ gained shares main fs gs +ℤ gained (from (length fs) shares) (from (length fs) main) hs ks
-gained-append x shares main [] [] hs ks a =
-    let same : gained (from 0 shares) (from 0 main) hs ks ≡ gained shares main hs ks = ap₂ (λ y z. gained y z hs ks) (from-zero shares) (from-zero main) in
+gained-append : (scale : ℤ) (x shares main : ℕ → ℤ) (fs gs hs ks : List Form) → AreLike scale x fs gs
+    → gained scale shares main (fs ++ hs) (gs ++ ks) ≡ gained scale shares main fs gs +ℤ gained scale (from (length fs) shares) (from (length fs) main) hs ks
+gained-append scale x shares main [] [] hs ks a =
+    let same : gained scale (from 0 shares) (from 0 main) hs ks ≡ gained scale shares main hs ks = ap₂ (λ y z. gained scale y z hs ks) (from-zero shares) (from-zero main) in
     omega (arith, linear, same)
-gained-append x shares main [] (g ∷ gs) hs ks a = absurd a
-gained-append x shares main (f ∷ fs) [] hs ks a = absurd a
-gained-append x shares main (f ∷ fs) (g ∷ gs) hs ks a =
-    let later = gained-append x (λ r. shares (suc r)) (λ r. main (suc r)) fs gs hs ks a.2 in
-    let same : gained (from (suc (length fs)) shares) (from (suc (length fs)) main) hs ks ≡ gained (from (length fs) (λ r. shares (suc r))) (from (length fs) (λ r. main (suc r))) hs ks =
-    ap₂ (λ y z. gained y z hs ks) (from-suc (length fs) shares) (from-suc (length fs) main) in
+gained-append scale x shares main [] (g ∷ gs) hs ks a = absurd a
+gained-append scale x shares main (f ∷ fs) [] hs ks a = absurd a
+gained-append scale x shares main (f ∷ fs) (g ∷ gs) hs ks a =
+    let later = gained-append scale x (λ r. shares (suc r)) (λ r. main (suc r)) fs gs hs ks a.2 in
+    let same : gained scale (from (suc (length fs)) shares) (from (suc (length fs)) main) hs ks ≡ gained scale (from (length fs) (λ r. shares (suc r))) (from (length fs) (λ r. main (suc r))) hs ks =
+    ap₂ (λ y z. gained scale y z hs ks) (from-suc (length fs) shares) (from-suc (length fs) main) in
     omega (arith, linear, later, same)
 
 -- ---- shares of forms
@@ -121,28 +135,61 @@ shares-right n times shares (f ∷ fs) gs h = subst (λ g. AreFormShares n times
 
 -- ---- one condition
 
+-- the rows of a condition that has moved, in terms in which their left sides are `times * d.den` times those of the condition's own
+abbrev moved_rows : GeneralSetting → Condition → Condition → ℤ → List Amount → List Form
+moved_rows s c d times these = map (scaled_form (times *ℤ c.den)) (map (amount_form s d) these)
+
+terms-apart : (t a b m n w : ℤ) → (t *ℤ a) *ℤ (n *ℤ w) -ℤ (t *ℤ b) *ℤ (m *ℤ w) ≡ (t *ℤ (n *ℤ a -ℤ m *ℤ b)) *ℤ w
+terms-apart t a b m n w = simp ring (omega (arith, linear))
+
+turned-apart : (t a b m n w : ℤ) → (t *ℤ a) *ℤ neg_ℤ (n *ℤ w) -ℤ (t *ℤ b) *ℤ neg_ℤ (m *ℤ w) ≡ (t *ℤ (n *ℤ a -ℤ m *ℤ b)) *ℤ neg_ℤ w
+turned-apart t a b m n w = simp ring (omega (arith, linear))
+
 module _ (s : GeneralSetting) where
-  like-amounts : (c d : Condition) (x : ℕ → ℤ) (these : List Amount) → IsMoved c d → AreLike x (map (amount_form s c) these) (map (amount_form s d) these)
-  like-amounts c d x [] h = tt
-  like-amounts c d x (a ∷ these) h = (refl, ap₂ (λ side den. at_most_by side (den *ℤ amount_in s x a)) h.side h.den, like-amounts c d x these h)
+  module _ (c d : Condition) (times scale : ℤ) (h : IsMoved c d) (is : scale ≡ times *ℤ d.den) where
+    side-left : (side : Side) (z : ℤ) → (times *ℤ c.den) *ℤ at_most_by side (d.den *ℤ z) ≡ scale *ℤ at_most_by side (c.den *ℤ z)
+    side-left side z = by_side side ∙ ap (λ k. k *ℤ at_most_by side (c.den *ℤ z)) (sym is)
+      where
+        by_side : (side : Side) → (times *ℤ c.den) *ℤ at_most_by side (d.den *ℤ z) ≡ (times *ℤ d.den) *ℤ at_most_by side (c.den *ℤ z)
+        by_side Least = simp ring
+        by_side Most = simp ring
 
-  firm-still : (c d : Condition) (face : ℕ → ℤ) (these : List Amount) → AreFirm face these → AreStill face (map (amount_form s c) these) (map (amount_form s d) these)
-  firm-still c d face [] h = tt
-  firm-still c d face (a ∷ these) h = (
-    ap (λ f. (at_most_by d.side (d.num *ℤ whole_of s a) -ℤ at_most_by c.side (c.num *ℤ whole_of s a)) *ℤ f) h.0 ∙ *ℤ-zero (at_most_by d.side (d.num *ℤ whole_of s a) -ℤ at_most_by c.side (c.num *ℤ whole_of s a)),
-    firm-still c d (λ r. face (suc r)) these h.1,
-  )
+    -- how far the right sides are apart
+    side-move : (side : Side) (w : ℤ) → (times *ℤ c.den) *ℤ at_most_by side (d.num *ℤ w) -ℤ scale *ℤ at_most_by side (c.num *ℤ w) ≡ (times *ℤ move_of c d) *ℤ at_most_by side w
+    side-move side w = ap (λ k. (times *ℤ c.den) *ℤ at_most_by side (d.num *ℤ w) -ℤ k *ℤ at_most_by side (c.num *ℤ w)) is ∙ by_side side
+      where
+        by_side : (side : Side) → (times *ℤ c.den) *ℤ at_most_by side (d.num *ℤ w) -ℤ (times *ℤ d.den) *ℤ at_most_by side (c.num *ℤ w) ≡ (times *ℤ move_of c d) *ℤ at_most_by side w
+        by_side Least = turned-apart times c.den d.den c.num d.num w
+        by_side Most = terms-apart times c.den d.den c.num d.num w
 
-  same-still : (c d : Condition) (face : ℕ → ℤ) (these : List Amount) → IsMoved c d → d.num ≡ c.num → AreStill face (map (amount_form s c) these) (map (amount_form s d) these)
-  same-still c d face [] h e = tt
-  same-still c d face (a ∷ these) h e = (
-    ap₂ (λ side num. (at_most_by side (num *ℤ whole_of s a) -ℤ at_most_by c.side (c.num *ℤ whole_of s a)) *ℤ face 0) h.side e ∙ nothing-moved (at_most_by c.side (c.num *ℤ whole_of s a)) (face 0),
-    same-still c d (λ r. face (suc r)) these h e,
-  )
+    right-move : (a : Amount) → (times *ℤ c.den) *ℤ at_most_by d.side (d.num *ℤ whole_of s a) -ℤ scale *ℤ at_most_by c.side (c.num *ℤ whole_of s a) ≡ (times *ℤ move_of c d) *ℤ at_most_by c.side (whole_of s a)
+    right-move a =
+        ap (λ side. (times *ℤ c.den) *ℤ at_most_by side (d.num *ℤ whole_of s a) -ℤ scale *ℤ at_most_by c.side (c.num *ℤ whole_of s a)) h.side ∙ side-move c.side (whole_of s a)
 
-  side-difference : (side : Side) (a b w : ℤ) → at_most_by side (a *ℤ w) -ℤ at_most_by side (b *ℤ w) ≡ (a -ℤ b) *ℤ at_most_by side w
-  side-difference Least a b w = simp ring (omega (arith, linear))
-  side-difference Most a b w = simp ring (omega (arith, linear))
+    like-amounts : (x : ℕ → ℤ) (these : List Amount) → AreLike scale x (map (amount_form s c) these) (moved_rows s c d times these)
+    like-amounts x [] = tt
+    like-amounts x (a ∷ these) = (
+      refl,
+      ap (λ side. (times *ℤ c.den) *ℤ at_most_by side (d.den *ℤ amount_in s x a)) h.side ∙ side-left c.side (amount_in s x a),
+      like-amounts x these,
+    )
+
+    firm-still : (face : ℕ → ℤ) (these : List Amount) → AreFirm face these → AreStill scale face (map (amount_form s c) these) (moved_rows s c d times these)
+    firm-still face [] firm = tt
+    firm-still face (a ∷ these) firm = (
+      (let apart = (times *ℤ c.den) *ℤ at_most_by d.side (d.num *ℤ whole_of s a) -ℤ scale *ℤ at_most_by c.side (c.num *ℤ whole_of s a) in
+          ap (λ f. apart *ℤ f) firm.0 ∙ *ℤ-zero apart),
+      firm-still (λ r. face (suc r)) these firm.1,
+    )
+
+    same-still : (face : ℕ → ℤ) (these : List Amount) → move_of c d ≡ pos 0 → AreStill scale face (map (amount_form s c) these) (moved_rows s c d times these)
+    same-still face [] none = tt
+    same-still face (a ∷ these) none = (
+      ap (λ z. z *ℤ face 0)
+          (right-move a ∙ ap (λ z. (times *ℤ z) *ℤ at_most_by c.side (whole_of s a)) none ∙ ap (λ z. z *ℤ at_most_by c.side (whole_of s a)) (*ℤ-zero times) ∙ zero-*ℤ (at_most_by c.side (whole_of s a)))
+          ∙ zero-*ℤ (face 0),
+      same-still (λ r. face (suc r)) these none,
+    )
 
   side-sum : (side : Side) (a b : ℤ) → at_most_by side (a +ℤ b) ≡ at_most_by side a +ℤ at_most_by side b
   side-sum Least a b = omega (arith, linear)
@@ -180,18 +227,16 @@ module _ (s : GeneralSetting) where
       join a b c = simp ring
 
   -- what a condition gains by its move
-  gained-amounts : (c d : Condition) (shares main : ℕ → ℤ) (these : List Amount) → IsMoved c d
-      → gained shares main (map (amount_form s c) these) (map (amount_form s d) these) ≡ (d.num -ℤ c.num) *ℤ at_most_by c.side (shared_price shares main these)
-  gained-amounts c d shares main [] h = sym (ap (λ z. (d.num -ℤ c.num) *ℤ z) (side-zero c.side) ∙ *ℤ-zero (d.num -ℤ c.num))
-  gained-amounts c d shares main (a ∷ these) h =
+  gained-amounts : (c d : Condition) (times scale : ℤ) (shares main : ℕ → ℤ) (these : List Amount) → IsMoved c d → scale ≡ times *ℤ d.den
+      → gained scale shares main (map (amount_form s c) these) (moved_rows s c d times these) ≡ (times *ℤ move_of c d) *ℤ at_most_by c.side (shared_price shares main these)
+  gained-amounts c d times scale shares main [] h is = sym (ap (λ z. (times *ℤ move_of c d) *ℤ z) (side-zero c.side) ∙ *ℤ-zero (times *ℤ move_of c d))
+  gained-amounts c d times scale shares main (a ∷ these) h is =
       let w = whole_of s a in
-      let move = d.num -ℤ c.num in
+      let move = times *ℤ move_of c d in
       let rest = shared_price (λ r. shares (suc r)) (λ r. main (suc r)) these in
-      let difference : at_most_by d.side (d.num *ℤ w) -ℤ at_most_by c.side (c.num *ℤ w) ≡ move *ℤ at_most_by c.side w =
-      ap (λ side. at_most_by side (d.num *ℤ w) -ℤ at_most_by c.side (c.num *ℤ w)) h.side ∙ side-difference c.side d.num c.num w in
-      let here : (shares 0 *ℤ (at_most_by d.side (d.num *ℤ w) -ℤ at_most_by c.side (c.num *ℤ w))) *ℤ main 0 ≡ move *ℤ at_most_by c.side (shares 0 *ℤ (main 0 *ℤ w)) =
-      ap (λ z. (shares 0 *ℤ z) *ℤ main 0) difference ∙ turn (shares 0) move (at_most_by c.side w) (main 0) ∙ ap (λ z. move *ℤ z) (sym (side-part c.side (shares 0) (main 0) w)) in
-      let later = gained-amounts c d (λ r. shares (suc r)) (λ r. main (suc r)) these h in
+      let here : (shares 0 *ℤ ((times *ℤ c.den) *ℤ at_most_by d.side (d.num *ℤ w) -ℤ scale *ℤ at_most_by c.side (c.num *ℤ w))) *ℤ main 0 ≡ move *ℤ at_most_by c.side (shares 0 *ℤ (main 0 *ℤ w)) =
+      ap (λ z. (shares 0 *ℤ z) *ℤ main 0) (right-move c d times scale h is a) ∙ turn (shares 0) move (at_most_by c.side w) (main 0) ∙ ap (λ z. move *ℤ z) (sym (side-part c.side (shares 0) (main 0) w)) in
+      let later = gained-amounts c d times scale (λ r. shares (suc r)) (λ r. main (suc r)) these h is in
       ap₂ (λ y z. y +ℤ z) here later ∙ join move (at_most_by c.side (shares 0 *ℤ (main 0 *ℤ w))) (at_most_by c.side rest) ∙ ap (λ z. move *ℤ z) (sym (side-sum c.side (shares 0 *ℤ (main 0 *ℤ w)) rest))
     where
       turn : (a b c d : ℤ) → (a *ℤ (b *ℤ c)) *ℤ d ≡ b *ℤ ((a *ℤ c) *ℤ d)
@@ -202,21 +247,24 @@ module _ (s : GeneralSetting) where
 
 -- ---- what is told of one condition
 
-told-part : (k factor num den over whole times scale move price part : ℤ) → pos 0 <ℤ den → pos 0 <ℤ scale → num *ℤ (over *ℤ (whole *ℤ times)) ≡ ((factor *ℤ scale) *ℤ price) *ℤ den
-    → part *ℤ (den *ℤ scale) ≡ k *ℤ (num *ℤ move) → k *ℤ (factor *ℤ (move *ℤ price)) ≡ (over *ℤ (whole *ℤ times)) *ℤ part
-told-part k factor num den over whole times scale move price part d s is told =
+told-part : (k factor num den over whole times scale other count move price part : ℤ) → pos 0 <ℤ den → pos 0 <ℤ scale → pos 0 <ℤ other
+    → num *ℤ (over *ℤ (whole *ℤ times)) ≡ ((factor *ℤ scale) *ℤ price) *ℤ den → part *ℤ (den *ℤ (scale *ℤ other)) ≡ k *ℤ (num *ℤ move)
+    → k *ℤ (factor *ℤ ((count *ℤ move) *ℤ price)) ≡ (over *ℤ (whole *ℤ ((count *ℤ other) *ℤ times))) *ℤ part
+told-part k factor num den over whole times scale other count move price part d s o is told =
     let w = over *ℤ (whole *ℤ times) in
-    *ℤ_cancel (den *ℤ scale) (k *ℤ (factor *ℤ (move *ℤ price))) (w *ℤ part) (positive-*ℤ den scale d s)
-    (first den scale k factor move price ∙ ap (λ z. (k *ℤ move) *ℤ z) (sym is) ∙ second k move num w ∙ ap (λ z. w *ℤ z) (sym told) ∙ third w part (den *ℤ scale))
+    let by = den *ℤ (scale *ℤ other) in
+    *ℤ_cancel by (k *ℤ (factor *ℤ ((count *ℤ move) *ℤ price))) ((over *ℤ (whole *ℤ ((count *ℤ other) *ℤ times))) *ℤ part) (positive-*ℤ den (scale *ℤ other) d (positive-*ℤ scale other s o))
+    (first den scale other k factor count move price ∙ ap (λ z. ((k *ℤ move) *ℤ (count *ℤ other)) *ℤ z) (sym is) ∙ second k move (count *ℤ other) num w
+    ∙ ap (λ z. ((count *ℤ other) *ℤ w) *ℤ z) (sym told) ∙ third (count *ℤ other) over whole times part by)
   where
-    first : (d s k f m p : ℤ) → (d *ℤ s) *ℤ (k *ℤ (f *ℤ (m *ℤ p))) ≡ (k *ℤ m) *ℤ (((f *ℤ s) *ℤ p) *ℤ d)
-    first d s k f m p = simp ring
+    first : (d s o k f c m p : ℤ) → (d *ℤ (s *ℤ o)) *ℤ (k *ℤ (f *ℤ ((c *ℤ m) *ℤ p))) ≡ ((k *ℤ m) *ℤ (c *ℤ o)) *ℤ (((f *ℤ s) *ℤ p) *ℤ d)
+    first d s o k f c m p = simp ring
 
-    second : (k m n w : ℤ) → (k *ℤ m) *ℤ (n *ℤ w) ≡ w *ℤ (k *ℤ (n *ℤ m))
-    second k m n w = simp ring
+    second : (k m c n w : ℤ) → ((k *ℤ m) *ℤ c) *ℤ (n *ℤ w) ≡ (c *ℤ w) *ℤ (k *ℤ (n *ℤ m))
+    second k m c n w = simp ring
 
-    third : (w p z : ℤ) → w *ℤ (p *ℤ z) ≡ z *ℤ (w *ℤ p)
-    third w p z = simp ring
+    third : (c o w t p b : ℤ) → (c *ℤ (o *ℤ (w *ℤ t))) *ℤ (p *ℤ b) ≡ b *ℤ ((o *ℤ (w *ℤ (c *ℤ t))) *ℤ p)
+    third c o w t p b = simp ring
 
 pub side-product : (side : Side) (a b : ℤ) → at_most_by side (a *ℤ b) ≡ a *ℤ at_most_by side b
 side-product Least a b = simp ring
@@ -236,115 +284,175 @@ value-by side num den over whole by times up p q above same is =
     second : (t u p d : ℤ) → t *ℤ ((u *ℤ p) *ℤ d) ≡ (u *ℤ (t *ℤ p)) *ℤ d
     second t u p d = simp ring
 
-module _ (s : GeneralSetting) (k factor over times : ℤ) (divides : IsDivisorFor (column_count s) (cost_of s) factor) where
-  abbrev scale_of : ℤ
-  scale_of = over *ℤ (total_of s *ℤ times)
+-- ---- conditions that have moved, all in the same terms
 
-  one-part : (c d : Condition) (main face shares : ℕ → ℤ) (shadow : Option Frac) (part : ℤ) → pos 0 <ℤ c.den → IsPart k c d shadow part → IsToldShadow s c over main face shadow
-      → AreFormShares (column_count s) times shares (condition_forms s c) → k *ℤ (factor *ℤ ((d.num -ℤ c.num) *ℤ at_most_by c.side (shared_price s shares main (amounts_of s c.measured)))) ≡ scale_of *ℤ part
-  one-part c d main face shares (Some shadow) part up is told h =
+-- each has moved
+abbrev AreMoved : List Condition → List Condition → Type 0
+AreMoved [] [] = Unit {0}
+AreMoved (c ∷ cs) (d ∷ ds) = IsMoved c d × AreMoved cs ds
+AreMoved _ _ = ⊥
+
+are-moved : (k : ℤ) (cs ds : List Condition) (shadows : List (Option Frac)) (parts : List ℤ) → AreParts k cs ds shadows parts → AreMoved cs ds
+are-moved k [] [] [] [] h = tt
+are-moved k [] [] [] (q ∷ qs) h = absurd h
+are-moved k [] [] (v ∷ vs) parts h = absurd h
+are-moved k [] (d ∷ ds) shadows parts h = absurd h
+are-moved k (c ∷ cs) [] shadows parts h = absurd h
+are-moved k (c ∷ cs) (d ∷ ds) [] parts h = absurd h
+are-moved k (c ∷ cs) (d ∷ ds) (v ∷ vs) [] h = absurd h
+are-moved k (c ∷ cs) (d ∷ ds) (v ∷ vs) (q ∷ qs) h = (h.0, are-moved k cs ds vs qs h.2)
+
+-- the product of their denominators
+abbrev dens_of : List Condition → ℤ
+dens_of [] = pos 1
+dens_of (d ∷ ds) = d.den *ℤ dens_of ds
+
+dens-positive : (cs ds : List Condition) → AreMoved cs ds → pos 0 <ℤ dens_of ds
+dens-positive [] [] h = omega arith
+dens-positive [] (d ∷ ds) h = absurd h
+dens-positive (c ∷ cs) [] h = absurd h
+dens-positive (c ∷ cs) (d ∷ ds) h = positive-*ℤ d.den (dens_of ds) h.0.positive (dens-positive cs ds h.1)
+
+-- a multiple of this product as one of the first denominator, and as one of the others'
+dens-first : (scale before : ℤ) (d : Condition) (ds : List Condition) → scale ≡ before *ℤ dens_of (d ∷ ds) → scale ≡ (before *ℤ dens_of ds) *ℤ d.den
+dens-first scale before d ds is = is ∙ turn before d.den (dens_of ds)
+  where
+    turn : (a b c : ℤ) → a *ℤ (b *ℤ c) ≡ (a *ℤ c) *ℤ b
+    turn a b c = simp ring
+
+dens-others : (scale before : ℤ) (d : Condition) (ds : List Condition) → scale ≡ before *ℤ dens_of (d ∷ ds) → scale ≡ (before *ℤ d.den) *ℤ dens_of ds
+dens-others scale before d ds is = is ∙ sym (*ℤ_assoc before d.den (dens_of ds))
+
+module _ (s : GeneralSetting) where
+  abbrev all_moved : ℤ → List Condition → List Condition → List Form
+  all_moved before (c ∷ cs) (d ∷ ds) = moved_rows s c d (before *ℤ dens_of ds) (amounts_of s c.measured) ++ all_moved (before *ℤ d.den) cs ds
+  all_moved before _ _ = []
+
+  all-like : (x : ℕ → ℤ) (scale before : ℤ) (cs ds : List Condition) → AreMoved cs ds → scale ≡ before *ℤ dens_of ds → AreLike scale x (flat_map (condition_forms s) cs) (all_moved before cs ds)
+  all-like x scale before [] [] h is = tt
+  all-like x scale before [] (d ∷ ds) h is = absurd h
+  all-like x scale before (c ∷ cs) [] h is = absurd h
+  all-like x scale before (c ∷ cs) (d ∷ ds) h is =
+      let times = before *ℤ dens_of ds in
+      like-append scale x (condition_forms s c) (moved_rows s c d times (amounts_of s c.measured)) (flat_map (condition_forms s) cs) (all_moved (before *ℤ d.den) cs ds)
+      (like-amounts s c d times scale h.0 (dens-first scale before d ds is) x (amounts_of s c.measured))
+      (all-like x scale (before *ℤ d.den) cs ds h.1 (dens-others scale before d ds is))
+
+  -- they hold where the moved conditions do
+  all-hold : (e : ℤ) (x : ℕ → ℤ) (before : ℤ) (cs ds : List Condition) → pos 0 <ℤ before → All (λ c. pos 0 <ℤ c.den) cs → AreMoved cs ds
+      → All (Holds e x) (flat_map (condition_forms s) ds) → All (Holds e x) (all_moved before cs ds)
+  all-hold e x before [] [] up positive h holds = All-nil (Holds e x)
+  all-hold e x before [] (d ∷ ds) up positive h holds = absurd h
+  all-hold e x before (c ∷ cs) [] up positive h holds = absurd h
+  all-hold e x before (c ∷ cs) (d ∷ ds) up positive h holds =
+      let times = before *ℤ dens_of ds in
+      let own = condition_forms s d in
+      let rest = flat_map (condition_forms s) ds in
+      let above : pos 0 <ℤ (times *ℤ c.den) = positive-*ℤ times c.den (positive-*ℤ before (dens_of ds) up (dens-positive cs ds h.1)) (All-head (λ k. pos 0 <ℤ k.den) c cs positive) in
+      let here : All (Holds e x) (map (amount_form s d) (amounts_of s c.measured)) =
+      subst (λ m. All (Holds e x) (map (amount_form s d) (amounts_of s m))) h.0.measured (All-left (Holds e x) own rest holds) in
+      All-append (Holds e x) (moved_rows s c d times (amounts_of s c.measured)) (all_moved (before *ℤ d.den) cs ds)
+      (all-scaled (times *ℤ c.den) e x (map (amount_form s d) (amounts_of s c.measured)) above here)
+      (all-hold e x (before *ℤ d.den) cs ds (positive-*ℤ before d.den up h.0.positive) (All-tail (λ k. pos 0 <ℤ k.den) c cs positive) h.1 (All-right (Holds e x) own rest holds))
+
+  -- what they name is there
+  moved-in : (cs ds : List Condition) → AreMoved cs ds → AreIn s cs → AreIn s ds
+  moved-in [] [] h placed = All-nil (λ c. IsIn s c.measured)
+  moved-in [] (d ∷ ds) h placed = absurd h
+  moved-in (c ∷ cs) [] h placed = absurd h
+  moved-in (c ∷ cs) (d ∷ ds) h placed =
+      All-cons (λ e. IsIn s e.measured) d ds (subst (IsIn s) (sym h.0.measured) (All-head (λ e. IsIn s e.measured) c cs placed))
+      (moved-in cs ds h.1 (All-tail (λ e. IsIn s e.measured) c cs placed))
+
+module _ (s : GeneralSetting) (k factor over times scale : ℤ) (divides : IsDivisorFor (column_count s) (cost_of s) factor) where
+  abbrev scale_of : ℤ
+  scale_of = over *ℤ (total_of s *ℤ (scale *ℤ times))
+
+  one-part : (c d : Condition) (count : ℤ) (main face shares : ℕ → ℤ) (shadow : Option Frac) (part : ℤ) → pos 0 <ℤ c.den → IsMoved c d → scale ≡ count *ℤ d.den → IsPart k c d shadow part
+      → IsToldShadow s c over main face shadow → AreFormShares (column_count s) times shares (condition_forms s c)
+      → k *ℤ (factor *ℤ ((count *ℤ move_of c d) *ℤ at_most_by c.side (shared_price s shares main (amounts_of s c.measured)))) ≡ scale_of *ℤ part
+  one-part c d count main face shares (Some shadow) part up moved by is told h =
       let these = amounts_of s c.measured in
       let t = told.0 in
+      let price = at_most_by c.side (shared_price s shares main these) in
       let same : t.factor ≡ factor = IsDivisorFor-same (column_count s) (cost_of s) t.factor factor t.cost divides in
-      let value : shadow.num *ℤ (over *ℤ (total_of s *ℤ times)) ≡ ((factor *ℤ c.den) *ℤ at_most_by c.side (shared_price s shares main these)) *ℤ shadow.den =
+      let value : shadow.num *ℤ (over *ℤ (total_of s *ℤ times)) ≡ ((factor *ℤ c.den) *ℤ price) *ℤ shadow.den =
       value-by c.side shadow.num shadow.den over (total_of s) t.by times (factor *ℤ c.den) (priced s main these) (shared_price s shares main these) t.rows.positive
       (shared-same s c t.by times shares main these t.rows.each h) (t.is ∙ ap (λ f. ((f *ℤ c.den) *ℤ at_most_by c.side (priced s main these)) *ℤ shadow.den) same) in
-      told-part k factor shadow.num shadow.den over (total_of s) times c.den (d.num -ℤ c.num) (at_most_by c.side (shared_price s shares main these)) part t.least.positive up value is
-  one-part c d main face shares None part up is told h =
-      let none : d.num -ℤ c.num ≡ pos 0 = (let same = is.0 in omega (arith, linear, same)) in
+      told-part k factor shadow.num shadow.den over (total_of s) times c.den d.den count (move_of c d) price part t.least.positive up moved.positive value is
+      ∙ ap (λ z. (over *ℤ (total_of s *ℤ (z *ℤ times))) *ℤ part) (sym by)
+  one-part c d count main face shares None part up moved by is told h =
       let price = at_most_by c.side (shared_price s shares main (amounts_of s c.measured)) in
-      ap (λ z. k *ℤ (factor *ℤ (z *ℤ price))) none ∙ ap (λ z. k *ℤ (factor *ℤ z)) (zero-*ℤ price) ∙ ap (λ z. k *ℤ z) (*ℤ-zero factor) ∙ *ℤ-zero k ∙ sym (ap (λ z. scale_of *ℤ z) is.1 ∙ *ℤ-zero scale_of)
+      ap (λ z. k *ℤ (factor *ℤ ((count *ℤ z) *ℤ price))) is.0 ∙ ap (λ z. k *ℤ (factor *ℤ (z *ℤ price))) (*ℤ-zero count)
+      ∙ ap (λ z. k *ℤ (factor *ℤ z)) (zero-*ℤ price) ∙ ap (λ z. k *ℤ z) (*ℤ-zero factor) ∙ *ℤ-zero k ∙ sym (ap (λ z. scale_of *ℤ z) is.1 ∙ *ℤ-zero scale_of)
 
   -- ---- all conditions
-
-  -- the forms of a condition that has moved
-  moved-forms : (c d : Condition) → IsMoved c d → condition_forms s d ≡ map (amount_form s d) (amounts_of s c.measured)
-  moved-forms c d h = ap (λ m. map (amount_form s d) (amounts_of s m)) h.measured
 
   forms-length : (c : Condition) → length (condition_forms s c) ≡ length (amounts_of s c.measured)
   forms-length c = length-map (amounts_of s c.measured) (amount_form s c)
 
-  like-one : (c d : Condition) (x : ℕ → ℤ) → IsMoved c d → AreLike x (condition_forms s c) (condition_forms s d)
-  like-one c d x h = subst (AreLike x (condition_forms s c)) (sym (moved-forms c d h)) (like-amounts s c d x (amounts_of s c.measured) h)
+  still-one : (c d : Condition) (count : ℤ) (main face : ℕ → ℤ) (shadow : Option Frac) (part : ℤ) → IsMoved c d → scale ≡ count *ℤ d.den → IsPart k c d shadow part
+      → IsToldShadow s c over main face shadow → AreStill scale face (condition_forms s c) (moved_rows s c d count (amounts_of s c.measured))
+  still-one c d count main face (Some shadow) part h by is told = firm-still s c d count scale h by face (amounts_of s c.measured) told.0.firm
+  still-one c d count main face None part h by is told = same-still s c d count scale h by face (amounts_of s c.measured) is.0
 
-  still-one : (c d : Condition) (main face : ℕ → ℤ) (shadow : Option Frac) (part : ℤ) → IsMoved c d → IsPart k c d shadow part → IsToldShadow s c over main face shadow
-      → AreStill face (condition_forms s c) (condition_forms s d)
-  still-one c d main face (Some shadow) part h is told = subst (AreStill face (condition_forms s c)) (sym (moved-forms c d h)) (firm-still s c d face (amounts_of s c.measured) told.0.firm)
-  still-one c d main face None part h is told = subst (AreStill face (condition_forms s c)) (sym (moved-forms c d h)) (same-still s c d face (amounts_of s c.measured) h is.0)
-
-  all-like : (x : ℕ → ℤ) (cs ds : List Condition) (shadows : List (Option Frac)) (parts : List ℤ) → AreParts k cs ds shadows parts → AreLike x (flat_map (condition_forms s) cs) (flat_map (condition_forms s) ds)
-  all-like x [] [] [] [] h = tt
-  all-like x [] [] [] (q ∷ qs) h = absurd h
-  all-like x [] [] (v ∷ vs) parts h = absurd h
-  all-like x [] (d ∷ ds) shadows parts h = absurd h
-  all-like x (c ∷ cs) [] shadows parts h = absurd h
-  all-like x (c ∷ cs) (d ∷ ds) [] parts h = absurd h
-  all-like x (c ∷ cs) (d ∷ ds) (v ∷ vs) [] h = absurd h
-  all-like x (c ∷ cs) (d ∷ ds) (v ∷ vs) (q ∷ qs) h =
-      like-append x (condition_forms s c) (condition_forms s d) (flat_map (condition_forms s) cs) (flat_map (condition_forms s) ds) (like-one c d x h.0) (all-like x cs ds vs qs h.2)
-
-  all-still : (main face : ℕ → ℤ) (cs ds : List Condition) (shadows : List (Option Frac)) (parts : List ℤ) → AreParts k cs ds shadows parts → AreToldShadows s cs over main face shadows
-      → AreStill face (flat_map (condition_forms s) cs) (flat_map (condition_forms s) ds)
-  all-still main face [] [] [] [] h told = tt
-  all-still main face [] [] [] (q ∷ qs) h told = absurd h
-  all-still main face [] [] (v ∷ vs) parts h told = absurd h
-  all-still main face [] (d ∷ ds) shadows parts h told = absurd h
-  all-still main face (c ∷ cs) [] shadows parts h told = absurd h
-  all-still main face (c ∷ cs) (d ∷ ds) [] parts h told = absurd h
-  all-still main face (c ∷ cs) (d ∷ ds) (v ∷ vs) [] h told = absurd h
-  all-still main face (c ∷ cs) (d ∷ ds) (v ∷ vs) (q ∷ qs) h told =
+  all-still : (before : ℤ) (main face : ℕ → ℤ) (cs ds : List Condition) (shadows : List (Option Frac)) (parts : List ℤ) → scale ≡ before *ℤ dens_of ds → AreParts k cs ds shadows parts
+      → AreToldShadows s cs over main face shadows → AreStill scale face (flat_map (condition_forms s) cs) (all_moved s before cs ds)
+  all-still before main face [] [] [] [] by h told = tt
+  all-still before main face [] [] [] (q ∷ qs) by h told = absurd h
+  all-still before main face [] [] (v ∷ vs) parts by h told = absurd h
+  all-still before main face [] (d ∷ ds) shadows parts by h told = absurd h
+  all-still before main face (c ∷ cs) [] shadows parts by h told = absurd h
+  all-still before main face (c ∷ cs) (d ∷ ds) [] parts by h told = absurd h
+  all-still before main face (c ∷ cs) (d ∷ ds) (v ∷ vs) [] by h told = absurd h
+  all-still before main face (c ∷ cs) (d ∷ ds) (v ∷ vs) (q ∷ qs) by h told =
       let width = length (amounts_of s c.measured) in
-      still-append face (condition_forms s c) (condition_forms s d) (flat_map (condition_forms s) cs) (flat_map (condition_forms s) ds) (still-one c d main face v q h.0 h.1 told.0)
-      (subst (λ w. AreStill (from w face) (flat_map (condition_forms s) cs) (flat_map (condition_forms s) ds)) (sym (forms-length c))
-      (all-still (from width main) (from width face) cs ds vs qs h.2 told.1))
-
-  all-gained : (x main face shares : ℕ → ℤ) (cs ds : List Condition) (shadows : List (Option Frac)) (parts : List ℤ) → All (λ c. pos 0 <ℤ c.den) cs → AreParts k cs ds shadows parts
-      → AreToldShadows s cs over main face shadows → AreFormShares (column_count s) times shares (flat_map (condition_forms s) cs)
-      → k *ℤ (factor *ℤ gained shares main (flat_map (condition_forms s) cs) (flat_map (condition_forms s) ds)) ≡ scale_of *ℤ total parts
-  all-gained x main face shares [] [] [] [] up h told are = ap (λ z. k *ℤ z) (*ℤ-zero factor) ∙ *ℤ-zero k ∙ sym (*ℤ-zero scale_of)
-  all-gained x main face shares [] [] [] (q ∷ qs) up h told are = absurd h
-  all-gained x main face shares [] [] (v ∷ vs) parts up h told are = absurd h
-  all-gained x main face shares [] (d ∷ ds) shadows parts up h told are = absurd h
-  all-gained x main face shares (c ∷ cs) [] shadows parts up h told are = absurd h
-  all-gained x main face shares (c ∷ cs) (d ∷ ds) [] parts up h told are = absurd h
-  all-gained x main face shares (c ∷ cs) (d ∷ ds) (v ∷ vs) [] up h told are = absurd h
-  all-gained x main face shares (c ∷ cs) (d ∷ ds) (v ∷ vs) (q ∷ qs) up h told are =
-      let n = column_count s in
-      let own = condition_forms s c in
-      let other = condition_forms s d in
+      let count = before *ℤ dens_of ds in
       let rest = flat_map (condition_forms s) cs in
-      let others = flat_map (condition_forms s) ds in
-      let width = length (amounts_of s c.measured) in
-      let price = (d.num -ℤ c.num) *ℤ at_most_by c.side (shared_price s shares main (amounts_of s c.measured)) in
-      let mine : gained shares main own other ≡ price =
-      subst (λ fs. gained shares main own fs ≡ price) (sym (moved-forms c d h.0)) (gained-amounts s c d shares main (amounts_of s c.measured) h.0) in
+      let others = all_moved s (before *ℤ d.den) cs ds in
+      still-append scale face (condition_forms s c) (moved_rows s c d count (amounts_of s c.measured)) rest others
+      (still-one c d count main face v q h.0 (dens-first scale before d ds by) h.1 told.0)
+      (subst (λ w. AreStill scale (from w face) rest others) (sym (forms-length c))
+      (all-still (before *ℤ d.den) (from width main) (from width face) cs ds vs qs (dens-others scale before d ds by) h.2 told.1))
+
+  all-gained : (before : ℤ) (x main face shares : ℕ → ℤ) (cs ds : List Condition) (shadows : List (Option Frac)) (parts : List ℤ) → scale ≡ before *ℤ dens_of ds
+      → All (λ c. pos 0 <ℤ c.den) cs → AreParts k cs ds shadows parts → AreToldShadows s cs over main face shadows
+      → AreFormShares (column_count s) times shares (flat_map (condition_forms s) cs)
+      → k *ℤ (factor *ℤ gained scale shares main (flat_map (condition_forms s) cs) (all_moved s before cs ds)) ≡ scale_of *ℤ total parts
+  all-gained before x main face shares [] [] [] [] by up h told are = ap (λ z. k *ℤ z) (*ℤ-zero factor) ∙ *ℤ-zero k ∙ sym (*ℤ-zero scale_of)
+  all-gained before x main face shares [] [] [] (q ∷ qs) by up h told are = absurd h
+  all-gained before x main face shares [] [] (v ∷ vs) parts by up h told are = absurd h
+  all-gained before x main face shares [] (d ∷ ds) shadows parts by up h told are = absurd h
+  all-gained before x main face shares (c ∷ cs) [] shadows parts by up h told are = absurd h
+  all-gained before x main face shares (c ∷ cs) (d ∷ ds) [] parts by up h told are = absurd h
+  all-gained before x main face shares (c ∷ cs) (d ∷ ds) (v ∷ vs) [] by up h told are = absurd h
+  all-gained before x main face shares (c ∷ cs) (d ∷ ds) (v ∷ vs) (q ∷ qs) by up h told are =
+      let n = column_count s in
+      let these = amounts_of s c.measured in
+      let width = length these in
+      let count = before *ℤ dens_of ds in
+      let first = dens-first scale before d ds by in
+      let own = condition_forms s c in
+      let other = moved_rows s c d count these in
+      let rest = flat_map (condition_forms s) cs in
+      let others = all_moved s (before *ℤ d.den) cs ds in
+      let price = (count *ℤ move_of c d) *ℤ at_most_by c.side (shared_price s shares main these) in
+      let mine : gained scale shares main own other ≡ price = gained-amounts s c d count scale shares main these h.0 first in
       let here : k *ℤ (factor *ℤ price) ≡ scale_of *ℤ q =
-      one-part c d main face shares v q (All-head (λ e. pos 0 <ℤ e.den) c cs up) h.1 told.0 (shares-left n times shares own rest are) in
+      one-part c d count main face shares v q (All-head (λ e. pos 0 <ℤ e.den) c cs up) h.0 first h.1 told.0 (shares-left n times shares own rest are) in
       let behind : AreFormShares n times (from width shares) rest = subst (λ w. AreFormShares n times (from w shares) rest) (forms-length c) (shares-right n times shares own rest are) in
-      let later : k *ℤ (factor *ℤ gained (from width shares) (from width main) rest others) ≡ scale_of *ℤ total qs =
-      all-gained x (from width main) (from width face) (from width shares) cs ds vs qs (All-tail (λ e. pos 0 <ℤ e.den) c cs up) h.2 told.1 behind in
-      let split : gained shares main (own ++ rest) (other ++ others) ≡ price +ℤ gained (from width shares) (from width main) rest others =
-      gained-append x shares main own other rest others (like-one c d x h.0) ∙ ap₂ (λ y z. y +ℤ z) mine (ap (λ w. gained (from w shares) (from w main) rest others) (forms-length c)) in
-      ap (λ z. k *ℤ (factor *ℤ z)) split ∙ apart k factor price (gained (from width shares) (from width main) rest others) ∙ ap₂ (λ y z. y +ℤ z) here later ∙ join scale_of q (total qs)
+      let later : k *ℤ (factor *ℤ gained scale (from width shares) (from width main) rest others) ≡ scale_of *ℤ total qs =
+      all-gained (before *ℤ d.den) x (from width main) (from width face) (from width shares) cs ds vs qs (dens-others scale before d ds by) (All-tail (λ e. pos 0 <ℤ e.den) c cs up) h.2 told.1 behind in
+      let split : gained scale shares main (own ++ rest) (other ++ others) ≡ price +ℤ gained scale (from width shares) (from width main) rest others =
+      gained-append scale x shares main own other rest others (like-amounts s c d count scale h.0 first x these)
+      ∙ ap₂ (λ y z. y +ℤ z) mine (ap (λ w. gained scale (from w shares) (from w main) rest others) (forms-length c)) in
+      ap (λ z. k *ℤ (factor *ℤ z)) split ∙ apart k factor price (gained scale (from width shares) (from width main) rest others) ∙ ap₂ (λ y z. y +ℤ z) here later ∙ join scale_of q (total qs)
     where
       apart : (a b c d : ℤ) → a *ℤ (b *ℤ (c +ℤ d)) ≡ a *ℤ (b *ℤ c) +ℤ a *ℤ (b *ℤ d)
       apart a b c d = simp ring
 
       join : (a b c : ℤ) → a *ℤ b +ℤ a *ℤ c ≡ a *ℤ (b +ℤ c)
       join a b c = simp ring
-
--- where conditions have moved, what they name is there
-moved-in : (s : GeneralSetting) (k : ℤ) (cs ds : List Condition) (shadows : List (Option Frac)) (parts : List ℤ) → AreParts k cs ds shadows parts → AreIn s cs → AreIn s ds
-moved-in s k [] [] [] [] h placed = All-nil (λ c. IsIn s c.measured)
-moved-in s k [] [] [] (q ∷ qs) h placed = absurd h
-moved-in s k [] [] (v ∷ vs) parts h placed = absurd h
-moved-in s k [] (d ∷ ds) shadows parts h placed = absurd h
-moved-in s k (c ∷ cs) [] shadows parts h placed = absurd h
-moved-in s k (c ∷ cs) (d ∷ ds) [] parts h placed = absurd h
-moved-in s k (c ∷ cs) (d ∷ ds) (v ∷ vs) [] h placed = absurd h
-moved-in s k (c ∷ cs) (d ∷ ds) (v ∷ vs) (q ∷ qs) h placed =
-    All-cons (λ e. IsIn s e.measured) d ds (subst (IsIn s) (sym h.0.measured) (All-head (λ e. IsIn s e.measured) c cs placed))
-    (moved-in s k cs ds vs qs h.2 (All-tail (λ e. IsIn s e.measured) c cs placed))
 
 -- ---- the law
 
@@ -396,34 +504,47 @@ module _ (s : GeneralSetting) (conditions : List Condition) (p : Program) (is : 
   costs-required m h = costs-points s (own_program s conditions p is) (is-own s conditions p is) m h
 
   pub shadows-law : AreIn s conditions → All (λ c. pos 0 <ℤ c.den) conditions → (m : Mechanism) (bound : Bound) (shadows : List (Option Frac)) → IsMechanism s m
-      → IsOptimalCertified p m.den (number_at (point_of s m)) bound.den (number_at bound.main) (number_at bound.face) → AreShadowsBy s conditions bound shadows → AreShadows s conditions m shadows
+      → IsOptimalCertified p m.den (number_at (point_of s m)) bound.den (number_at bound.main) (number_at bound.face) → AreShadowsBy s conditions bound shadows → LimitGains s conditions m shadows
   shadows-law placed up m bound shadows mechanism c told = λ moved k parts up_k are other h.
       let n = column_count s in
       let x = number_at (point_of s other) in
       let main = number_at bound.main in
       let face = number_at bound.face in
       let own = length own_forms in
+      let have = are-moved k conditions moved shadows parts are in
+      let scale = dens_of moved in
+      let up_scale : pos 0 <ℤ scale = dens-positive conditions moved have in
+      let one : pos 0 <ℤ pos 1 = omega arith in
+      let by : scale ≡ pos 1 *ℤ scale = sym (one-*ℤ scale) in
       let added = flat_map (condition_forms s) conditions in
-      let others = flat_map (condition_forms s) moved in
+      let others = all_moved s (pos 1) conditions moved in
+      let same = map (scaled_form scale) own_forms in
       let all = shared n (require_forms s conditions) p.rows is.rows in
       let factor_is = is.has_cost.factor in
-      let like : AreLike x (own_forms ++ added) (own_forms ++ others) =
-      like-append x own_forms own_forms added others (like-same x own_forms) (all-like s k p.factor bound.den all.times factor_is x conditions moved shadows parts are) in
-      let still : AreStill face (own_forms ++ added) (own_forms ++ others) =
-      still-append face own_forms own_forms added others (still-same face own_forms) (all-still s k p.factor bound.den all.times factor_is (from own main) (from own face) conditions moved shadows parts are told) in
+      let like : AreLike scale x (own_forms ++ added) (same ++ others) =
+      like-append scale x own_forms same added others (like-scaled scale x own_forms) (all-like s x scale (pos 1) conditions moved have by) in
+      let still : AreStill scale face (own_forms ++ added) (same ++ others) =
+      still-append scale face own_forms same added others (still-scaled scale face own_forms)
+      (all-still s k p.factor bound.den all.times scale factor_is (pos 1) (from own main) (from own face) conditions moved shadows parts by are told) in
       let each : AreFormShares n all.times (from own all.shares) added =
       shares-right n all.times all.shares own_forms added (form-shares n all.times all.shares (require_forms s conditions) p.rows is.rows all.each) in
-      let gain = gained (from own all.shares) (from own main) added others in
-      let gain_is : gained all.shares main (own_forms ++ added) (own_forms ++ others) ≡ gain =
-      (let split = gained-append x all.shares main own_forms own_forms added others (like-same x own_forms) in
-      let none = gained-same all.shares main own_forms in
+      let gain = gained scale (from own all.shares) (from own main) added others in
+      let gain_is : gained scale all.shares main (own_forms ++ added) (same ++ others) ≡ gain =
+      (let split = gained-append scale x all.shares main own_forms same added others (like-scaled scale x own_forms) in
+      let none = gained-scaled scale all.shares main own_forms in
       omega (arith, linear, split, none)) in
-      let parts_are : k *ℤ (p.factor *ℤ gain) ≡ (bound.den *ℤ (total_of s *ℤ all.times)) *ℤ total parts =
-      all-gained s k p.factor bound.den all.times factor_is x (from own main) (from own face) (from own all.shares) conditions moved shadows parts up are told each in
+      let parts_are : k *ℤ (p.factor *ℤ gain) ≡ (bound.den *ℤ (total_of s *ℤ (scale *ℤ all.times))) *ℤ total parts =
+      all-gained s k p.factor bound.den all.times scale factor_is (pos 1) x (from own main) (from own face) (from own all.shares) conditions moved shadows parts by up are told each in
+      let there : All (Holds other.den x) (own_forms ++ flat_map (condition_forms s) moved) = holds-required moved (moved-in s conditions moved have placed) other h in
+      let holds : All (Holds other.den x) (same ++ others) =
+      All-append (Holds other.den x) same others
+      (all-scaled scale other.den x own_forms up_scale (All-left (Holds other.den x) own_forms (flat_map (condition_forms s) moved) there))
+      (all-hold s other.den x (pos 1) conditions moved one up have (All-right (Holds other.den x) own_forms (flat_map (condition_forms s) moved) there)) in
       let bounded =
-      bound-moved n (require_forms s conditions) (require_forms s moved) (cost_in s) p is m.den bound.den other.den all.times (number_at (point_of s m)) main face x all.shares c all.positive all.each
-      (nonneg-required moved other h) like still (holds-required moved (moved-in s k conditions moved shadows parts are placed) other h) in
-      assembled all.times bound.den p.factor m.den other.den (total_of s) (cost_sum p x) (cost_sum p (number_at (point_of s m))) (right_sum p main) gain k (total parts) (worth_of s other) (worth_of s m)
-      up_k (IsDivisorFor-positive n (cost_of s) p.factor factor_is) c.meets.point.positive c.positive all.positive
-      (subst (λ z. (all.times *ℤ (bound.den *ℤ cost_sum p x)) ≤ℤ (all.times *ℤ (other.den *ℤ right_sum p main) +ℤ other.den *ℤ z)) gain_is bounded)
+      bound-moved n (require_forms s conditions) (same ++ others) (cost_in s) p is m.den bound.den other.den scale all.times (number_at (point_of s m)) main face x all.shares c up_scale all.positive all.each
+      (nonneg-required moved other h) like still holds in
+      let times = scale *ℤ all.times in
+      assembled times bound.den p.factor m.den other.den (total_of s) (cost_sum p x) (cost_sum p (number_at (point_of s m))) (right_sum p main) gain k (total parts) (worth_of s other) (worth_of s m)
+      up_k (IsDivisorFor-positive n (cost_of s) p.factor factor_is) c.meets.point.positive c.positive (positive-*ℤ scale all.times up_scale all.positive)
+      (subst (λ z. (times *ℤ (bound.den *ℤ cost_sum p x)) ≤ℤ (times *ℤ (other.den *ℤ right_sum p main) +ℤ other.den *ℤ z)) gain_is bounded)
       c.main_right (costs-required other h.admissible.mechanism) (costs-required m mechanism) parts_are

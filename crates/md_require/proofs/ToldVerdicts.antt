@@ -1,5 +1,5 @@
 -- There is one verdict on an answer that tells shadows.
-use Rattle.std.proofs.Common.{◌≡◌, ◌≢◌, ◌↔◌, Bool, true, false, get_or, below_more, ℕ, zero, suc, ◌+◌, ◌<◌, ◌≤◌, ℤ, pos, ◌*ℤ◌, ◌<ℤ◌, List, [], ◌∷◌, length, Option, Some, None, refl, sym, ap, ap₂, ◌∙◌, subst, arith, inl, inr, ◌⊎◌}
+use Rattle.std.proofs.Common.{◌≡◌, ◌≢◌, ◌↔◌, Bool, true, false, get_or, below_more, ℕ, zero, suc, ◌+◌, ◌<◌, ◌≤◌, ℤ, pos, ◌*ℤ◌, ◌<ℤ◌, List, [], ◌∷◌, length, All, Option, Some, None, refl, sym, ap, ap₂, ◌∙◌, subst, arith, inl, inr, ◌⊎◌}
 use Rattle.std.specs.List.{slice_get}
 use mathlib.Core.Bool.{false≢true}
 use Rattle.std.proofs.lemmas.Bool.{cases_lt}
@@ -28,6 +28,7 @@ use Rattle.md_require.specs.Limits.{AreConditionsFor}
 use Rattle.md_require.specs.RequireQuestion.{require_question}
 use Rattle.md_require.specs.RequireVerdicts.{AnswerHolds, ClaimHolds, IsComparison, IsFirstApart, IsFirstOther, IsRequiredVerdict, IsShadowVerdict, TellsRightly}
 use Rattle.md_require.specs.Shadows.{AreShadows, AreShadowsBy, AreToldShadows, from, IsShadow, IsToldShadow, priced}
+use Rattle.md_require.proofs.SlackLaws.{complementary}
 use Rattle.md_require.proofs.PriceLaws.{least-shadow}
 use Rattle.md_require.proofs.ShadowLaws.{shadows-law}
 use Rattle.md_require.proofs.ShortLaws.{least-same}
@@ -185,18 +186,25 @@ module _ (s : GeneralSetting) (conditions : List Condition) (whole : pos 0 <ℤ 
 
 -- ---- what a valid answer claims
 
-pub shadows-claim : (s : GeneralSetting) (conditions : List Condition) (value : Frac) (m : Mechanism) (bound : Bound) (told : List (Option Frac)) → AreConditionsFor s conditions
+pub shadows-claim : (s : GeneralSetting) (conditions : List Condition) (value : Frac) (m : Mechanism) (bound : Bound) (told : List (Option Frac)) → pos 0 <ℤ total_of s → AreConditionsFor s conditions
     → IsVerdictOn (require_question s conditions) (Optimal value m bound) verdicts.Valid → AreShadowsBy s conditions bound told → AreShadows s conditions m told
-shadows-claim s conditions value m bound told fit valid are =
+shadows-claim s conditions value m bound told whole fit valid are =
     let judged = valid.2 in
-    shadows-law s conditions judged.program judged.is_program (λ k d l. (fit.each k d l).place) (λ k d l. (fit.each k d l).positive)
-    m bound told valid.0.admitted.admissible.mechanism (judged.holds judged.program judged.is_program) are
+    let required = valid.0.admitted in
+    let certified = judged.holds judged.program judged.is_program in
+    let own = length (forms_of s (conditions_of s)) in
+    let up : All (λ c. pos 0 <ℤ c.den) conditions = λ k d l. (fit.each k d l).positive in
+    let law = shadows-law s conditions judged.program judged.is_program (λ k d l. (fit.each k d l).place) up m bound told required.admissible.mechanism certified are in
+    record {
+      gains = law;
+      complementary = complementary s conditions m bound.den (from own (number_at bound.main)) (from own (number_at bound.face)) told certified.meets.point.positive whole up are required law;
+    }
 
-pub answer-claim : (s : GeneralSetting) (conditions : List Condition) (finding : Finding) (told : List (Option Frac)) → AreConditionsFor s conditions
+pub answer-claim : (s : GeneralSetting) (conditions : List Condition) (finding : Finding) (told : List (Option Frac)) → pos 0 <ℤ total_of s → AreConditionsFor s conditions
     → IsRequiredVerdict s conditions finding told Valid → ClaimHolds s conditions finding → AnswerHolds s conditions finding told
-answer-claim s conditions (Optimal value m bound) told fit h claim = (claim, shadows-claim s conditions value m bound told fit h.0 h.1)
-answer-claim s conditions (Infeasible face) told fit h claim = claim
-answer-claim s conditions (Unbounded m ray) told fit h claim = claim
+answer-claim s conditions (Optimal value m bound) told whole fit h claim = (claim, shadows-claim s conditions value m bound told whole fit h.0 h.1)
+answer-claim s conditions (Infeasible face) told whole fit h claim = claim
+answer-claim s conditions (Unbounded m ray) told whole fit h claim = claim
 
 -- neither rejected nor undecided
 pub valid-left : (v : Verdict) → ((reject : Reject) → v ≢ verdicts.Rejected reject) → v ≢ verdicts.Undecided → v ≡ verdicts.Valid

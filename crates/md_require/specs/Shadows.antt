@@ -1,5 +1,5 @@
 -- What a unit of the bound of each condition brings the objective, or costs it: its shadow, or shadow price.
-use Rattle.std.specs.Prelude.{◌≡◌, ◌⊎◌, ℕ, suc, ◌+◌, ℤ, pos, ◌+ℤ◌, ◌-ℤ◌, ◌*ℤ◌, ◌≤ℤ◌, ◌<ℤ◌, List, [], ◌∷◌, length, All, Option, Some, None}
+use Rattle.std.specs.Prelude.{◌≡◌, ◌⊎◌, ℕ, suc, ◌+◌, ℤ, pos, ◌+ℤ◌, ◌-ℤ◌, ◌*ℤ◌, ◌≤ℤ◌, ◌<ℤ◌, List, [], ◌∷◌, ◌++◌, length, All, Option, Some, None}
 use Rattle.md_math.specs.Divisors.{IsLeastTerms}
 use Rattle.md_math.specs.Lists.{number_at}
 use Rattle.md_math.specs.Sizes.{IsWithin}
@@ -18,21 +18,26 @@ use Rattle.md_forms.specs.Forms.{number_of}
 use Rattle.md_rows.specs.ProgramOf.{cost_of, forms_of}
 use Rattle.md_require.specs.declared.condition.Condition.{Condition}
 use Rattle.md_require.specs.Amounts.{Amount, amounts_of, whole_of}
+use Rattle.md_require.specs.Conditions.{bound_of, told_of}
 use Rattle.md_require.specs.Required.{IsRequired}
 use Rattle.md_require.specs.RequireProgram.{amount_form, at_most_by}
 
 -- ---- what shadows say
 
--- the second condition is the first one, but for the numerator of its bound
+-- the second condition is the first one with another bound, over any denominator of at least 1
 pub record IsMoved (c d : Condition) : Type 0 where
   pub measured : d.measured ≡ c.measured
   pub side : d.side ≡ c.side
-  pub den : d.den ≡ c.den
+  pub positive : pos 0 <ℤ d.den
+
+-- what the bound moved by, over the product of both denominators
+abbrev pub move_of : Condition → Condition → ℤ
+move_of c d = d.num *ℤ c.den -ℤ c.num *ℤ d.den
 
 -- Over the denominator k: the shadow times what the bound moved by. A bound whose shadow is not told does not move.
 abbrev pub IsPart : ℤ → Condition → Condition → Option Frac → ℤ → Type 0
-IsPart k c d (Some shadow) part = part *ℤ (shadow.den *ℤ c.den) ≡ k *ℤ (shadow.num *ℤ (d.num -ℤ c.num))
-IsPart k c d None part = (d.num ≡ c.num) × (part ≡ pos 0)
+IsPart k c d (Some shadow) part = part *ℤ (shadow.den *ℤ (c.den *ℤ d.den)) ≡ k *ℤ (shadow.num *ℤ move_of c d)
+IsPart k c d None part = (move_of c d ≡ pos 0) × (part ≡ pos 0)
 
 -- so it is with each condition
 abbrev pub AreParts : ℤ → List Condition → List Condition → List (Option Frac) → List ℤ → Type 0
@@ -42,10 +47,38 @@ AreParts k _ _ _ _ = ⊥
 
 -- Wherever the bounds move to, no admissible mechanism that meets the conditions then has a greater objective than this mechanism and
 -- what the shadows say of the moves.
-abbrev pub AreShadows : GeneralSetting → List Condition → Mechanism → List (Option Frac) → Type 0
-AreShadows s conditions m shadows =
+abbrev pub LimitGains : GeneralSetting → List Condition → Mechanism → List (Option Frac) → Type 0
+LimitGains s conditions m shadows =
     (moved : List Condition) (k : ℤ) (parts : List ℤ) → pos 0 <ℤ k → AreParts k conditions moved shadows parts → (other : Mechanism) → IsRequired s moved other
     → (k *ℤ (worth_of s other *ℤ m.den)) ≤ℤ (k *ℤ (worth_of s m *ℤ other.den) +ℤ total parts *ℤ ((m.den *ℤ other.den) *ℤ total_of s))
+
+-- one of some amounts is just the bound of the condition
+pub record BindsAt (s : GeneralSetting) (m : Mechanism) (c : Condition) (amounts : List Amount) : Type 0 where
+  pub before : List Amount
+  pub amount : Amount
+  pub after : List Amount
+  pub parts : amounts ≡ before ++ amount ∷ after
+  pub at_bound : told_of s m c amount ≡ bound_of s m c amount
+
+-- the condition binds: the mechanism brings an amount of it to its bound
+abbrev pub Binds : GeneralSetting → Mechanism → Condition → Type 0
+Binds s m c = BindsAt s m c (amounts_of s c.measured)
+
+-- complementary slackness: a shadow that is told is 0 where the condition does not bind
+abbrev pub IsComplementary : GeneralSetting → Mechanism → Condition → Option Frac → Type 0
+IsComplementary s m c (Some shadow) = (shadow.num ≡ pos 0) ⊎ Binds s m c
+IsComplementary s m c None = Unit {0}
+
+-- so it is with each condition
+abbrev pub AreComplementary : GeneralSetting → Mechanism → List Condition → List (Option Frac) → Type 0
+AreComplementary s m [] [] = Unit {0}
+AreComplementary s m (c ∷ cs) (shadow ∷ shadows) = IsComplementary s m c shadow × AreComplementary s m cs shadows
+AreComplementary s m _ _ = ⊥
+
+-- what the shadows of a mechanism say
+pub record AreShadows (s : GeneralSetting) (conditions : List Condition) (m : Mechanism) (shadows : List (Option Frac)) : Type 0 where
+  pub gains : LimitGains s conditions m shadows
+  pub complementary : AreComplementary s m conditions shadows
 
 -- ---- how they are read off multipliers
 

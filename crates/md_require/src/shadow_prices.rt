@@ -41,9 +41,10 @@ pub fn shadows(
     ensures told { IfOk result (λ shadows. AreShadowsBy setting.now conditions.now bound.now shadows.items) }
 
     // Where the answer with these multipliers is valid: wherever the bounds move to, no mechanism has a greater objective than its
-    // mechanism and what the shadows say of the moves.
+    // mechanism and what the shadows say of the moves; and the shadow of a condition that does not bind is 0.
     ensures law { IfOk result (λ shadows. (value : Frac) (m : Mechanism) → IsVerdictOn (require_question setting.now conditions.now) (Optimal value m bound.now) Valid → AreShadows setting.now conditions.now m shadows.items) }
 {
+    let _weight = setting.total();
     told_shadows(alloc, setting, conditions, bound)
 }
 

@@ -13,12 +13,12 @@ use Rattle.md_setting.specs.declared.file.SettingFile.{SettingFile}
 use Rattle.md_setting.specs.declared.file.SettingFile.TheVariants.{General, Auction}
 use Rattle.md_cli_driver.specs.declared.refusal.Refusal.{Refusal}
 use Rattle.md_cli_driver.specs.declared.refusal.Refusal.TheVariants as refusal
-use Rattle.md_top.specs.Promises.{IsComplete, IsFaultless, IsHeadlineBy, IsHeadlineOf, IsPrinted, IsPrintedOf, IsReplied}
+use Rattle.md_top.specs.Promises.{IsComplete, IsFaultless, IsFound, IsHeadlineBy, IsHeadlineOf, IsPrinted, IsPrintedOf, IsReplied}
 use Rattle.md_cli_driver.specs.Refused.{refused, status_of}
-use Rattle.md_cli_driver.specs.Reading.{is_any, is_general, setting_in}
-use Rattle.md_top.specs.Reply.{IsReply, IsSaid, IsSaidBy, IsSaidOfOrder, IsSaidOfWork}
-use Rattle.md_cli_driver.specs.Works.{IsSaidOf, one_file}
-use Rattle.md_cli_best.specs.Finding.{IsFind, IsFindShownBy, IsFindStatus}
+use Rattle.md_cli_driver.specs.Reading.{is_any, is_general, second_in, setting_in}
+use Rattle.md_top.specs.Reply.{IsReply, IsSaid, IsSaidBy, IsSaidOfOrder, IsSaidOfWork, find_work}
+use Rattle.md_cli_driver.specs.Works.{IsSaidOf, IsSaidOfBoth, one_file, two_files}
+use Rattle.md_cli_best.specs.Finding.{IsFind, IsFindShownBy, IsFindStatus, basis_in}
 use Rattle.md_cli_best.specs.Headline.{IsSolveStatus}
 use Rattle.md_cli_best.specs.Solving.{IsShownBy, IsSolve}
 use Rattle.md_cli_driver.specs.Saying.{IsDelivered, IsSent, Saying, SinkChange, is_answer, write_fault}
@@ -107,6 +107,30 @@ module _ (Shows : SettingFile → ℕ → List ℕ → Type 0) (saying : Saying)
   printed-of serves Says IsOwn shows setting second content before after (inr (inr memory)) =
       λ bytes told. not_shown (setting_in serves bytes) (refused-above refusal.Memory saying status out err memory.0 delivered)
 
+  -- what is said of a setting that is served and of what was read of a second file
+  said-of : {T : Type 0} (file : SettingFile) (Says : T → Saying → Type 0) → ((x : T) → Says x saying → Shows file saying.status saying.text)
+      → (r : Result T Refusal) → IsSaidOf Says r saying → status < 64 → ForSome out.before (λ old. ForSome out.after (λ new. IsPrinted (Shows file) status old new))
+  said-of file Says shows (Ok x) h low = printed file (shows x h) low
+  said-of file Says shows (Err e) h low = absurd (omega (arith, low, refused-above e saying status out err h delivered))
+
+  both-shown : {T : Type 0} (reading : SettingFile → List ℕ → Result T Refusal) (Says : SettingFile → T → Saying → Type 0) → ((file : SettingFile) (x : T) → Says file x saying → Shows file saying.status saying.text)
+      → (r : Result SettingFile Refusal) (second : Option (List ℕ)) (more : List ℕ) → second ≡ Some more → IsSaidOfBoth reading Says r second saying
+      → MatchResult r (λ file. status < 64 → ForSome out.before (λ old. ForSome out.after (λ new. IsPrinted (Shows file) status old new))) (λ e. 64 ≤ status)
+  both-shown reading Says shows (Ok file) second more told h = said-of file (Says file) (shows file) (second_in (reading file) more) (h.1 more told)
+  both-shown reading Says shows (Err e) second more told h = refused-above e saying status out err h delivered
+
+  -- whatever is said of a command over two files
+  printed-of_both : {T : Type 0} (serves : SettingFile → Bool) (reading : SettingFile → List ℕ → Result T Refusal) (Says : SettingFile → T → Saying → Type 0) (IsOwn : ℕ → Type 0)
+      → ((file : SettingFile) (x : T) → Says file x saying → Shows file saying.status saying.text)
+      → (setting second : List ℕ) (content : List ℕ → Option (List ℕ)) (before after : List ℕ → ℕ) → IsSaidOfWork (two_files T serves reading Says IsOwn) setting second content before after saying
+      → ForSome (content second) (λ _. IsPrintedOf serves Shows setting content status out)
+  printed-of_both serves reading Says IsOwn shows setting second content before after (inl reply) =
+      λ more held bytes told. both-shown reading Says shows (setting_in serves bytes) (content second) more held (reply.0.said_of bytes told)
+  printed-of_both serves reading Says IsOwn shows setting second content before after (inr (inl fault)) =
+      λ more held bytes told. not_shown (setting_in serves bytes) (refused-above refusal.ReadFault saying status out err fault.0 delivered)
+  printed-of_both serves reading Says IsOwn shows setting second content before after (inr (inr memory)) =
+      λ more held bytes told. not_shown (setting_in serves bytes) (refused-above refusal.Memory saying status out err memory.0 delivered)
+
 solve-shows : (width : ℕ) (saying : Saying) (file : SettingFile) → IsSolve width file saying → IsShownBy file width saying.status saying.text
 solve-shows width saying (General s) h = h.headline
 solve-shows width saying (Auction a) h = h.headline
@@ -115,16 +139,23 @@ find-shows : (saying : Saying) (file : SettingFile) → IsFind file saying → I
 find-shows saying (General s) h = h.headline
 find-shows saying (Auction a) h = tt
 
+found-shows : (has_second : Bool) (order : Order) (content : List ℕ → Option (List ℕ)) (before after : List ℕ → ℕ) (saying : Saying) (status : ℕ) (out err : SinkChange)
+    → IsSaidOfWork (find_work has_second) order.setting order.second content before after saying → IsDelivered saying status out err → IsFound has_second order content status out
+found-shows false order content before after saying status out err said delivered =
+    printed-of IsFindShownBy saying status out err delivered is_general IsFind IsFindStatus (find-shows saying) order.setting order.second content before after said
+found-shows true order content before after saying status out err said delivered =
+    printed-of_both IsFindShownBy saying status out err delivered is_general basis_in (λ file basis. IsFind file) IsFindStatus (λ file basis. find-shows saying file) order.setting order.second content before after said
+
 headline-of_command : (command : Command) (order : Order) (content : List ℕ → Option (List ℕ)) (before after : List ℕ → ℕ) (saying : Saying) (status : ℕ) (out err : SinkChange)
     → IsSaidOfOrder (record order { command = command }) content before after saying → IsDelivered saying status out err
-    → IsHeadlineBy command order.setting order.width content status out
+    → IsHeadlineBy command order content status out
 headline-of_command Audit order content before after saying status out err said delivered = tt
 headline-of_command Rows order content before after saying status out err said delivered = tt
 headline-of_command Check order content before after saying status out err said delivered = tt
 headline-of_command Solve order content before after saying status out err said delivered =
     printed-of (λ file. IsShownBy file order.width) saying status out err delivered is_any (IsSolve order.width) IsSolveStatus (solve-shows order.width saying) order.setting order.second content before after said
 headline-of_command Find order content before after saying status out err said delivered =
-    printed-of IsFindShownBy saying status out err delivered is_general IsFind IsFindStatus (find-shows saying) order.setting order.second content before after said
+    found-shows order.has_second order content before after saying status out err said delivered
 headline-of_command FindFair order content before after saying status out err said delivered = tt
 headline-of_command FairCheck order content before after saying status out err said delivered = tt
 headline-of_command Require order content before after saying status out err said delivered = tt

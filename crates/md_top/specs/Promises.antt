@@ -1,5 +1,5 @@
 -- What a call promises of its status and its texts, as consequences of what it says.
-use Rattle.std.specs.Prelude.{◌≡◌, ◌≢◌, ◌++◌, ◌<◌, ◌≤◌, ℕ, Bool, List, Option, None, Some, MatchResult}
+use Rattle.std.specs.Prelude.{◌≡◌, ◌≢◌, ◌++◌, ◌<◌, ◌≤◌, ℕ, Bool, true, false, List, Option, None, Some, MatchResult}
 use Rattle.std.specs.Option.{ForSome}
 use Rattle.md_ports.specs.Faults.{Rose}
 use Rattle.md_cli_words.specs.declared.command.Command.{Command}
@@ -27,38 +27,47 @@ IsPrintedOf serves Shows setting content status out =
     (λ file. status < 64 → ForSome out.before (λ old. ForSome out.after (λ new. IsPrinted (Shows file) status old new)))
     (λ e. 64 ≤ status))
 
+-- the same where the setting comes with a second file, whatever that holds
+abbrev pub IsPrintedOfBoth : (SettingFile → Bool) → (SettingFile → ℕ → List ℕ → Type 0) → Order → (List ℕ → Option (List ℕ)) → ℕ → SinkChange → Type 0
+IsPrintedOfBoth serves Shows order content status out =
+    ForSome (content order.second) (λ _. IsPrintedOf serves Shows order.setting content status out)
+
+abbrev pub IsFound : Bool → Order → (List ℕ → Option (List ℕ)) → ℕ → SinkChange → Type 0
+IsFound false order content status out = IsPrintedOf is_general IsFindShownBy order.setting content status out
+IsFound true order content status out = IsPrintedOfBoth is_general IsFindShownBy order content status out
+
 -- where the best mechanism of a setting is to be found, it shows what the headline says
-abbrev pub IsHeadlineBy : Command → List ℕ → ℕ → (List ℕ → Option (List ℕ)) → ℕ → SinkChange → Type 0
-IsHeadlineBy Solve setting width content status out = IsPrintedOf is_any (λ file. IsShownBy file width) setting content status out
-IsHeadlineBy Find setting width content status out = IsPrintedOf is_general IsFindShownBy setting content status out
-IsHeadlineBy Audit setting width content status out = Unit {0}
-IsHeadlineBy Rows setting width content status out = Unit {0}
-IsHeadlineBy Check setting width content status out = Unit {0}
-IsHeadlineBy Replay setting width content status out = Unit {0}
-IsHeadlineBy Realise setting width content status out = Unit {0}
-IsHeadlineBy Fair setting width content status out = Unit {0}
-IsHeadlineBy FindFair setting width content status out = Unit {0}
-IsHeadlineBy FairCheck setting width content status out = Unit {0}
-IsHeadlineBy Require setting width content status out = Unit {0}
-IsHeadlineBy RequireCheck setting width content status out = Unit {0}
-IsHeadlineBy AsymCheck setting width content status out = Unit {0}
-IsHeadlineBy Asym setting width content status out = Unit {0}
-IsHeadlineBy Units setting width content status out = Unit {0}
-IsHeadlineBy UnitCheck setting width content status out = Unit {0}
-IsHeadlineBy Threshold setting width content status out = Unit {0}
-IsHeadlineBy Award setting width content status out = Unit {0}
-IsHeadlineBy Determ setting width content status out = Unit {0}
-IsHeadlineBy DetermCheck setting width content status out = Unit {0}
-IsHeadlineBy Run setting width content status out = Unit {0}
-IsHeadlineBy Report setting width content status out = Unit {0}
-IsHeadlineBy Iron setting width content status out = Unit {0}
-IsHeadlineBy IronUnits setting width content status out = Unit {0}
-IsHeadlineBy Make setting width content status out = Unit {0}
-IsHeadlineBy Drill setting width content status out = Unit {0}
+abbrev pub IsHeadlineBy : Command → Order → (List ℕ → Option (List ℕ)) → ℕ → SinkChange → Type 0
+IsHeadlineBy Solve order content status out = IsPrintedOf is_any (λ file. IsShownBy file order.width) order.setting content status out
+IsHeadlineBy Find order content status out = IsFound order.has_second order content status out
+IsHeadlineBy Audit order content status out = Unit {0}
+IsHeadlineBy Rows order content status out = Unit {0}
+IsHeadlineBy Check order content status out = Unit {0}
+IsHeadlineBy Replay order content status out = Unit {0}
+IsHeadlineBy Realise order content status out = Unit {0}
+IsHeadlineBy Fair order content status out = Unit {0}
+IsHeadlineBy FindFair order content status out = Unit {0}
+IsHeadlineBy FairCheck order content status out = Unit {0}
+IsHeadlineBy Require order content status out = Unit {0}
+IsHeadlineBy RequireCheck order content status out = Unit {0}
+IsHeadlineBy AsymCheck order content status out = Unit {0}
+IsHeadlineBy Asym order content status out = Unit {0}
+IsHeadlineBy Units order content status out = Unit {0}
+IsHeadlineBy UnitCheck order content status out = Unit {0}
+IsHeadlineBy Threshold order content status out = Unit {0}
+IsHeadlineBy Award order content status out = Unit {0}
+IsHeadlineBy Determ order content status out = Unit {0}
+IsHeadlineBy DetermCheck order content status out = Unit {0}
+IsHeadlineBy Run order content status out = Unit {0}
+IsHeadlineBy Report order content status out = Unit {0}
+IsHeadlineBy Iron order content status out = Unit {0}
+IsHeadlineBy IronUnits order content status out = Unit {0}
+IsHeadlineBy Make order content status out = Unit {0}
+IsHeadlineBy Drill order content status out = Unit {0}
 
 abbrev pub IsHeadlineOf : Option Order → (List ℕ → Option (List ℕ)) → ℕ → SinkChange → Type 0
 IsHeadlineOf None content status out = Unit {0}
-IsHeadlineOf (Some order) content status out = IsHeadlineBy order.command order.setting order.width content status out
+IsHeadlineOf (Some order) content status out = IsHeadlineBy order.command order content status out
 
 -- ---- completeness
 

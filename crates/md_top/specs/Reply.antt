@@ -30,7 +30,8 @@ use Rattle.md_cli_best.specs.Solving.{IsSolve}
 use Rattle.md_cli_lp.specs.Replaying.{pivots_in, IsReplay, IsReplayStatus}
 use Rattle.md_cli_tell.specs.Realising.{odds_in, IsRealise, IsRealiseStatus}
 use Rattle.md_cli_best.specs.Fair.{IsFair}
-use Rattle.md_cli_best.specs.Finding.{IsFind, IsFindFair, IsFindStatus}
+use Rattle.md_cli_best.specs.Finding.{IsFind, IsFindFair, IsFindStatus, basis_in}
+use Rattle.md_find_basis.specs.Basis.{Listed}
 use Rattle.md_cli_best.specs.Requiring.{conditions_in, IsRequire}
 use Rattle.md_cli_tell.specs.Running.{drawable_in, IsRun, IsRunStatus}
 use Rattle.md_cli_tell.specs.Reported.{reported_in}
@@ -87,6 +88,11 @@ abbrev pub report_work : Option ℤ → Work
 report_work None = two_files Reported is_any reported_in IsReporting IsReportStatus
 report_work (Some number) = sale_of number (λ units. two_files Answer is_auction (unit_table_in units) (IsUnitReporting units) IsUnitReportStatus)
 
+-- The best mechanism of a setting is found. What is said of it is the same where a second file lists a basis to begin with.
+abbrev pub find_work : Bool → Work
+find_work false = one_file is_general IsFind IsFindStatus
+find_work true = two_files Listed is_general basis_in (λ file basis. IsFind file) IsFindStatus
+
 -- the commands: the files of each, what it says of them, and its statuses
 abbrev pub work_by : Command → Order → Work
 work_by Audit order = two_files Proposed is_general proposal_in IsAudit IsAuditStatus
@@ -96,7 +102,7 @@ work_by Solve order = one_file is_any (IsSolve order.width) IsSolveStatus
 work_by Replay order = two_files Pivots is_any pivots_in (IsReplay order.width) IsReplayStatus
 work_by Realise order = two_files Interim is_auction odds_in IsRealise IsRealiseStatus
 work_by Fair order = one_file is_general (IsFair order.width) IsSolveStatus
-work_by Find order = one_file is_general IsFind IsFindStatus
+work_by Find order = find_work order.has_second
 work_by FindFair order = one_file is_general IsFindFair IsFindStatus
 work_by FairCheck order = two_files FairAnswer is_general fair_answer_in IsFairCheck IsCheckStatus
 work_by Require order = two_files (List Condition) is_general conditions_in IsRequire IsFindStatus

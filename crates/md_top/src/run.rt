@@ -1,10 +1,10 @@
 //! The commands, each carried out over its files.
 ghost use Rattle.std.specs.Prelude.{ℕ, List, Some};
 ghost use Rattle.md_cli_words.specs.Orders.{asked};
-ghost use Rattle.md_top.specs.Reply.{award_work, draw_work, iron_units_work, report_work, threshold_work, unit_check_work, units_work, work_of};
+ghost use Rattle.md_top.specs.Reply.{award_work, draw_work, find_work, iron_units_work, report_work, threshold_work, unit_check_work, units_work, work_of};
 ghost use Rattle.md_cli_driver.specs.Works.{IsCarriedOut};
 
-use md_cli_best::{Determ, Drill, Fair, Find, FindFair, Make, Require, Solve};
+use md_cli_best::{Determ, Drill, Fair, Find, FindFair, FindFrom, Make, Require, Solve};
 use md_cli_driver::{Answered, NumberRefused, Refusal, of_none, of_one, of_sale, of_two};
 use md_cli_judge::{AsymCheck, Audit, Check, DetermCheck, FairCheck, RequireCheck, UnitCheck};
 use md_cli_lp::{Replay, Rows};
@@ -42,7 +42,7 @@ pub(crate) fn run<F: Shelf>(
         Command::Replay => of_two(alloc, &Replay { width }, setting, second, shelf),
         Command::Realise => of_two(alloc, &Realise, setting, second, shelf),
         Command::Fair => of_one(alloc, &Fair { width }, setting, shelf),
-        Command::Find => of_one(alloc, &Find, setting, shelf),
+        Command::Find => find(alloc, order.has_second, setting, second, shelf),
         Command::FindFair => of_one(alloc, &FindFair, setting, shelf),
         Command::FairCheck => of_two(alloc, &FairCheck, setting, second, shelf),
         Command::Require => of_two(alloc, &Require, setting, second, shelf),
@@ -61,6 +61,23 @@ pub(crate) fn run<F: Shelf>(
         Command::IronUnits => iron_units(alloc, number, setting, shelf),
         Command::Make => of_none(alloc, &Make { number }),
         Command::Drill => of_none(alloc, &Drill { number }),
+    }
+}
+
+// Finds the best mechanism of a setting, from a basis where a file of one is named.
+fn find<F: Shelf>(
+    alloc: Global,
+    has_second: bool,
+    setting: &str,
+    second: &str,
+    shelf: &mut F,
+) -> Result<Answered, Refusal>
+    ensures { IsCarriedOut (find_work has_second) setting.now second.now (F.content shelf.old) (F.faults shelf.old) (F.faults shelf.new) result }
+{
+    if has_second {
+        of_two(alloc, &FindFrom, setting, second, shelf)
+    } else {
+        of_one(alloc, &Find, setting, shelf)
     }
 }
 

@@ -1,12 +1,13 @@
 //! Certificates that each start finds by itself: where a profile has the weight 0, where payments are multiples of each other or grow
-//! without end, where staying away is worth something, and where the types of two bidders are correlated.
+//! without end, where staying away is worth something, and where the types of two bidders are correlated. And those that bases give.
 use md_cert::Certificate;
 use md_find::{FindError, Start, find_by};
+use md_find_basis::find_at;
 use md_lp::{Lp, LpRefusal, RowKind, Term};
 use md_num::{NoMemory, Nums};
 use std::alloc::Global;
 
-// What a start comes to.
+// What a start or a basis comes to.
 #[derive(Clone, Copy, PartialEq, Eq)]
 enum Ending {
     // The greatest cost, over a denominator.
@@ -14,6 +15,9 @@ enum Ending {
     Infeasible,
     Unbounded,
     NoPlace,
+    Singular,
+    TooLong,
+    NotValid,
     Nothing,
 }
 
@@ -28,7 +32,7 @@ struct Case {
     leap: Ending,
 }
 
-static CASES: [Case; 6] = [
+static CASES: [Case; 8] = [
     // A bidder to whom the item is worth 2, and a profile of the weight 0: nothing but its chances is told of it.
     Case {
         cost: &[0, 0, 0, 0, 1, 0, -1, 0],
@@ -181,6 +185,95 @@ static CASES: [Case; 6] = [
         first_best: Ending::Greatest(10, 1),
         leap: Ending::Greatest(10, 1),
     },
+    // A row that stands there twice.
+    Case {
+        cost: &[1, 0],
+        rows: &[(RowKind::Exact, &[1, 1], 1), (RowKind::Exact, &[1, 1], 1)],
+        first_best: Ending::NoPlace,
+        leap: Ending::Greatest(1, 1),
+    },
+    // The second column is 1 over the square of a number of 44 bits.
+    Case {
+        cost: &[0, 1],
+        rows: &[
+            (RowKind::Exact, &[17_592_186_044_415, 0], 1),
+            (RowKind::Exact, &[-1, 17_592_186_044_415], 0),
+        ],
+        first_best: Ending::TooLong,
+        leap: Ending::TooLong,
+    },
+];
+
+// A basis of the program of a case, and what is told of it.
+struct BasisCase {
+    case: usize,
+    columns: &'static [u32],
+    slacks: &'static [u32],
+    ending: Ending,
+}
+
+static BASES: [BasisCase; 9] = [
+    // The better outcome, and 4 by the payment that counts once.
+    BasisCase {
+        case: 1,
+        columns: &[2, 1],
+        slacks: &[],
+        ending: Ending::Greatest(4, 1),
+    },
+    // The other outcome, by which 2 are paid.
+    BasisCase {
+        case: 1,
+        columns: &[0, 2],
+        slacks: &[],
+        ending: Ending::NotValid,
+    },
+    // Two payments, and no outcome.
+    BasisCase {
+        case: 1,
+        columns: &[2, 3],
+        slacks: &[],
+        ending: Ending::Singular,
+    },
+    // One column too few, and one too many.
+    BasisCase {
+        case: 1,
+        columns: &[1],
+        slacks: &[],
+        ending: Ending::Singular,
+    },
+    BasisCase {
+        case: 1,
+        columns: &[1, 2],
+        slacks: &[0],
+        ending: Ending::Singular,
+    },
+    // A column that the program has not.
+    BasisCase {
+        case: 1,
+        columns: &[1, 5],
+        slacks: &[],
+        ending: Ending::Singular,
+    },
+    // Nothing is told of the profile of the weight 0 but one of its chances.
+    BasisCase {
+        case: 0,
+        columns: &[1, 3, 4],
+        slacks: &[],
+        ending: Ending::Greatest(2, 1),
+    },
+    // The second of two rows has its start column.
+    BasisCase {
+        case: 6,
+        columns: &[0],
+        slacks: &[1],
+        ending: Ending::Greatest(1, 1),
+    },
+    BasisCase {
+        case: 7,
+        columns: &[0, 1],
+        slacks: &[],
+        ending: Ending::TooLong,
+    },
 ];
 
 // The terms of a row.
@@ -239,14 +332,36 @@ fn greatest(lp: &Lp, den: i128, point: &Nums, wanted: Ending) -> Ending {
     }
 }
 
-// What a start comes to.
-fn ending_of(alloc: Global, lp: &Lp, start: Start, wanted: Ending) -> Ending {
-    match find_by(alloc, lp, start) {
+// What a search comes to.
+fn ending_of(lp: &Lp, found: Result<Certificate, FindError>, wanted: Ending) -> Ending {
+    match found {
         Ok(Certificate::Optimal { den, point, .. }) => greatest(lp, den, &point, wanted),
         Ok(Certificate::Infeasible { .. }) => Ending::Infeasible,
         Ok(Certificate::Unbounded { .. }) => Ending::Unbounded,
         Err(FindError::NoPlace) => Ending::NoPlace,
+        Err(FindError::Singular) => Ending::Singular,
+        Err(FindError::TooLong) => Ending::TooLong,
+        Err(FindError::NotValid) => Ending::NotValid,
         Err(_) => Ending::Nothing,
+    }
+}
+
+// Whether a start comes to what is told of it.
+fn starts_as_told(alloc: Global, lp: &Lp, start: Start, wanted: Ending) -> bool {
+    ending_of(lp, find_by(alloc, lp, start), wanted) == wanted
+}
+
+// Whether a basis comes to what is told of it.
+fn bounds_as_told(alloc: Global, basis: &BasisCase) -> bool {
+    if basis.case >= CASES.len() {
+        return false;
+    }
+    match program(alloc, &CASES[basis.case]) {
+        Ok(lp) => {
+            let found = find_at(alloc, &lp, basis.columns, basis.slacks);
+            ending_of(&lp, found, basis.ending) == basis.ending
+        }
+        Err(_) => false,
     }
 }
 
@@ -254,8 +369,8 @@ fn ending_of(alloc: Global, lp: &Lp, start: Start, wanted: Ending) -> Ending {
 fn ends_as_told(alloc: Global, case: &Case) -> bool {
     match program(alloc, case) {
         Ok(lp) => {
-            ending_of(alloc, &lp, Start::FirstBest, case.first_best) == case.first_best
-                && ending_of(alloc, &lp, Start::Leap(0), case.leap) == case.leap
+            starts_as_told(alloc, &lp, Start::FirstBest, case.first_best)
+                && starts_as_told(alloc, &lp, Start::Leap(0), case.leap)
         }
         Err(_) => false,
     }
@@ -265,5 +380,12 @@ fn ends_as_told(alloc: Global, case: &Case) -> bool {
 fn each_start_finds_certificates(rt: HostRuntime) {
     for (place, case) in CASES.iter().enumerate() {
         assert!(rt; ends_as_told(rt.alloc(), case), "at {place}");
+    }
+}
+
+#[test]
+fn bases_give_certificates(rt: HostRuntime) {
+    for (place, basis) in BASES.iter().enumerate() {
+        assert!(rt; bounds_as_told(rt.alloc(), basis), "at {place}");
     }
 }

@@ -14,6 +14,7 @@ returns-in_ok-write_fair-in-Ok-clause-fair c =
       infeasible = h.infeasible;
       unbounded = h.unbounded;
       admissible = h.admissible;
+      narrow = h.narrow;
       certified = h.certified;
       wide = h.wide;
       taken = h.taken;

@@ -10,7 +10,7 @@ use Rattle.md_fair.specs.declared.answer.FairAnswer.TheVariants.{Found}
 use Rattle.md_cli_driver.specs.Saying.{said, undecided_text}
 use Rattle.md_cli_driver.specs.declared.answered.Answered.{Answered}
 use Rattle.md_cli_best.specs.Finding.{IsFindingBy}
-use Rattle.md_cli_best.proofs.Fairest.{fair-valid}
+use Rattle.md_cli_best.proofs.Fairest.{fair-valid, narrow-in}
 use Rattle.md_cli_best.proofs.Found.{said-found, said-not_found}
 use Rattle.md_cli_best.proofs.find.fairest.Goals as goal
 
@@ -22,7 +22,7 @@ returns-in-Ok-clause-find c =
     rw c.general-setting.ensures
     (said-found (fair_question s) (HasNoLeastBound s) (λ f. text_of_fair s (Found f)) (λ t f. fair_answer_of s t ≡ Ok (Found f)) record { status = c.status.result; text = c.in_ok-write_fair-in-Ok.field-0.items } finding h
     c.in-Ok.ensures.no_bound c.status.ensures.value c.in_ok-write_fair-in-Ok.ensures.text c.in_ok-write_fair-in-Ok.ensures.reads_back
-    (λ narrow. fair-valid s h.program finding h.is_program h.shown h.so h.admitted narrow))
+    (λ unbounded. fair-valid s h.program finding h.is_program h.shown h.so h.admitted (narrow-in (fair_question s) finding c.in-Ok.ensures.narrow unbounded)))
 
 pub returns-in-Err-TooWide-clause-find : goal.returns-in-Err-TooWide-clause-find
 returns-in-Err-TooWide-clause-find c =

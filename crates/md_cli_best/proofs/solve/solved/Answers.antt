@@ -55,6 +55,7 @@ returns-clause-solving c =
             solved = h.auction_solved;
             status = c.status.ensures.value;
             text = written.auction_text;
+            only = h.auction_only;
             headline = auction_headline a width c.status.result c.in_ok-write_answer.field-0.items answer found c.status.ensures.value written.auction_reads_back;
           })
     ]

@@ -1,7 +1,8 @@
 use Rattle.std.proofs.Common.{sym, subst}
 use Rattle.md_lp.specs.Program.{row_count}
-use Rattle.md_question_solve.specs.Readings.{FitsReading, TellsCertificate}
-use Rattle.md_question_solve.proofs.FoundLaws.{best-accepted, certified-told, finding-fits, own-points}
+use Rattle.md_question_solve.specs.Found.{reading_in}
+use Rattle.md_question_solve.specs.Readings.{FitsReading, IsOfBestPoint, TellsCertificate}
+use Rattle.md_question_solve.proofs.FoundLaws.{best-accepted, certified-told, finding-fits, of-best_point, own-points, where-best}
 use Rattle.md_question_solve.proofs.finding.certified.Goals as goal
 
 pub told-requires-clause-program : goal.told-requires-clause-program
@@ -13,6 +14,14 @@ with_value-requires g c =
     let p = c.args.lp.now in
     let fits : FitsReading q.setting (row_count p) c.in-Ok.reading = rw c.setting.ensures.about at c.in-Ok.ensures.fits in
     best-accepted q.setting (row_count p) c.in-Ok.reading fits
+
+pub returns-in-Ok-clause-of_point : goal.returns-in-Ok-clause-of_point
+returns-in-Ok-clause-of_point g c =
+    let q = g.Q.Asks.asked c.args.question.now in
+    let p = c.args.lp.now in
+    let tells : TellsCertificate q.setting c.args.certificate c.in-Ok.reading = rw c.setting.ensures.about at c.in-Ok.ensures.tells in
+    where-best (IsOfBestPoint q.setting p) c.with_value.result
+    (of-best_point q.setting p c.args.certificate (reading_in c.with_value.result) c.requires.certified c.requires.fits (subst (TellsCertificate q.setting c.args.certificate) (sym c.with_value.ensures.read) tells))
 
 pub returns-in-Ok-clause-finding : goal.returns-in-Ok-clause-finding
 returns-in-Ok-clause-finding g c =

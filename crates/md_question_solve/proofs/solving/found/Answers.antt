@@ -1,7 +1,7 @@
 use Rattle.std.proofs.Common.{sym, subst}
 use Rattle.md_lp.specs.Program.{row_count}
-use Rattle.md_question_solve.specs.Readings.{FitsReading, TellsRun}
-use Rattle.md_question_solve.proofs.FoundLaws.{best-accepted, finding-fits, own-points}
+use Rattle.md_question_solve.specs.Readings.{FitsReading, IsOfBestPoint, TellsRun, WhereBest}
+use Rattle.md_question_solve.proofs.FoundLaws.{best-accepted, finding-fits, own-points, where-best}
 use Rattle.md_question_solve.proofs.solving.found.Goals as goal
 
 pub read_program-requires : goal.read_program-requires
@@ -20,6 +20,13 @@ returns-in-Ok-clause-found g c =
     let p = c.args.lp.now in
     let read : TellsRun q.setting p c.args.width c.in-Ok.reading = rw c.setting.ensures.about at c.in-Ok.ensures.read in
     (subst (TellsRun q.setting p c.args.width) (sym c.with_value.ensures.read) read, c.with_value.ensures.value)
+
+pub returns-in-Ok-clause-of_point : goal.returns-in-Ok-clause-of_point
+returns-in-Ok-clause-of_point g c =
+    let q = g.Q.Asks.asked c.args.question.now in
+    let P = IsOfBestPoint q.setting c.args.lp.now in
+    let read : WhereBest P c.in-Ok.reading = rw c.setting.ensures.about at c.in-Ok.ensures.of_point in
+    where-best P c.with_value.result (subst (WhereBest P) (sym c.with_value.ensures.read) read)
 
 pub returns-in-Ok-clause-writable : goal.returns-in-Ok-clause-writable
 returns-in-Ok-clause-writable g c =

@@ -3,12 +3,13 @@ use Rattle.md_rows.proofs.RowForms.{if_ok}
 use Rattle.md_simplex.specs.declared.order.Order.TheVariants.{Forward, Backward}
 use Rattle.md_simplex.specs.Runs.{IsLeft}
 use Rattle.md_simplex.proofs.SamePaths.{first_wide-same, meets-same, taken-same}
-use Rattle.md_question.specs.Findings.{ClaimsInfeasible, WhereUnbounded}
+use Rattle.md_question.specs.Findings.{ClaimsInfeasible, WhereOptimal, WhereUnbounded}
 use Rattle.md_question.specs.Question.{AdmitsNone}
 use Rattle.md_question.specs.Shown.{IsShown, IsSo}
 use Rattle.md_question.proofs.FindingLaws.{exactly_infeasible, same_program, shown-every, so-admitted}
-use Rattle.md_question_solve.specs.Found.{IsFound, IsFoundBy, IsLeftFor}
-use Rattle.md_question_solve.proofs.FoundLaws.{first_wide-of, found-same, if_err, left-for, left-same, one-finding, shown, so, taken-of, wide-of}
+use Rattle.md_question_solve.specs.Found.{IsFound, IsFoundBy, IsLeftFor, IsOfPoint}
+use Rattle.md_question_solve.specs.Readings.{IsOfBestPoint}
+use Rattle.md_question_solve.proofs.FoundLaws.{first_wide-of, found-same, if_err, left-for, left-same, of-point, one-finding, shown, so, taken-of, wide-of}
 use Rattle.md_question_solve.proofs.solving.solve_question.Goals as goal
 
 pub returns-clause-solved : goal.returns-clause-solved
@@ -36,6 +37,13 @@ returns-clause-admitted g c =
     let lp = c.in-Ok.lp in
     if_ok c.found.result (IsFoundBy q lp c.args.width) (WhereUnbounded (λ mechanism ray. q.admits mechanism))
     (λ a h. so-admitted q c.found.ensures.laws a (so q c.found.ensures.laws lp c.args.width a c.in-Ok.ensures h)) c.found.ensures.found
+
+pub returns-clause-of_point : goal.returns-clause-of_point
+returns-clause-of_point g c =
+    let q = g.Q.Asks.asked c.args.question.now in
+    let lp = c.in-Ok.lp in
+    if_ok c.found.result (WhereOptimal (λ value m bound. IsOfBestPoint q.setting lp m)) (WhereOptimal (λ value m bound. IsOfPoint q m)) (λ finding h. of-point q lp finding c.in-Ok.ensures h)
+    c.found.ensures.of_point
 
 pub returns-clause-taken : goal.returns-clause-taken
 returns-clause-taken g c = λ p order pivots step is taken.

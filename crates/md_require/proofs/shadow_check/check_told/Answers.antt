@@ -25,5 +25,5 @@ returns-in_default c =
       only = IfOk-weaker c.check_shadows.result _ _
           (λ v h other k. one-verdict s conditions whole finding told c.requires.finding found checked.only other v k (both-verdict s conditions finding told v valid h)) c.check_shadows.ensures;
       claim = IfOk-weaker c.check_shadows.result _ _
-          (λ v h e. answer-claim s conditions finding told c.requires.conditions (subst (λ w. IsRequiredVerdict s conditions finding told w) e (both-verdict s conditions finding told v valid h)) claim) c.check_shadows.ensures;
+          (λ v h e. answer-claim s conditions finding told whole c.requires.conditions (subst (λ w. IsRequiredVerdict s conditions finding told w) e (both-verdict s conditions finding told v valid h)) claim) c.check_shadows.ensures;
     }

@@ -1,14 +1,13 @@
+use Rattle.std.proofs.Common.{pos, ◌<ℤ◌, subst}
 use Rattle.std.proofs.lemmas.Result.{IfOk-weaker}
-use Rattle.md_require.proofs.ShadowLaws.{shadows-law}
+use Rattle.md_setting.specs.Meaning.{total_of}
+use Rattle.md_require.proofs.ToldVerdicts.{shadows-claim}
 use Rattle.md_require.proofs.shadow_prices.shadows.Goals as goal
 
 pub returns-clause-law : goal.returns-clause-law
 returns-clause-law c =
     let s = c.args.setting.now in
-    let conditions = c.args.conditions.now in
+    let whole : pos 0 <ℤ total_of s = subst (λ z. pos 0 <ℤ z) c.total-weight.ensures.value c.total-weight.ensures.positive in
     IfOk-weaker c.told_shadows.result _ _
-    (λ shadows told value m valid.
-    let judged = valid.2 in
-    shadows-law s conditions judged.program judged.is_program (λ k d l. (c.requires.conditions.each k d l).place) (λ k d l. (c.requires.conditions.each k d l).positive)
-    m c.args.bound.now shadows.items valid.0.admitted.admissible.mechanism (judged.holds judged.program judged.is_program) told)
+    (λ shadows told value m valid. shadows-claim s c.args.conditions.now value m c.args.bound.now shadows.items whole c.requires.conditions valid told)
     c.told_shadows.ensures

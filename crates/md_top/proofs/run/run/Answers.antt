@@ -13,7 +13,7 @@ pub returns-in-Fair : goal.returns-in-Fair
 returns-in-Fair g c = rw c.in-Fair.is (c.of_one-in-Fair.ensures c.args.order.now.second.now)
 
 pub returns-in-Find : goal.returns-in-Find
-returns-in-Find g c = rw c.in-Find.is (c.of_one-in-Find.ensures c.args.order.now.second.now)
+returns-in-Find g c = rw c.in-Find.is c.find.ensures
 
 pub returns-in-FindFair : goal.returns-in-FindFair
 returns-in-FindFair g c = rw c.in-FindFair.is (c.of_one-in-FindFair.ensures c.args.order.now.second.now)
