@@ -22,7 +22,7 @@ FORMS = {
     "replay": "SETTING PIVOTS [--width W]",
     "realise": "SETTING ODDS",
     "fair": "SETTING [--width W]",
-    "find": "SETTING",
+    "find": "SETTING [--from BASIS]",
     "findfair": "SETTING",
     "faircheck": "SETTING ANSWER",
     "require": "SETTING CONDITIONS",
@@ -61,9 +61,15 @@ def call_of(words: Sequence[str]) -> Call:
     """A call, by the words behind the program's name. Options may stand anywhere, up to a word `--`."""
     form = FORMS.get(words[0], "") if words else ""
     arguments = iter(form.partition(" [")[0].split())
-    found, paths, is_value, is_ended = list(words[:1]), dict[str, str](), False, False
+    found, paths, is_value, is_basis, is_ended = list(words[:1]), dict[str, str](), False, False, False
     for word in words[1:]:
+        if is_basis or (word.startswith("--from=") and not is_value and not is_ended):
+            paths["second"] = word if is_basis else word.removeprefix("--from=")
+            found.append("basis" if is_basis else "--from=basis")
+            is_basis = False
+            continue
         if is_value or (word.startswith("-") and not is_ended):
+            is_basis = word == "--from" and not is_value
             is_value = word in _OPTIONS
             is_ended = is_ended or word == "--"
             found.append(word)

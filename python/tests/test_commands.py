@@ -56,7 +56,7 @@ class Solving(unittest.TestCase):
             self.assertIn("".join(f"row,{row},0,{number}\n" for row, number in multipliers.items()), found.text())
         with self.assertRaises(mechdes.AnswerRefused) as refused:
             mechdes.find(setting, f"{rest}end\n")
-        self.assertEqual(refused.exception.line, "answer refused: line 5: record")
+        self.assertEqual(refused.exception.message, "answer refused: line 5: record")
 
     @needs_library
     def test_the_other_searches(self) -> None:

@@ -133,7 +133,7 @@ class Requiring(unittest.TestCase):
             ([Payment("bidder", "most", 4, type="middle")], "line 2: field 3"),
             ([Revenue("most", 1), Chance("sold", "most", 1)], "line 3: field 2"),
             ([Chance("sell", "most", 1, profile=("low", "high"))], "line 2: field 2"),
-            ([Revenue("most", 2**60)], "line 2: field 4"),
+            ([Revenue("most", 2**60)], "line 2: field 3"),
             ("require,1\n", "line 1: ended"),
         ):
             with self.assertRaises(mechdes.AnswerRefused) as refused:

@@ -55,6 +55,8 @@ class Words(unittest.TestCase):
             (["solve", setting], (["solve", "setting"], first, b"")),
             (["solve", "--width", "30", setting], (["solve", "--width", "30", "setting"], first, b"")),
             (["units", setting, "--width=30", "3"], (["units", "setting", "--width=30", "3"], first, b"")),
+            (["find", "--from", answer, setting], (["find", "--from", "basis", "setting"], first, second)),
+            (["find", setting, f"--from={answer}"], (["find", "setting", "--from=basis"], first, second)),
             (["unitcheck", "--", setting, "3", answer], (["unitcheck", "--", "setting", "3", "answer"], first, second)),
             (
                 ["run", setting, answer, "3,2,2,1,2", "0", "0", "--units", "3"],
