@@ -1,6 +1,6 @@
 //! Reading a file of pivots.
-ghost use Rattle.std.specs.Prelude.{◌≡◌, ◌≢◌, Ok, Err, IfOk, MatchResult};
-ghost use Rattle.md_setting.specs.ByKind.{WhereGeneral, WhereAuction};
+ghost use Rattle.std.specs.Prelude.{◌≡◌, ◌≢◌, Ok, Err, IfOk, MatchResult, true};
+ghost use Rattle.md_setting.specs.ByKind.{WhereAuction, WhereGeneral, has_no_groups};
 ghost use Rattle.md_answer.specs.Pivots.{pivots_with, pivots_of, HasNoCuts, HasPivotPlaces};
 ghost use Rattle.md_answer.specs.AuctionPivots.{auction_pivots_of, HasCutsOf};
 
@@ -63,6 +63,7 @@ fn read_with_cuts(alloc: Global, bytes: &[u8], auction: &Auction) -> Result<Pivo
 /// The first record that may not stand there or has a wrong field, that no end stands among the records, or want of
 /// memory.
 pub fn read_pivots(alloc: Global, bytes: &[u8], file: &SettingFile) -> Result<Pivots, AnswerRefusal>
+    requires { has_no_groups file.now ≡ true }
     ensures reads { WhereGeneral (λ _. MatchResult result
         (λ pivots. pivots_of bytes.now ≡ Ok pivots)
         (λ refusal. refusal ≢ AnswerRefusal.Memory → pivots_of bytes.now ≡ Err refusal)) file.now }
@@ -79,5 +80,6 @@ pub fn read_pivots(alloc: Global, bytes: &[u8], file: &SettingFile) -> Result<Pi
     match file {
         SettingFile::General(_) => read_without_cuts(alloc, bytes),
         SettingFile::Auction(auction) => read_with_cuts(alloc, bytes, auction),
+        SettingFile::Bidders(_) => unreachable!(),
     }
 }

@@ -1,7 +1,7 @@
 //! Reading a whole answer.
-ghost use Rattle.std.specs.Prelude.{◌≡◌, ◌≢◌, Ok, Err, IfOk, MatchResult};
+ghost use Rattle.std.specs.Prelude.{◌≡◌, ◌≢◌, Ok, Err, IfOk, MatchResult, true};
 ghost use Rattle.md_setting.specs.Setting.{GeneralSetting};
-ghost use Rattle.md_setting.specs.ByKind.{WhereGeneral, WhereAuction};
+ghost use Rattle.md_setting.specs.ByKind.{WhereAuction, WhereGeneral, has_no_groups};
 ghost use Rattle.md_answer.specs.Kinds.{kind_of};
 ghost use Rattle.md_answer.specs.AnswerTo.{IsAnswerTo, HasPlaces};
 ghost use Rattle.md_answer.specs.AuctionAnswerTo.{IsAuctionAnswer};
@@ -148,6 +148,7 @@ fn read_about(alloc: Global, bytes: &[u8], setting: &Setting) -> Result<Answer, 
 /// The first record that may not stand there, has a wrong field or does not add to what it must, that no end stands
 /// among the records, or that memory ran out.
 pub fn read_answer(alloc: Global, bytes: &[u8], file: &SettingFile) -> Result<Answer, AnswerRefusal>
+    requires { has_no_groups file.now ≡ true }
     ensures reads { WhereGeneral (λ s. MatchResult result
         (λ answer. answer_of s bytes.now ≡ Ok answer)
         (λ refusal. refusal ≢ AnswerRefusal.Memory → answer_of s bytes.now ≡ Err refusal)) file.now }
@@ -165,5 +166,6 @@ pub fn read_answer(alloc: Global, bytes: &[u8], file: &SettingFile) -> Result<An
         SettingFile::Auction(auction) => {
             read_auction_answer(alloc, bytes, auction, &Supply::Item)
         },
+        SettingFile::Bidders(_) => unreachable!(),
     }
 }

@@ -1,6 +1,6 @@
 //! Writing a whole answer.
-ghost use Rattle.std.specs.Prelude.{◌≡◌, ◌++◌, IfOk, OnOk, Ok};
-ghost use Rattle.md_setting.specs.ByKind.{WhereGeneral, WhereAuction};
+ghost use Rattle.std.specs.Prelude.{◌≡◌, ◌++◌, IfOk, OnOk, Ok, true};
+ghost use Rattle.md_setting.specs.ByKind.{WhereAuction, WhereGeneral, has_no_groups};
 ghost use Rattle.md_answer.specs.declared.answer.Answer.{Answer};
 ghost use Rattle.md_answer.specs.AnswerTo.{IsAnswerTo, HasPlaces};
 ghost use Rattle.md_answer.specs.Answers.{answer_of};
@@ -117,6 +117,7 @@ fn text_about(alloc: Global, setting: &Setting, answer: &Answer) -> Result<Vec<u
 /// # Errors
 /// Want of memory.
 pub fn write_answer(alloc: Global, file: &SettingFile, answer: &Answer) -> Result<Vec<u8>, NoMemory>
+    requires kind { has_no_groups file.now ≡ true }
     requires fits { WhereGeneral (λ s. IsAnswerTo s answer.now) file.now }
     requires auction_fits { WhereAuction (λ a. IsAuctionAnswer a answer.now) file.now }
     ensures text { WhereGeneral (λ s. IfOk result (λ text. text.items ≡ text_of_answer s answer.now)) file.now }
@@ -133,5 +134,6 @@ pub fn write_answer(alloc: Global, file: &SettingFile, answer: &Answer) -> Resul
         SettingFile::Auction(auction) => {
             write_auction_answer(alloc, auction, &Supply::Item, answer)
         },
+        SettingFile::Bidders(_) => unreachable!(),
     }
 }

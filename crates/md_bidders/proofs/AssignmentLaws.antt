@@ -15,7 +15,7 @@ use Rattle.md_space.specs.AllProfiles.{profiles_of}
 use Rattle.md_space.specs.Profiles.{profile_count, IsProfile, rank_of, profile_at}
 use Rattle.md_space.proofs.InOrder.{total_by-profiles, All-profiles_of}
 use Rattle.md_space.proofs.Ranks.{rank_of-below, profile_at-rank_of, rank_of-profile_at, length-IsProfile, report-below}
-use Rattle.md_bidders.specs.Auction.{GroupedAuction, bidder_count}
+use Rattle.md_setting.specs.Grouped.{GroupedAuction, bidder_count}
 use Rattle.md_bidders.specs.Assignments.{has_own_slots, assignments, assignment_at}
 
 -- each bidder gets one of the slots or none, and no two of them get the same slot

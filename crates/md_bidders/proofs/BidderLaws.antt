@@ -2,8 +2,8 @@
 use Rattle.std.proofs.Common.{ℕ, suc, ◌+◌, ◌<◌, pos, ◌<ℤ◌, List, [], ◌∷◌, length, replicate, All, arith}
 use Rattle.std.proofs.lemmas.List.Elements.{All-nil, All-append, All-replicate, All-weaker}
 use Rattle.std.specs.Prelude.{slice_index}
-use Rattle.md_bidders.specs.Auction.{Group, GroupedAuction, members_from, bidder_count, group_of, group_with, value_count, value_at, weight_at}
-use Rattle.md_bidders.specs.Shaped.{IsGroup, IsOrdered}
+use Rattle.md_setting.specs.Grouped.{Group, GroupedAuction, members_from, bidder_count, group_of, group_with, value_count, value_at, weight_at}
+use Rattle.md_setting.specs.GroupedShaped.{IsGroup, IsOrdered}
 use Rattle.md_math.proofs.Order.{positive_pos}
 
 members-below : (k : ℕ) (groups : List Group) → All (λ m. m < k + length groups) (members_from k groups)

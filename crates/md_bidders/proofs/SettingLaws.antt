@@ -16,7 +16,7 @@ use Rattle.md_setting.specs.declared.kinds.Rational.TheVariants.{Interim}
 use Rattle.md_setting.specs.Setting.{Agent}
 use Rattle.md_setting.specs.Meaning.{nobody, agent_at, agent_count, outcome_count, sizes_of, type_weights, weight_of, utilities_by, utility_of, outside_of, welfare_of, value_of}
 use Rattle.md_bidders.specs.Products.{product_below}
-use Rattle.md_bidders.specs.Auction.{GroupedAuction, bidder_count, group_with, value_count, value_at, weight_at}
+use Rattle.md_setting.specs.Grouped.{GroupedAuction, bidder_count, group_with, value_count, value_at, weight_at}
 use Rattle.md_bidders.specs.Assignments.{assignments, assignment_at, amount_in}
 use Rattle.md_bidders.specs.Setting.{bidder_utilities, bidder_of, all_units, own_worth, way_name, setting_of}
 use Rattle.md_bidders.proofs.ProductLaws.{product_below-same, product_below-nonneg}

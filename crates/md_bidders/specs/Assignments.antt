@@ -2,7 +2,7 @@
 use Rattle.std.specs.Prelude.{ℕ, zero, suc, Bool, true, not, ◌&&◌, ◌==◌, List, [], ◌∷◌, length, replicate, filter, slice_index, slice_index_or}
 use Rattle.std.specs.List.{list_any}
 use Rattle.md_space.specs.AllProfiles.{profiles_of}
-use Rattle.md_bidders.specs.Auction.{GroupedAuction, bidder_count}
+use Rattle.md_setting.specs.Grouped.{GroupedAuction, bidder_count}
 
 -- no slot goes to two bidders
 abbrev pub has_own_slots : List ℕ → Bool

@@ -6,7 +6,7 @@ use Rattle.md_num.specs.WholeText.{text_of}
 use Rattle.md_setting.specs.declared.kinds.Truth.TheVariants.{Bayes}
 use Rattle.md_setting.specs.declared.kinds.Rational.TheVariants.{Interim}
 use Rattle.md_setting.specs.Setting.{Agent, GeneralSetting}
-use Rattle.md_bidders.specs.Auction.{GroupedAuction, bidder_count, group_with}
+use Rattle.md_setting.specs.Grouped.{GroupedAuction, bidder_count, group_with}
 use Rattle.md_bidders.specs.Assignments.{assignments, amount_in}
 
 -- a bidder's utility of each way to give slots: its value for each unit that it gets

@@ -1,6 +1,6 @@
 //! The verdict on an answer.
-ghost use Rattle.std.specs.Prelude.{◌≡◌, ◌↔◌, IfOk};
-ghost use Rattle.md_setting.specs.ByKind.{WhereGeneral, WhereAuction};
+ghost use Rattle.std.specs.Prelude.{◌≡◌, ◌↔◌, IfOk, true};
+ghost use Rattle.md_setting.specs.ByKind.{WhereAuction, WhereGeneral, has_no_groups};
 ghost use Rattle.md_lp.specs.Program.{Program};
 ghost use Rattle.md_rows.specs.ProgramOf.{IsProgramOf};
 ghost use Rattle.md_answer.specs.AnswerTo.{IsAnswerTo};
@@ -20,6 +20,7 @@ use std::alloc::Global;
 /// The verdict on an answer about the setting or the auction of a file: valid where all its conditions hold, undecided where
 /// it claims nothing, and else rejected with the first condition that fails. Nothing but want of memory is an error.
 pub fn check(alloc: Global, file: &SettingFile, answer: &Answer) -> Result<Verdict, NoMemory>
+    requires kind { has_no_groups file.now ≡ true }
     requires answer { WhereGeneral (λ s. IsAnswerTo s answer.now) file.now }
     requires auction_answer { WhereAuction (λ a. IsAuctionAnswer a answer.now) file.now }
     ensures verdict { WhereGeneral (λ s. IfOk result (IsVerdict s answer.now)) file.now }
@@ -39,6 +40,7 @@ pub fn check(alloc: Global, file: &SettingFile, answer: &Answer) -> Result<Verdi
     match file {
         SettingFile::General(setting) => check_general(alloc, setting, answer),
         SettingFile::Auction(auction) => check_auction(alloc, auction, &Supply::Item, answer),
+        SettingFile::Bidders(_) => unreachable!(),
     }
 }
 

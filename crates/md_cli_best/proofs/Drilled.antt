@@ -1,10 +1,12 @@
 -- What is said of a setting that was made, solved and checked.
-use Rattle.std.proofs.Common.{◌≡◌, ℕ, List, [], Some, Result, Ok, Err, sym, ap, subst, inl, inr}
+use Rattle.std.proofs.Common.{◌≡◌, ℕ, true, List, [], Some, Result, Ok, Err, sym, ap, subst, inl, inr, refl}
 use Rattle.std.specs.Prelude.{◌⊎◌}
 use Rattle.md_setting.specs.Auction.{SymmetricAuction}
 use Rattle.md_setting.specs.Setting.{GeneralSetting}
+use Rattle.md_setting.specs.ByKind.{has_no_groups}
 use Rattle.md_setting.specs.declared.file.SettingFile.{SettingFile}
-use Rattle.md_setting.specs.declared.file.SettingFile.TheVariants.{General, Auction}
+use Rattle.md_gen.specs.Generated.{IsGenerated}
+use Rattle.md_setting.specs.declared.file.SettingFile.TheVariants.{General, Auction, Bidders}
 use Rattle.md_answer.specs.Answers.{answer_of}
 use Rattle.md_answer.specs.AuctionAnswers.{auction_answer_of}
 use Rattle.md_answer.specs.declared.answer.Answer.{Answer}
@@ -122,6 +124,7 @@ module _ (a : SymmetricAuction) where
 pub readable : (file : SettingFile) (width : ℕ) (saying : Saying) → IsSolve width file saying → IsReadable file saying.text
 readable (General s) width saying h = let there = general-readable s width saying.status saying.text h.headline in (there.0, ap answer_or_refusal there.1)
 readable (Auction a) width saying h = let there = auction-readable a width saying.status saying.text h.headline in (there.0, ap answer_or_refusal there.1)
+readable (Bidders a) width saying h = absurd h
 
 -- the verdict on it is sure
 pub sure : (file : SettingFile) (width : ℕ) (saying : Saying) (answer : Answer) (v : Verdict) → IsSolve width file saying → answer_in file saying.text ≡ Ok answer
@@ -130,3 +133,10 @@ sure (General s) width saying answer v h read judged =
     general-sure s width saying.status saying.text h.headline answer v (read-answer (answer_of s saying.text) answer read) judged
 sure (Auction a) width saying answer v h read judged =
     auction-sure a width saying.status saying.text h.headline answer v (read-answer (auction_answer_of a saying.text) answer read) judged
+sure (Bidders a) width saying answer v h read judged = absurd h
+
+-- no setting that is made has groups of bidders
+pub made_without_groups : (number : ℕ) (file : SettingFile) → IsGenerated number file → has_no_groups file ≡ true
+made_without_groups number (General s) h = refl
+made_without_groups number (Auction a) h = refl
+made_without_groups number (Bidders a) h = absurd h

@@ -3,7 +3,7 @@ use Rattle.std.specs.Prelude.{◌≡◌, ◌⊎◌, ◌++◌, ◌∷◌, [], ℕ
 use Rattle.md_num.specs.WholeText.{text_of}
 use Rattle.md_num.specs.declared.frac.Frac.{Frac}
 use Rattle.md_setting.specs.declared.file.SettingFile.{SettingFile}
-use Rattle.md_setting.specs.declared.file.SettingFile.TheVariants.{General, Auction}
+use Rattle.md_setting.specs.declared.file.SettingFile.TheVariants.{General, Auction, Bidders}
 use Rattle.md_gen.specs.Generated.{IsGenerated}
 use Rattle.md_records.specs.Written.{text_of_records}
 use Rattle.md_answer.specs.Kinds.{word_of}
@@ -25,6 +25,7 @@ use Rattle.md_cli_best.specs.Solving.{IsSolve}
 abbrev pub kind_of : SettingFile → List ℕ
 kind_of (General s) = codes "general"
 kind_of (Auction a) = codes "auction"
+kind_of (Bidders a) = codes "bidders"
 
 -- the value of an answer that has one
 abbrev pub value_in : Answer → Option Frac

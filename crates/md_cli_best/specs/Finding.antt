@@ -4,7 +4,7 @@ use Rattle.md_setting.specs.Setting.{GeneralSetting}
 use Rattle.md_setting.specs.ByKind.{WhereGeneral}
 use Rattle.md_setting.specs.Rows.{column_count, row_count}
 use Rattle.md_setting.specs.declared.file.SettingFile.{SettingFile}
-use Rattle.md_setting.specs.declared.file.SettingFile.TheVariants.{General, Auction}
+use Rattle.md_setting.specs.declared.file.SettingFile.TheVariants.{General, Auction, Bidders}
 use Rattle.md_mech.specs.Optimal.{IsInfeasible}
 use Rattle.md_question.specs.Best.{best_question}
 use Rattle.md_question.specs.Certified.{IsCertifiedFinding}
@@ -104,6 +104,7 @@ basis_or_refusal (Err e) = Err (refusal.Answer e)
 abbrev pub basis_in : SettingFile → List ℕ → Result Listed Refusal
 basis_in (General s) bytes = basis_or_refusal (basis_of (column_count s) (row_count s) bytes)
 basis_in (Auction a) bytes = Err refusal.OtherKind
+basis_in (Bidders a) bytes = Err refusal.OtherKind
 
 -- ---- `findfair`
 

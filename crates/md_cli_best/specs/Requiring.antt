@@ -4,7 +4,7 @@ use Rattle.md_num.specs.declared.frac.Frac.{Frac}
 use Rattle.md_setting.specs.Setting.{GeneralSetting}
 use Rattle.md_setting.specs.ByKind.{WhereGeneral}
 use Rattle.md_setting.specs.declared.file.SettingFile.{SettingFile}
-use Rattle.md_setting.specs.declared.file.SettingFile.TheVariants.{General, Auction}
+use Rattle.md_setting.specs.declared.file.SettingFile.TheVariants.{General, Auction, Bidders}
 use Rattle.md_parts.specs.declared.refusal.AnswerRefusal.{AnswerRefusal}
 use Rattle.md_question.specs.Certified.{IsCertifiedFinding}
 use Rattle.md_question.specs.Question.{AdmitsNone}
@@ -33,6 +33,7 @@ conditions_or_refusal (Err e) = Err (refusal.Answer e)
 abbrev pub conditions_in : SettingFile → List ℕ → Result (List Condition) Refusal
 conditions_in (General s) bytes = conditions_or_refusal (conditions_of s bytes)
 conditions_in (Auction a) bytes = Err refusal.OtherKind
+conditions_in (Bidders a) bytes = Err refusal.OtherKind
 
 -- the conditions with what was found under them, and the shadows that are told
 abbrev pub with_conditions : List Condition → Finding → List (Option Frac) → Told

@@ -4,7 +4,7 @@ use Rattle.std.specs.Prelude.{◌≡◌, ℕ, List}
 use Rattle.md_setting.specs.Auction.{SymmetricAuction}
 use Rattle.md_setting.specs.Setting.{GeneralSetting}
 use Rattle.md_setting.specs.declared.file.SettingFile.{SettingFile}
-use Rattle.md_setting.specs.declared.file.SettingFile.TheVariants.{General, Auction}
+use Rattle.md_setting.specs.declared.file.SettingFile.TheVariants.{General, Auction, Bidders}
 use Rattle.md_answer.specs.AuctionRows.{text_of_auction_answer}
 use Rattle.md_answer.specs.Rows.{text_of_answer}
 use Rattle.md_answer.specs.declared.answer.Answer.{Answer}
@@ -47,8 +47,10 @@ pub record IsAuctionSolving (a : SymmetricAuction) (width : ℕ) (saying : Sayin
 abbrev pub IsSolve : ℕ → SettingFile → Saying → Type 0
 IsSolve width (General s) saying = IsSolving s width saying
 IsSolve width (Auction a) saying = IsAuctionSolving a width saying
+IsSolve width (Bidders a) saying = ⊥
 
 -- what is shown by a text that was printed with a status
 abbrev pub IsShownBy : SettingFile → ℕ → ℕ → List ℕ → Type 0
 IsShownBy (General s) width status text = IsHeadline s width status text
 IsShownBy (Auction a) width status text = IsAuctionHeadline a width status text
+IsShownBy (Bidders a) width status text = ⊥

@@ -1,7 +1,7 @@
 //! The command `drill`: the setting that a number stands for is solved, and the answer is read back and checked.
-ghost use Rattle.std.specs.Prelude.{◌≡◌, ◌⊎◌, ◌≤◌, ◌∷◌, [], IfOk, IfErr, Ok};
+ghost use Rattle.std.specs.Prelude.{◌≡◌, true, ◌⊎◌, ◌≤◌, ◌∷◌, [], IfOk, IfErr, Ok};
 ghost use Rattle.md_gen.specs.Generated.{IsGenerated};
-ghost use Rattle.md_setting.specs.ByKind.{WhereAuction, WhereGeneral};
+ghost use Rattle.md_setting.specs.ByKind.{WhereAuction, WhereGeneral, has_no_groups};
 ghost use Rattle.md_answer.specs.AnswerTo.{IsAnswerTo};
 ghost use Rattle.md_answer.specs.AuctionAnswerTo.{IsAuctionAnswer};
 ghost use Rattle.md_answer.specs.Kinds.{word_of};
@@ -66,6 +66,7 @@ fn drilled(alloc: Global, number: u32) -> Result<Answered, NoMemory>
 }
 
 // What comes of the setting that was made.
+#[tactic(auto, using(crate::proofs::Drilled::made_without_groups))]
 fn drilled_of(alloc: Global, number: u32, file: &SettingFile) -> Result<Answered, NoMemory>
     requires { IsGenerated number file.now }
     ensures drilled { IfOk result (λ answered. IsDrilled number (said answered)) }
@@ -80,7 +81,8 @@ fn drilled_of(alloc: Global, number: u32, file: &SettingFile) -> Result<Answered
 
 // What is told of the text of an answer, which is read back and checked.
 fn told_of(alloc: Global, number: u32, file: &SettingFile, text: &[u8]) -> Result<Vec<u8>, NoMemory>
-    requires { IsReadable file.now text.now }
+    requires kind { has_no_groups file.now ≡ true }
+    requires readable { IsReadable file.now text.now }
     ensures { IfOk result (λ told. IsToldOf number file.now text.now told.items) }
 {
     let answer = answer_again(alloc, file, text)?;
@@ -94,6 +96,7 @@ fn checked(
     file: &SettingFile,
     answer: &Answer,
 ) -> Result<Vec<u8>, NoMemory>
+    requires kind { has_no_groups file.now ≡ true }
     requires general { WhereGeneral (λ s. IsAnswerTo s answer.now) file.now }
     requires auction { WhereAuction (λ a. IsAuctionAnswer a answer.now) file.now }
     ensures { IfOk result (λ told. IsCheckedAs number file.now answer.now told.items) }
@@ -114,7 +117,8 @@ fn greatest_width() -> Width
 
 // The answer that a text says which was printed.
 fn answer_again(alloc: Global, file: &SettingFile, text: &[u8]) -> Result<Answer, NoMemory>
-    requires { IsReadable file.now text.now }
+    requires kind { has_no_groups file.now ≡ true }
+    requires readable { IsReadable file.now text.now }
     ensures read { IfOk result (λ answer. answer_in file.now text.now ≡ Ok answer) }
     ensures general { WhereGeneral (λ s. IfOk result (IsAnswerTo s)) file.now }
     ensures auction { WhereAuction (λ a. IfOk result (IsAuctionAnswer a)) file.now }
@@ -196,6 +200,7 @@ fn kind(file: &SettingFile) -> &'static str
     match file {
         SettingFile::General(_) => "general",
         SettingFile::Auction(_) => "auction",
+        SettingFile::Bidders(_) => "bidders",
     }
 }
 

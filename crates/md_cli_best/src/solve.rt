@@ -1,12 +1,14 @@
 //! The command `solve`: the best mechanism of a setting, or why there is none.
-ghost use Rattle.std.specs.Prelude.{◌≡◌, IfOk};
+ghost use Rattle.std.specs.Prelude.{◌≡◌, IfOk, true};
+ghost use Rattle.md_setting.specs.ByKind.{has_no_groups};
 ghost use Rattle.md_cli_best.specs.Headline.{IsSolveStatus};
-ghost use Rattle.md_cli_driver.specs.Reading.{is_any};
 ghost use Rattle.md_cli_driver.specs.Saying.{said};
 ghost use Rattle.md_cli_best.specs.Solving.{IsSolve, status_of_answer};
 
 use md_answer::{Answer, write_answer};
-use md_cli_driver::{Answered, DONE, INFEASIBLE, OneFile, Refusal, TOO_WIDE, UNBOUNDED};
+use md_cli_driver::{
+    Answered, DONE, INFEASIBLE, OneFile, Refusal, TOO_WIDE, UNBOUNDED, has_no_groups,
+};
 use md_num::{NoMemory, Width};
 use md_setting::SettingFile;
 use md_solve::solve;
@@ -20,14 +22,14 @@ pub struct Solve {
 }
 
 impl OneFile for Solve {
-    ghost is_served = { is_any };
+    ghost is_served = { has_no_groups };
 
     ghost says = { λ command. IsSolve command.width };
 
     ghost own = { IsSolveStatus };
 
-    fn serves(&self, _: &SettingFile) -> bool {
-        true
+    fn serves(&self, file: &SettingFile) -> bool {
+        has_no_groups(file)
     }
 
     fn answer(&self, alloc: Global, file: &SettingFile) -> Result<Answered, Refusal> {
@@ -37,6 +39,7 @@ impl OneFile for Solve {
 
 /// The answer to a setting within a width.
 pub(crate) fn solved(alloc: Global, file: &SettingFile, width: Width) -> Result<Answered, NoMemory>
+    requires { has_no_groups file.now ≡ true }
     ensures solving { IfOk result (λ answered. IsSolve width file.now (said answered)) }
     ensures status { IfOk result (λ answered. IsSolveStatus answered.status) }
 {

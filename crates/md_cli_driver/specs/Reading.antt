@@ -1,7 +1,7 @@
 -- What the files of a command say, and which reason to refuse them comes first.
 use Rattle.std.specs.Prelude.{◌≡◌, ◌≢◌, ℕ, Bool, true, false, List, length, Result, Ok, Err, MatchResult, nat_lt, if◌then◌else◌}
 use Rattle.md_setting.specs.declared.file.SettingFile.{SettingFile}
-use Rattle.md_setting.specs.declared.file.SettingFile.TheVariants.{General, Auction}
+use Rattle.md_setting.specs.declared.file.SettingFile.TheVariants.{General, Auction, Bidders}
 use Rattle.md_toml.specs.File.{setting_of}
 use Rattle.md_answer.specs.Answers.{answer_of}
 use Rattle.md_answer.specs.AuctionAnswers.{auction_answer_of}
@@ -48,15 +48,13 @@ setting_in serves bytes = and_then (file_said bytes) (served_by serves)
 abbrev pub is_general : SettingFile → Bool
 is_general (General s) = true
 is_general (Auction a) = false
+is_general (Bidders a) = false
 
 -- those that are auctions
 abbrev pub is_auction : SettingFile → Bool
 is_auction (General s) = false
 is_auction (Auction a) = true
-
--- all of them
-abbrev pub is_any : SettingFile → Bool
-is_any file = true
+is_auction (Bidders a) = false
 
 -- what a second file says, or the first reason to refuse it
 abbrev pub second_in : {T : Type 0} → (List ℕ → Result T Refusal) → List ℕ → Result T Refusal
@@ -77,3 +75,4 @@ answer_or_refusal (Err e) = Err (refusal.Answer e)
 abbrev pub answer_in : SettingFile → List ℕ → Result Answer Refusal
 answer_in (General s) bytes = answer_or_refusal (answer_of s bytes)
 answer_in (Auction a) bytes = answer_or_refusal (auction_answer_of a bytes)
+answer_in (Bidders a) bytes = Err refusal.OtherKind

@@ -19,7 +19,7 @@ pub use no_file::{NoFile, NumberRefused, of_none};
 pub use one_file::{OneFile, of_one};
 pub use refusal::{Refusal, want_of_memory};
 pub use sale_files::{SaleFiles, of_sale};
-pub use setting_file::{auction, general, is_auction, is_general};
+pub use setting_file::{auction, general, has_no_groups, is_auction, is_general};
 pub use status::{
     ANSWER_REFUSED, ARGUMENT_REFUSED, DONE, INFEASIBLE, NO_MEMORY, READ_FAULT, REJECTED,
     SETTING_REFUSED, TOO_WIDE, UNBOUNDED, UNDECIDED, USAGE, VIOLATED, WRITE_FAULT,

@@ -85,6 +85,7 @@ fn build_refusal_text(refusal: BuildRefusal) -> &'static str
         BuildRefusal::ZeroWeight => "zero weight",
         BuildRefusal::WeightTotal => "weight total",
         BuildRefusal::ValuesOrder => "values order",
+        BuildRefusal::SlotsOrder => "slots order",
         BuildRefusal::TooManyRows => "too many rows",
         BuildRefusal::TooManyCounts => "too many counts",
         BuildRefusal::Memory => "memory",

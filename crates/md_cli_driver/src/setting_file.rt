@@ -2,7 +2,7 @@
 ghost use Rattle.std.specs.Prelude.{◌≡◌, ◌≢◌, ◌⊎◌, ◌≤◌, ℕ, true, List, IfErr, Err};
 ghost use Rattle.std.specs.Option.{ForSome};
 ghost use Rattle.md_ports.specs.Faults.{Rose};
-ghost use Rattle.md_setting.specs.ByKind.{IsGeneral};
+ghost use Rattle.md_setting.specs.ByKind.{IsGeneral, has_no_groups};
 ghost use Rattle.md_setting.specs.declared.file.SettingFile.TheVariants as files;
 ghost use Rattle.md_toml.specs.File.{setting_of};
 ghost use Rattle.md_cli_driver.specs.declared.refusal.Refusal.TheVariants as refusal;
@@ -62,8 +62,15 @@ pub fn general(file: &SettingFile) -> &Setting
 {
     match file {
         SettingFile::General(setting) => setting,
-        SettingFile::Auction(_) => unreachable!(),
+        SettingFile::Auction(_) | SettingFile::Bidders(_) => unreachable!(),
     }
+}
+
+/// Whether a setting has no groups of bidders.
+pub fn has_no_groups(file: &SettingFile) -> bool
+    ensures { result ≡ has_no_groups file.now }
+{
+    !matches!(file, SettingFile::Bidders(_))
 }
 
 /// Whether a setting is an auction.
@@ -79,7 +86,7 @@ pub fn auction(file: &SettingFile) -> &Auction
     ensures { file.now ≡ files.Auction result.now }
 {
     match file {
-        SettingFile::General(_) => unreachable!(),
         SettingFile::Auction(auction) => auction,
+        SettingFile::General(_) | SettingFile::Bidders(_) => unreachable!(),
     }
 }

@@ -6,7 +6,7 @@ use Rattle.md_setting.specs.Auction.{SymmetricAuction}
 use Rattle.md_setting.specs.ByKind.{IsGeneral}
 use Rattle.md_setting.specs.Setting.{GeneralSetting}
 use Rattle.md_setting.specs.declared.file.SettingFile.{SettingFile}
-use Rattle.md_setting.specs.declared.file.SettingFile.TheVariants.{General, Auction}
+use Rattle.md_setting.specs.declared.file.SettingFile.TheVariants.{General, Auction, Bidders}
 use Rattle.md_mech.specs.declared.broken.Broken.{Broken}
 use Rattle.md_mech.specs.declared.mechanism.Mechanism.{Mechanism}
 use Rattle.md_mech.specs.Rows.{IsFirstBroken, conditions_of}
@@ -57,6 +57,7 @@ told-in_auction supply a (TooWide cuts first second) broken h = let e = h in cc
 pub told-in : (file : SettingFile) (answer : Answer) (broken : Broken) → IsVerdictOn file answer (Rejected (Audit broken)) → IsBrokenRow file broken
 told-in (General s) answer broken h = told-in_general s answer broken h
 told-in (Auction a) answer broken h = told-in_auction Item a answer broken h
+told-in (Bidders a) answer broken h = absurd h
 
 pub told-in_question : (q : Question) (finding : Finding) (broken : Broken) → IsVerdictOnFinding q finding (Rejected (Audit broken)) → broken.row < length (conditions_of q.setting)
 told-in_question q (findings.Optimal value m bound) broken h = first-in q.setting m broken h
@@ -76,6 +77,7 @@ untold-in_sale s (sale.TooWide cuts first second) broken h = absurd (let e = h i
 pub broken-general : (file : SettingFile) (broken : Broken) → IsBrokenRow file broken → IsGeneral file
 broken-general (General s) broken h = tt
 broken-general (Auction a) broken h = absurd h
+broken-general (Bidders a) broken h = absurd h
 
 -- the element at a place
 pub element : {X : Type 0} → (xs : List X) (r : ℕ) → r < length xs → (y : X) × (slice_get xs r ≡ Some y)

@@ -3,7 +3,7 @@ use Rattle.std.specs.Prelude.{◌≡◌, ◌↔◌, ℕ, List, Result, Ok, Err}
 use Rattle.md_setting.specs.Setting.{GeneralSetting}
 use Rattle.md_setting.specs.ByKind.{WhereGeneral}
 use Rattle.md_setting.specs.declared.file.SettingFile.{SettingFile}
-use Rattle.md_setting.specs.declared.file.SettingFile.TheVariants.{General, Auction}
+use Rattle.md_setting.specs.declared.file.SettingFile.TheVariants.{General, Auction, Bidders}
 use Rattle.md_parts.specs.declared.refusal.AnswerRefusal.{AnswerRefusal}
 use Rattle.md_question_check.specs.declared.verdict.Verdict.{Verdict}
 use Rattle.md_question_check.specs.declared.verdict.Verdict.TheVariants.{Valid, Undecided}
@@ -28,6 +28,7 @@ sale_answer_or_refusal (Err e) = Err (refusal.Answer e)
 abbrev pub sale_answer_in : SettingFile → List ℕ → Result SaleAnswer Refusal
 sale_answer_in (General s) bytes = sale_answer_or_refusal (sale_answer_of s bytes)
 sale_answer_in (Auction a) bytes = Err refusal.OtherKind
+sale_answer_in (Bidders a) bytes = Err refusal.OtherKind
 
 -- The one verdict on an answer, and what is said of it. Where the answer is valid, what it claims is so, over mechanisms of any
 -- denominator, with numbers of any size; it stays undecided exactly where it claims nothing.

@@ -4,7 +4,7 @@ use Rattle.md_num.specs.WholeText.{text_of}
 use Rattle.md_setting.specs.Setting.{GeneralSetting}
 use Rattle.md_setting.specs.ByKind.{WhereGeneral}
 use Rattle.md_setting.specs.declared.file.SettingFile.{SettingFile}
-use Rattle.md_setting.specs.declared.file.SettingFile.TheVariants.{General, Auction}
+use Rattle.md_setting.specs.declared.file.SettingFile.TheVariants.{General, Auction, Bidders}
 use Rattle.md_mech.specs.declared.broken.Broken.{Broken}
 use Rattle.md_mech.specs.Admissible.{IsAdmissible}
 use Rattle.md_mech.specs.Rows.{IsFirstBroken, conditions_of}
@@ -31,6 +31,7 @@ proposal_or_refusal (Err e) = Err (refusal.Answer e)
 abbrev pub proposal_in : SettingFile → List ℕ → Result Proposed Refusal
 proposal_in (General s) bytes = proposal_or_refusal (mechanism_text_of s bytes)
 proposal_in (Auction a) bytes = Err refusal.OtherKind
+proposal_in (Bidders a) bytes = Err refusal.OtherKind
 
 abbrev pub admissible_text : List ℕ
 admissible_text = codes "admissible" ++ 10 ∷ []

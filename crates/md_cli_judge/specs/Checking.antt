@@ -1,7 +1,7 @@
 -- What `check` says of a setting and of the answer that a second file says.
 use Rattle.std.specs.Prelude.{◌≡◌, ◌↔◌}
 use Rattle.md_setting.specs.declared.file.SettingFile.{SettingFile}
-use Rattle.md_setting.specs.declared.file.SettingFile.TheVariants.{General, Auction}
+use Rattle.md_setting.specs.declared.file.SettingFile.TheVariants.{General, Auction, Bidders}
 use Rattle.md_answer.specs.declared.answer.Answer.{Answer}
 use Rattle.md_question_check.specs.declared.verdict.Verdict.{Verdict}
 use Rattle.md_question_check.specs.declared.verdict.Verdict.TheVariants.{Valid, Undecided}
@@ -15,6 +15,7 @@ use Rattle.md_cli_judge.specs.Verdicts.{TellsVerdict}
 abbrev pub ClaimHoldsOf : SettingFile → Answer → Type 0
 ClaimHoldsOf (General s) answer = ClaimHolds s answer
 ClaimHoldsOf (Auction a) answer = AuctionClaimHolds a answer
+ClaimHoldsOf (Bidders a) answer = ⊥
 
 -- The one verdict on an answer, and what is said of it. Where the answer is valid, what it claims is so; it stays undecided
 -- exactly where it claims nothing.

@@ -4,7 +4,7 @@ use Rattle.std.specs.Prelude.{◌≡◌, ◌⊎◌, ◌↔◌, ℕ, List, Result
 use Rattle.md_setting.specs.Setting.{GeneralSetting}
 use Rattle.md_setting.specs.ByKind.{WhereGeneral}
 use Rattle.md_setting.specs.declared.file.SettingFile.{SettingFile}
-use Rattle.md_setting.specs.declared.file.SettingFile.TheVariants.{General, Auction}
+use Rattle.md_setting.specs.declared.file.SettingFile.TheVariants.{General, Auction, Bidders}
 use Rattle.md_parts.specs.declared.refusal.AnswerRefusal.{AnswerRefusal}
 use Rattle.md_tree.specs.declared.answer.DetAnswer.{DetAnswer}
 use Rattle.md_tree.specs.declared.verdict.DetVerdict.{DetVerdict}
@@ -25,6 +25,7 @@ text_or_refusal bytes (Err e) = Err (refusal.Answer e)
 abbrev pub determ_text_in : SettingFile → List ℕ → Result (List ℕ) Refusal
 determ_text_in (General s) bytes = text_or_refusal bytes (determ_answer_of s bytes)
 determ_text_in (Auction a) bytes = Err refusal.OtherKind
+determ_text_in (Bidders a) bytes = Err refusal.OtherKind
 
 -- The one verdict on an answer, and what is said of it. Where the answer is valid, what it claims is so, over mechanisms of any
 -- denominator, with numbers of any size; it stays undecided exactly where it claims nothing.

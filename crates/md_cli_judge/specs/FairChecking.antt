@@ -3,7 +3,7 @@ use Rattle.std.specs.Prelude.{◌≡◌, ◌↔◌, ℕ, List, Result, Ok, Err}
 use Rattle.md_setting.specs.Setting.{GeneralSetting}
 use Rattle.md_setting.specs.ByKind.{WhereGeneral}
 use Rattle.md_setting.specs.declared.file.SettingFile.{SettingFile}
-use Rattle.md_setting.specs.declared.file.SettingFile.TheVariants.{General, Auction}
+use Rattle.md_setting.specs.declared.file.SettingFile.TheVariants.{General, Auction, Bidders}
 use Rattle.md_parts.specs.declared.refusal.AnswerRefusal.{AnswerRefusal}
 use Rattle.md_question_check.specs.declared.verdict.Verdict.{Verdict}
 use Rattle.md_question_check.specs.declared.verdict.Verdict.TheVariants.{Valid, Undecided}
@@ -23,6 +23,7 @@ answer_or_refusal (Err e) = Err (refusal.Answer e)
 abbrev pub fair_answer_in : SettingFile → List ℕ → Result FairAnswer Refusal
 fair_answer_in (General s) bytes = answer_or_refusal (fair_answer_of s bytes)
 fair_answer_in (Auction a) bytes = Err refusal.OtherKind
+fair_answer_in (Bidders a) bytes = Err refusal.OtherKind
 
 -- The one verdict on an answer, and what is said of it. Where the answer is valid, what it claims is so, over mechanisms of any
 -- denominator, with numbers of any size; it stays undecided exactly where it claims nothing.

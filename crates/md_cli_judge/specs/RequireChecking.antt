@@ -6,7 +6,7 @@ use Rattle.md_records.specs.Written.{record_text}
 use Rattle.md_setting.specs.Setting.{GeneralSetting}
 use Rattle.md_setting.specs.ByKind.{WhereGeneral}
 use Rattle.md_setting.specs.declared.file.SettingFile.{SettingFile}
-use Rattle.md_setting.specs.declared.file.SettingFile.TheVariants.{General, Auction}
+use Rattle.md_setting.specs.declared.file.SettingFile.TheVariants.{General, Auction, Bidders}
 use Rattle.md_parts.specs.declared.refusal.AnswerRefusal.{AnswerRefusal}
 use Rattle.md_question_check.specs.declared.verdict.Verdict.TheVariants as verdicts
 use Rattle.md_require.specs.declared.required_verdict.RequiredVerdict.{RequiredVerdict}
@@ -27,6 +27,7 @@ answer_or_refusal (Err e) = Err (refusal.Answer e)
 abbrev pub required_answer_in : SettingFile → List ℕ → Result Told Refusal
 required_answer_in (General s) bytes = answer_or_refusal (required_answer_of s bytes)
 required_answer_in (Auction a) bytes = Err refusal.OtherKind
+required_answer_in (Bidders a) bytes = Err refusal.OtherKind
 
 -- the record of a shadow that is told otherwise than it is right: the number of its condition, and the right one, unless none is to be
 -- told

@@ -3,7 +3,7 @@ use Rattle.std.specs.Prelude.{◌≡◌, ◌↔◌, ℕ, List, Result, Err}
 use Rattle.md_setting.specs.Auction.{SymmetricAuction}
 use Rattle.md_setting.specs.ByKind.{WhereAuction}
 use Rattle.md_setting.specs.declared.file.SettingFile.{SettingFile}
-use Rattle.md_setting.specs.declared.file.SettingFile.TheVariants.{General, Auction}
+use Rattle.md_setting.specs.declared.file.SettingFile.TheVariants.{General, Auction, Bidders}
 use Rattle.md_answer.specs.AuctionAnswers.{answer_for}
 use Rattle.md_answer.specs.declared.answer.Answer.{Answer}
 use Rattle.md_answer.specs.declared.supply.Supply.TheVariants.{Units}
@@ -21,6 +21,7 @@ use Rattle.md_cli_judge.specs.Verdicts.{TellsVerdict}
 abbrev pub unit_answer_in : ℕ → SettingFile → List ℕ → Result Answer Refusal
 unit_answer_in units (General s) bytes = Err refusal.OtherKind
 unit_answer_in units (Auction a) bytes = answer_or_refusal (answer_for (Units units) a bytes)
+unit_answer_in units (Bidders a) bytes = Err refusal.OtherKind
 
 -- The one verdict on an answer, and what is said of it. Where the answer is valid, what it claims is so, over all mechanisms of the
 -- units, of any denominator, with numbers of any size; it stays undecided exactly where it claims nothing.

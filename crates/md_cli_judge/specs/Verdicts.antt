@@ -3,7 +3,7 @@ use Rattle.std.specs.Prelude.{◌≡◌, ◌⊎◌, ◌<◌, ◌++◌, ◌∷◌
 use Rattle.md_num.specs.WholeText.{text_of}
 use Rattle.md_records.specs.Written.{record_text}
 use Rattle.md_setting.specs.declared.file.SettingFile.{SettingFile}
-use Rattle.md_setting.specs.declared.file.SettingFile.TheVariants.{General, Auction}
+use Rattle.md_setting.specs.declared.file.SettingFile.TheVariants.{General, Auction, Bidders}
 use Rattle.md_mech.specs.declared.broken.Broken.{Broken}
 use Rattle.md_mech.specs.Rows.{Condition, conditions_of}
 use Rattle.md_mech.specs.RowName.{name_of}
@@ -24,6 +24,7 @@ rejected condition fields = codes "rejected" ∷ condition ∷ fields
 abbrev pub IsBrokenRow : SettingFile → Broken → Type 0
 IsBrokenRow (General s) broken = broken.row < length (conditions_of s)
 IsBrokenRow (Auction a) broken = ⊥
+IsBrokenRow (Bidders a) broken = ⊥
 
 -- The record of the first condition that fails. The condition with the number 1, which no answer about an auction has, names
 -- the broken row of the setting.
@@ -32,6 +33,7 @@ IsRejected (General s) (Audit broken) fields =
     (row : Condition) × (slice_get (conditions_of s) broken.row ≡ Some row)
     × (fields ≡ rejected (codes "1") (name_of s row ∷ text_of broken.left ∷ text_of broken.right ∷ []))
 IsRejected (Auction a) (Audit broken) fields = ⊥
+IsRejected (Bidders a) (Audit broken) fields = ⊥
 IsRejected file (Value right) fields = fields ≡ rejected (codes "2") (text_of right.num ∷ text_of right.den ∷ [])
 IsRejected file (Pair row face main) fields = fields ≡ rejected (codes "3") (text_of (pos row) ∷ text_of face ∷ text_of main ∷ [])
 IsRejected file (Column column face main) fields = fields ≡ rejected (codes "4") (text_of (pos column) ∷ text_of face ∷ text_of main ∷ [])

@@ -1,7 +1,7 @@
 -- What `replay` says of a setting and of listed pivots.
 use Rattle.std.specs.Prelude.{◌≡◌, ◌⊎◌, ℕ, List, Option, None, Some, Result, Ok, Err}
 use Rattle.md_setting.specs.declared.file.SettingFile.{SettingFile}
-use Rattle.md_setting.specs.declared.file.SettingFile.TheVariants.{General, Auction}
+use Rattle.md_setting.specs.declared.file.SettingFile.TheVariants.{General, Auction, Bidders}
 use Rattle.md_lp.specs.Program.{Program}
 use Rattle.md_lp.specs.declared.entry.Entry.{Entry}
 use Rattle.md_lp.specs.declared.pivot.Pivot.{Pivot}
@@ -51,11 +51,13 @@ pivots_or_refusal (Err e) = Err (refusal.Answer e)
 abbrev pub pivots_in : SettingFile → List ℕ → Result Pivots Refusal
 pivots_in (General s) bytes = pivots_or_refusal (pivots_of bytes)
 pivots_in (Auction a) bytes = pivots_or_refusal (auction_pivots_of a bytes)
+pivots_in (Bidders a) bytes = Err refusal.OtherKind
 
 -- the program of the setting, for an auction with these cuts
 abbrev pub IsProgramIn : SettingFile → List ℕ → Program → Type 0
 IsProgramIn (General s) cuts p = IsProgramOf s p
 IsProgramIn (Auction a) cuts p = IsReducedProgram a 1 cuts p
+IsProgramIn (Bidders a) cuts p = ⊥
 
 pub record IsReplay (width : ℕ) (file : SettingFile) (pivots : Pivots) (saying : Saying) : Type 0 where
   pub program : Program

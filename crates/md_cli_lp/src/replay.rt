@@ -1,18 +1,17 @@
 //! The command `replay`: listed pivots, carried out on the linear program of a setting.
-ghost use Rattle.std.specs.Prelude.{◌≡◌, ◌⊎◌, IfOk, IfErr};
+ghost use Rattle.std.specs.Prelude.{◌≡◌, ◌⊎◌, IfOk, IfErr, true};
 ghost use Rattle.md_setting.specs.Auction.{value_count};
-ghost use Rattle.md_setting.specs.ByKind.{WhereAuction};
+ghost use Rattle.md_setting.specs.ByKind.{WhereAuction, has_no_groups};
 ghost use Rattle.md_lp.specs.Cuts.{AreCuts};
 ghost use Rattle.md_answer.specs.AuctionPivots.{HasCutsOf};
 ghost use Rattle.md_replay.specs.Records.{replay_text};
 ghost use Rattle.md_cli_driver.specs.declared.refusal.Refusal.TheVariants as refusal;
-ghost use Rattle.md_cli_driver.specs.Reading.{is_any};
 ghost use Rattle.md_cli_driver.specs.Refused.{refused, status_of};
 ghost use Rattle.md_cli_lp.specs.Replaying.{IsPivotRefused, IsProgramIn, IsReplay, IsReplayStatus, IsReplaying, pivots_in, status_of_replay};
 ghost use Rattle.md_cli_driver.specs.Saying.{said};
 
 use md_answer::{Pivots, read_pivots};
-use md_cli_driver::{Answered, DONE, Refusal, TOO_WIDE, TwoFiles};
+use md_cli_driver::{Answered, DONE, Refusal, TOO_WIDE, TwoFiles, has_no_groups};
 use md_lp::{Entry, Lp, Path, Sets};
 use md_num::{NoMemory, Width};
 use md_reduced::program;
@@ -31,7 +30,7 @@ pub struct Replay {
 impl TwoFiles for Replay {
     type Second = Pivots;
 
-    ghost is_served = { is_any };
+    ghost is_served = { has_no_groups };
 
     ghost reading = { λ _. pivots_in };
 
@@ -41,8 +40,8 @@ impl TwoFiles for Replay {
 
     ghost own = { IsReplayStatus };
 
-    fn serves(&self, _: &SettingFile) -> bool {
-        true
+    fn serves(&self, file: &SettingFile) -> bool {
+        has_no_groups(file)
     }
 
     fn second(&self, alloc: Global, file: &SettingFile, bytes: &[u8]) -> Result<Pivots, Refusal> {
@@ -62,12 +61,14 @@ impl TwoFiles for Replay {
 
 // The program of a setting, for an auction with the cuts.
 fn program_in(alloc: Global, file: &SettingFile, cuts: &Sets) -> Result<Lp, NoMemory>
-    requires { WhereAuction (λ a. AreCuts (value_count a) cuts.now) file.now }
+    requires kind { has_no_groups file.now ≡ true }
+    requires cuts { WhereAuction (λ a. AreCuts (value_count a) cuts.now) file.now }
     ensures { IfOk result (IsProgramIn file.now cuts.now) }
 {
     match file {
         SettingFile::General(setting) => rows_of(alloc, setting),
         SettingFile::Auction(auction) => program(alloc, auction, cuts),
+        SettingFile::Bidders(_) => unreachable!(),
     }
 }
 

@@ -7,12 +7,12 @@ use Rattle.md_math.specs.Sums.{sum_to}
 use Rattle.md_math.proofs.Order.{nonneg-*ℤ}
 use Rattle.md_math.proofs.SumLaws.{sum_to-nonneg}
 use Rattle.md_space.specs.Profiles.{IsProfile}
-use Rattle.md_setting.specs.ByKind.{IsGeneral}
+use Rattle.md_setting.specs.ByKind.{IsBidders, IsGeneral}
 use Rattle.md_setting.specs.Auction.{SymmetricAuction, value_count}
 use Rattle.md_setting.specs.General.{general_of}
 use Rattle.md_setting.specs.Meaning.{agent_count, sizes_of}
 use Rattle.md_setting.specs.declared.file.SettingFile.{SettingFile}
-use Rattle.md_setting.specs.declared.file.SettingFile.TheVariants.{General, Auction}
+use Rattle.md_setting.specs.declared.file.SettingFile.TheVariants.{General, Auction, Bidders}
 use Rattle.md_setting.proofs.GeneralLaws.{agent_count-general}
 use Rattle.md_mech.specs.Mechanism.{pay_of}
 use Rattle.md_mech.specs.Value.{IsValueOf}
@@ -38,6 +38,13 @@ use Rattle.md_cli_driver.specs.Reading.{is_auction}
 pub not-general : (file : SettingFile) → is_auction file ≡ true → ¬ IsGeneral file
 not-general (General s) h = absurd (let e = h in cc)
 not-general (Auction a) h = λ general. general
+not-general (Bidders a) h = λ general. general
+
+-- and it has no groups of bidders
+pub not-bidders : (file : SettingFile) → is_auction file ≡ true → ¬ IsBidders file
+not-bidders (General s) h = absurd (let e = h in cc)
+not-bidders (Auction a) h = λ bidders. bidders
+not-bidders (Bidders a) h = absurd (let e = h in cc)
 
 -- payments by value, none of which is below 0, add to at least 0 at each profile
 no-deficit : (a : SymmetricAuction) (interim : Interim) (masses : Masses) → PaysWithinValue a interim → (t : List ℕ) → IsProfile (sizes_of (general_of a)) t

@@ -6,7 +6,7 @@ use Rattle.md_setting.specs.Auction.{SymmetricAuction}
 use Rattle.md_setting.specs.General.{general_of}
 use Rattle.md_setting.specs.Meaning.{agent_count, sizes_of}
 use Rattle.md_setting.specs.declared.file.SettingFile.{SettingFile}
-use Rattle.md_setting.specs.declared.file.SettingFile.TheVariants.{General, Auction}
+use Rattle.md_setting.specs.declared.file.SettingFile.TheVariants.{General, Auction, Bidders}
 use Rattle.md_mech.specs.declared.mechanism.Mechanism.{Mechanism}
 use Rattle.md_mech.specs.Mechanism.{pay_of}
 use Rattle.md_mech.specs.Optimal.{IsOptimal}
@@ -45,6 +45,7 @@ IsIroning a saying = IsClosed a saying ⊎ IsUndecided a 1 saying
 abbrev pub IsIron : SettingFile → Saying → Type 0
 IsIron (General s) saying = ⊥
 IsIron (Auction a) saying = IsIroning a saying
+IsIron (Bidders a) saying = ⊥
 
 -- the statuses of what is answered
 abbrev pub IsIronStatus : ℕ → Type 0

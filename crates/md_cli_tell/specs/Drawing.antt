@@ -8,7 +8,7 @@ use Rattle.md_setting.specs.Auction.{value_count}
 use Rattle.md_setting.specs.Meaning.{outcome_count, sizes_of}
 use Rattle.md_setting.specs.Names.{type_names}
 use Rattle.md_setting.specs.declared.file.SettingFile.{SettingFile}
-use Rattle.md_setting.specs.declared.file.SettingFile.TheVariants.{General, Auction}
+use Rattle.md_setting.specs.declared.file.SettingFile.TheVariants.{General, Auction, Bidders}
 use Rattle.md_records.specs.Written.{text_of_records}
 use Rattle.md_parts.specs.Rows.{number_row}
 use Rattle.md_answer.specs.declared.answer.Answer.{Answer}
@@ -47,11 +47,13 @@ parts_of text = slice_split (λ b. b == 44) text
 abbrev pub sizes_in : SettingFile → List ℕ
 sizes_in (General s) = sizes_of s
 sizes_in (Auction a) = replicate a.bidders (value_count a)
+sizes_in (Bidders a) = []
 
 -- the name of report k of agent i: that of its type; of an auction, the text of the value
 abbrev pub name_in : SettingFile → ℕ → ℕ → List ℕ
 name_in (General s) i k = slice_index_or (type_names s i) k []
 name_in (Auction a) i k = text_of (number_at a.values k)
+name_in (Bidders a) i k = []
 
 -- a text names report k of agent i; and it names none
 abbrev pub IsNameOf : SettingFile → ℕ → List ℕ → ℕ → Type 0
@@ -72,6 +74,7 @@ pub record AreNamesOf (file : SettingFile) (names : List (List ℕ)) (t : List �
 abbrev pub IsOutcomeIn : SettingFile → ℕ → Type 0
 IsOutcomeIn (General s) outcome = outcome < outcome_count s
 IsOutcomeIn (Auction a) outcome = Unit {0}
+IsOutcomeIn (Bidders a) outcome = ⊥
 
 -- that the item is kept, or the number of the bidder who gets it, counted from 1
 abbrev pub winner_name : ℕ → List ℕ
@@ -81,11 +84,13 @@ winner_name (suc bidder) = text_of (pos (suc bidder))
 abbrev pub outcome_name : SettingFile → ℕ → List ℕ
 outcome_name (General s) outcome = slice_index_or s.outcomes outcome []
 outcome_name (Auction a) outcome = winner_name outcome
+outcome_name (Bidders a) outcome = []
 
 -- agents pay in a setting with payments, and bidders in every auction
 abbrev pub has_pays : SettingFile → Bool
 has_pays (General s) = s.payments
 has_pays (Auction a) = true
+has_pays (Bidders a) = true
 
 abbrev pub outcome_row : SettingFile → ℕ → List (List ℕ)
 outcome_row file outcome = codes "outcome" ∷ outcome_name file outcome ∷ []

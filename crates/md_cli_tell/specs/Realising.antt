@@ -4,7 +4,7 @@ use Rattle.md_setting.specs.Auction.{SymmetricAuction}
 use Rattle.md_setting.specs.General.{general_of}
 use Rattle.md_setting.specs.ByKind.{WhereAuction}
 use Rattle.md_setting.specs.declared.file.SettingFile.{SettingFile}
-use Rattle.md_setting.specs.declared.file.SettingFile.TheVariants.{General, Auction}
+use Rattle.md_setting.specs.declared.file.SettingFile.TheVariants.{General, Auction, Bidders}
 use Rattle.md_mech.specs.declared.mechanism.Mechanism.{Mechanism}
 use Rattle.md_mech.specs.Mechanism.{IsMechanism}
 use Rattle.md_border.specs.declared.interim.Interim.{Interim}
@@ -31,6 +31,7 @@ odds_or_refusal (Err e) = Err (refusal.Answer e)
 abbrev pub odds_in : SettingFile → List ℕ → Result Interim Refusal
 odds_in (General s) bytes = Err refusal.OtherKind
 odds_in (Auction a) bytes = odds_or_refusal (odds_of a bytes)
+odds_in (Bidders a) bytes = Err refusal.OtherKind
 
 -- ---- a table
 

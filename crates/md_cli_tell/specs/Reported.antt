@@ -2,7 +2,7 @@
 use Rattle.std.specs.Prelude.{◌==◌, ℕ, Bool, false, List, Option, None, Some, Result, Ok, Err, if◌then◌else◌}
 use Rattle.md_setting.specs.Auction.{SymmetricAuction, value_count}
 use Rattle.md_setting.specs.declared.file.SettingFile.{SettingFile}
-use Rattle.md_setting.specs.declared.file.SettingFile.TheVariants.{General, Auction}
+use Rattle.md_setting.specs.declared.file.SettingFile.TheVariants.{General, Auction, Bidders}
 use Rattle.md_lp.specs.Cuts.{AreCuts}
 use Rattle.md_border.specs.Odds.{IsInterim}
 use Rattle.md_border.specs.declared.interim.Interim.{Interim}
@@ -69,6 +69,7 @@ auction_reported_in a bytes = answer_or_own (auction_answer_of a bytes) (auction
 abbrev pub reported_in : SettingFile → List ℕ → Result Reported Refusal
 reported_in (General s) bytes = mechanism_or_other bytes (mechanism_text_of s bytes)
 reported_in (Auction a) bytes = auction_reported_in a bytes
+reported_in (Bidders a) bytes = Err refusal.OtherKind
 
 -- it has the sizes of the setting, its numbers are in their ranges, and its conditions fit the setting
 abbrev pub IsReportable : SettingFile → Reported → Type 0
@@ -80,3 +81,4 @@ IsReportable (Auction a) (reported.Mechanism proposed) = ⊥
 IsReportable (Auction a) (reported.Odds interim cuts) = IsInterim a interim × AreCuts (value_count a) cuts
 IsReportable (Auction a) (reported.Own interim) = IsInterim a interim
 IsReportable (Auction a) (reported.Other bytes) = ⊥
+IsReportable (Bidders a) reported = ⊥

@@ -3,7 +3,7 @@ use Rattle.std.specs.Prelude.{◌≡◌, ◌⊎◌, ◌↔◌, [], ℕ, List}
 use Rattle.md_setting.specs.Setting.{GeneralSetting}
 use Rattle.md_setting.specs.Auction.{SymmetricAuction}
 use Rattle.md_setting.specs.declared.file.SettingFile.{SettingFile}
-use Rattle.md_setting.specs.declared.file.SettingFile.TheVariants.{General, Auction}
+use Rattle.md_setting.specs.declared.file.SettingFile.TheVariants.{General, Auction, Bidders}
 use Rattle.md_mech.specs.declared.mechanism.Mechanism.{Mechanism}
 use Rattle.md_mech.specs.Admissible.{IsAdmissible}
 use Rattle.md_mechanism_text.specs.Proposals.{Proposed}
@@ -90,6 +90,7 @@ IsReporting (Auction a) (reported.Mechanism proposed) saying = ⊥
 IsReporting (Auction a) (reported.Odds interim cuts) saying = (saying.status ≡ 0) × IsInterimText Item a interim cuts saying.text
 IsReporting (Auction a) (reported.Own interim) saying = IsOwnReporting a interim saying
 IsReporting (Auction a) (reported.Other bytes) saying = ⊥
+IsReporting (Bidders a) reported saying = ⊥
 
 -- the statuses of what is answered
 abbrev pub IsReportStatus : ℕ → Type 0

@@ -2,7 +2,7 @@
 use Rattle.std.specs.Prelude.{◌≡◌, ◌⊎◌, ℕ, ℤ, true, List, Option, None, Some, Result, Ok, Err, if◌then◌else◌}
 use Rattle.md_setting.specs.ByKind.{IsGeneral, WhereAuction, WhereGeneral}
 use Rattle.md_setting.specs.declared.file.SettingFile.{SettingFile}
-use Rattle.md_setting.specs.declared.file.SettingFile.TheVariants.{General, Auction}
+use Rattle.md_setting.specs.declared.file.SettingFile.TheVariants.{General, Auction, Bidders}
 use Rattle.md_parts.specs.declared.refusal.AnswerRefusal.{AnswerRefusal}
 use Rattle.md_answer.specs.AnswerTo.{IsAnswerTo}
 use Rattle.md_answer.specs.AuctionAnswers.{auction_answer_of}
@@ -41,6 +41,7 @@ table_or_other bytes (Err e) = if names_another_kind e then Ok (drawables.Other 
 abbrev pub drawable_in : SettingFile → List ℕ → Result Drawable Refusal
 drawable_in (General s) bytes = table_or_other bytes (mechanism_text_of s bytes)
 drawable_in (Auction a) bytes = of_answer (and_then (answer_or_refusal (auction_answer_of a bytes)) drawable)
+drawable_in (Bidders a) bytes = Err refusal.OtherKind
 
 -- an answer has the sizes of the setting, its numbers are in their ranges, and it has lotteries or masses; a text is of a general setting
 abbrev pub IsDrawable : SettingFile → Drawable → Type 0

@@ -2,7 +2,7 @@
 use Rattle.std.specs.Prelude.{◌≡◌, ℕ, true, List, Result, Err}
 use Rattle.md_setting.specs.ByKind.{WhereAuction}
 use Rattle.md_setting.specs.declared.file.SettingFile.{SettingFile}
-use Rattle.md_setting.specs.declared.file.SettingFile.TheVariants.{General, Auction}
+use Rattle.md_setting.specs.declared.file.SettingFile.TheVariants.{General, Auction, Bidders}
 use Rattle.md_answer.specs.AuctionAnswers.{answer_for}
 use Rattle.md_answer.specs.AuctionAnswerTo.{IsAnswerFor}
 use Rattle.md_answer.specs.declared.answer.Answer.{Answer}
@@ -16,6 +16,7 @@ use Rattle.md_cli_tell.specs.Drawing.{drawable, has_table}
 abbrev pub unit_table_in : ℕ → SettingFile → List ℕ → Result Answer Refusal
 unit_table_in units (General s) bytes = Err refusal.OtherKind
 unit_table_in units (Auction a) bytes = and_then (answer_or_refusal (answer_for (Units units) a bytes)) drawable
+unit_table_in units (Bidders a) bytes = Err refusal.OtherKind
 
 -- it has the sizes of the auction and its numbers are in their ranges
 abbrev pub HasUnitTable : ℕ → SettingFile → Answer → Type 0

@@ -1,11 +1,10 @@
 //! The command `run`: an outcome drawn of an answer at a profile of reports.
 ghost use Rattle.std.specs.Prelude.{◌≡◌, ◌⊎◌, ◌++◌, ◌∷◌, [], true, IfOk, IfErr, OnOk};
-ghost use Rattle.md_setting.specs.ByKind.{WhereAuction, WhereGeneral};
+ghost use Rattle.md_setting.specs.ByKind.{WhereAuction, WhereGeneral, has_no_groups};
 ghost use Rattle.md_records.specs.Written.{text_of_records};
 ghost use Rattle.md_answer.specs.AnswerTo.{IsAnswerTo};
 ghost use Rattle.md_answer.specs.AuctionAnswerTo.{IsAuctionAnswer};
 ghost use Rattle.md_cli_driver.specs.declared.refusal.Refusal.TheVariants as refusal;
-ghost use Rattle.md_cli_driver.specs.Reading.{is_any};
 ghost use Rattle.md_cli_driver.specs.Refused.{refused, status_of};
 ghost use Rattle.md_cli_driver.specs.Saying.{said};
 ghost use Rattle.md_cli_tell.specs.Drawing.{IsDrawing, IsOutcomeIn, draw_refused, drawn_rows, has_pays, has_table, outcome_row, pays_rows, winner_name};
@@ -15,7 +14,7 @@ use crate::drawable::{Drawable, read_drawable};
 use crate::profile::reports_of;
 use crate::sale_draw::draw_other;
 use md_answer::Answer;
-use md_cli_driver::{Answered, DONE, Refusal, TwoFiles};
+use md_cli_driver::{Answered, DONE, Refusal, TwoFiles, has_no_groups};
 use md_num::NoMemory;
 use md_parts::push_numbers;
 use md_records::{Row, write_records};
@@ -37,7 +36,7 @@ pub struct Draw<'a> {
 impl TwoFiles for Draw<'_> {
     type Second = Drawable;
 
-    ghost is_served = { is_any };
+    ghost is_served = { has_no_groups };
 
     ghost reading = { λ _. drawable_in };
 
@@ -47,8 +46,8 @@ impl TwoFiles for Draw<'_> {
 
     ghost own = { IsRunStatus };
 
-    fn serves(&self, _: &SettingFile) -> bool {
-        true
+    fn serves(&self, file: &SettingFile) -> bool {
+        has_no_groups(file)
     }
 
     fn second(&self, alloc: Global, file: &SettingFile, bytes: &[u8]) -> Result<Drawable, Refusal> {
@@ -81,6 +80,7 @@ fn drawn(
     first: i128,
     second: i128,
 ) -> Result<Answered, Refusal>
+    requires kind { has_no_groups file.now ≡ true }
     requires general { WhereGeneral (λ s. IsAnswerTo s answer.now) file.now }
     requires auction { WhereAuction (λ a. IsAuctionAnswer a answer.now) file.now }
     requires table { has_table answer.now ≡ true }
@@ -130,7 +130,7 @@ fn has_pays(file: &SettingFile) -> bool
 {
     match file {
         SettingFile::General(setting) => setting.payments(),
-        SettingFile::Auction(_) => true,
+        SettingFile::Auction(_) | SettingFile::Bidders(_) => true,
     }
 }
 
@@ -143,6 +143,7 @@ fn outcome_record(alloc: Global, file: &SettingFile, outcome: u32) -> Result<Row
     match file {
         SettingFile::General(setting) => row.with(setting.outcome_name(outcome).as_bytes()),
         SettingFile::Auction(_) => with_winner(row, outcome),
+        SettingFile::Bidders(_) => unreachable!(),
     }
 }
 

@@ -1,5 +1,6 @@
 //! What `run` draws of.
 ghost use Rattle.std.specs.Prelude.{◌≡◌, ◌⊎◌, true, false, IfOk, IfErr, MatchResult};
+ghost use Rattle.md_setting.specs.ByKind.{has_no_groups};
 ghost use Rattle.md_cli_driver.specs.declared.refusal.Refusal.TheVariants as refusal;
 ghost use Rattle.md_cli_driver.specs.Reading.{Follows};
 ghost use Rattle.md_cli_driver.specs.Refused.{status_of};
@@ -28,6 +29,7 @@ pub(crate) fn read_drawable(
     file: &SettingFile,
     bytes: &[u8],
 ) -> Result<Drawable, Refusal>
+    requires { has_no_groups file.now ≡ true }
     ensures follows { Follows (λ drawable. drawable) result (drawable_in file.now bytes.now) }
     ensures fits { IfOk result (IsDrawable file.now) }
     ensures errors { IfErr result (λ e. (e ≡ refusal.Memory) ⊎ (status_of e ≡ 66)) }
@@ -40,6 +42,7 @@ pub(crate) fn read_drawable(
             read => table_of(read?),
         },
         SettingFile::Auction(_) => of_answer(with_table(read_answer(alloc, bytes, file)?)),
+        SettingFile::Bidders(_) => unreachable!(),
     }
 }
 

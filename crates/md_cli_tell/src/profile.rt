@@ -55,6 +55,7 @@ fn agents(file: &SettingFile) -> u8
     match file {
         SettingFile::General(setting) => setting.space().agents(),
         SettingFile::Auction(auction) => auction.bidders() as u8,
+        SettingFile::Bidders(_) => 0,
     }
 }
 
@@ -79,6 +80,7 @@ fn report_of(file: &SettingFile, agent: u8, name: &str) -> Option<u8>
     match file {
         SettingFile::General(setting) => type_of(setting, agent, name),
         SettingFile::Auction(auction) => value_of(auction, name),
+        SettingFile::Bidders(_) => unreachable!(),
     }
 }
 

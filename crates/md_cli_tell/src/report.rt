@@ -1,12 +1,12 @@
 //! The command `report`: what a mechanism does, and how far it is from truthful.
 ghost use Rattle.std.specs.Prelude.{◌≡◌, ◌⊎◌, IfOk, IfErr};
+ghost use Rattle.md_setting.specs.ByKind.{has_no_groups};
 ghost use Rattle.md_setting.specs.Auction.{value_count};
 ghost use Rattle.md_setting.specs.declared.file.SettingFile.TheVariants as files;
 ghost use Rattle.md_lp.specs.Cuts.{AreCuts};
 ghost use Rattle.md_border.specs.Odds.{IsInterim};
 ghost use Rattle.md_mechanism_text.specs.Proposals.{IsProposedFor};
 ghost use Rattle.md_cli_tell.specs.Reported.{IsReportable, reported_in};
-ghost use Rattle.md_cli_driver.specs.Reading.{is_any};
 ghost use Rattle.md_cli_tell.specs.Reporting.{IsInterimText, IsMechanismText, IsOwnReporting, IsReporting, IsReportStatus};
 ghost use Rattle.md_cli_driver.specs.Refused.{refused, status_of};
 ghost use Rattle.md_cli_driver.specs.Saying.{said};
@@ -19,7 +19,7 @@ use crate::sale_report::tell_other;
 use md_answer::Supply;
 use md_auction_report::{AuctionReport, auction_report_text};
 use md_border::Interim;
-use md_cli_driver::{Answered, DONE, Refusal, TwoFiles, VIOLATED};
+use md_cli_driver::{Answered, DONE, Refusal, TwoFiles, VIOLATED, has_no_groups};
 use md_expost::{RealiseEnd, realise};
 use md_lp::Sets;
 use md_mechanism_text::Proposal;
@@ -35,7 +35,7 @@ pub struct Tell;
 impl TwoFiles for Tell {
     type Second = Reported;
 
-    ghost is_served = { is_any };
+    ghost is_served = { has_no_groups };
 
     ghost reading = { λ _. reported_in };
 
@@ -45,8 +45,8 @@ impl TwoFiles for Tell {
 
     ghost own = { IsReportStatus };
 
-    fn serves(&self, _: &SettingFile) -> bool {
-        true
+    fn serves(&self, file: &SettingFile) -> bool {
+        has_no_groups(file)
     }
 
     fn second(&self, alloc: Global, file: &SettingFile, bytes: &[u8]) -> Result<Reported, Refusal> {
@@ -73,6 +73,7 @@ fn told(alloc: Global, file: &SettingFile, reported: &Reported) -> Result<Answer
     match file {
         SettingFile::General(setting) => general_told(alloc, setting, reported),
         SettingFile::Auction(auction) => Ok(auction_told(alloc, auction, reported)?),
+        SettingFile::Bidders(_) => unreachable!(),
     }
 }
 

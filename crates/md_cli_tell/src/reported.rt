@@ -1,5 +1,6 @@
 //! What `report` tells of.
-ghost use Rattle.std.specs.Prelude.{◌≡◌, ◌⊎◌, IfOk, IfErr};
+ghost use Rattle.std.specs.Prelude.{◌≡◌, ◌⊎◌, IfOk, IfErr, true};
+ghost use Rattle.md_setting.specs.ByKind.{has_no_groups};
 ghost use Rattle.md_setting.specs.Auction.{SymmetricAuction};
 ghost use Rattle.md_setting.specs.declared.file.SettingFile.TheVariants as files;
 ghost use Rattle.md_answer.specs.AuctionAnswerTo.{IsAuctionAnswer};
@@ -35,6 +36,7 @@ pub(crate) fn read_reported(
     file: &SettingFile,
     bytes: &[u8],
 ) -> Result<Reported, Refusal>
+    requires { has_no_groups file.now ≡ true }
     ensures follows { Follows (λ reported. reported) result (reported_in file.now bytes.now) }
     ensures fits { IfOk result (IsReportable file.now) }
     ensures errors { IfErr result (λ e. (e ≡ refusal.Memory) ⊎ (status_of e ≡ 66)) }
@@ -47,6 +49,7 @@ pub(crate) fn read_reported(
             read => mechanism_reported(read?),
         },
         SettingFile::Auction(auction) => read_auction_reported(alloc, auction, bytes),
+        SettingFile::Bidders(_) => unreachable!(),
     }
 }
 

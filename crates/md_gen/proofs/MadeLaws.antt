@@ -39,4 +39,5 @@ only_memory refusal refusals.ZeroWeight h n = told refusal _ (h (λ q. cc q)) n
 only_memory refusal refusals.WeightTotal h n = told refusal _ (h (λ q. cc q)) n
 only_memory refusal refusals.TooManyRows h n = told refusal _ (h (λ q. cc q)) n
 only_memory refusal refusals.ValuesOrder h n = told refusal _ (h (λ q. cc q)) n
+only_memory refusal refusals.SlotsOrder h n = told refusal _ (h (λ q. cc q)) n
 only_memory refusal refusals.TooManyCounts h n = told refusal _ (h (λ q. cc q)) n

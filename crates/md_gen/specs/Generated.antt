@@ -2,10 +2,11 @@
 use Rattle.std.specs.Prelude.{◌≡◌, ℕ, ◌%◌}
 use Rattle.md_setting.specs.Auction.{auction_of}
 use Rattle.md_setting.specs.declared.file.SettingFile.{SettingFile}
-use Rattle.md_setting.specs.declared.file.SettingFile.TheVariants.{General, Auction}
+use Rattle.md_setting.specs.declared.file.SettingFile.TheVariants.{General, Auction, Bidders}
 use Rattle.md_gen.specs.GeneratedAuction.{generated_auction}
 use Rattle.md_gen.specs.GeneratedSetting.{generated_setting}
 
 abbrev pub IsGenerated : ℕ → SettingFile → Type 0
 IsGenerated number (General s) = (number % 2 ≡ 0) × (s ≡ generated_setting number)
 IsGenerated number (Auction a) = (number % 2 ≡ 1) × (a ≡ auction_of (generated_auction number))
+IsGenerated number (Bidders a) = ⊥

@@ -1,6 +1,6 @@
 //! Auctions ironed.
 ghost use Rattle.std.specs.Prelude.{◌≡◌, IfOk};
-ghost use Rattle.md_setting.specs.ByKind.{IsGeneral, WhereAuction};
+ghost use Rattle.md_setting.specs.ByKind.{IsBidders, IsGeneral, WhereAuction};
 ghost use Rattle.md_answer.specs.AuctionAnswerTo.{IsAuctionAnswer};
 ghost use Rattle.md_check.specs.AuctionVerdicts.{AuctionClaimHolds, IsAuctionVerdict};
 ghost use Rattle.md_question_check.specs.declared.verdict.Verdict.TheVariants.{Valid};
@@ -20,7 +20,8 @@ use std::alloc::Global;
 /// has found the answer valid. The auction is undecided where the multipliers are too long.
 /// Nothing but want of memory is an error.
 pub fn iron(alloc: Global, file: &SettingFile) -> Result<Ironed, NoMemory>
-    requires { ¬ IsGeneral file.now }
+    requires general { ¬ IsGeneral file.now }
+    requires bidders { ¬ IsBidders file.now }
 
     // The odds, payments, cuts and multipliers are those of the pools that the rule names, over the least denominator, and the
     // masses have the odds. There are no others: each such answer differs from it in nothing but its masses, and the multipliers

@@ -7,9 +7,9 @@ use Rattle.std.proofs.lemmas.Bool.Decides.{Decides-eqb, Decides-ltb, Decides-and
 use Rattle.std.proofs.lemmas.List.{get_or-set_same, get_or-set_other, get_or_past}
 use Rattle.md_math.proofs.Builders.{length-list_to, get_or-list_to}
 use Rattle.md_space.specs.Profiles.{replaced}
-use Rattle.md_bidders.specs.Auction.{GroupedAuction, bidder_count, group_of, group_at, value_count}
+use Rattle.md_setting.specs.Grouped.{GroupedAuction, bidder_count, group_of, group_at, value_count}
 use Rattle.md_bidders.specs.Assignments.{amount_of, amount_in}
-use Rattle.md_bidders.specs.Shaped.{IsOrdered}
+use Rattle.md_setting.specs.GroupedShaped.{IsOrdered}
 use Rattle.md_bidders.proofs.AssignmentLaws.{IsAssignment}
 use Rattle.md_list.specs.Ranks.{Rank, place_of, IsList}
 use Rattle.md_list.specs.Rule.{place_at, is_before, count_to, before, slot_at, assigned, amount_at, amount_with}

@@ -11,7 +11,7 @@ use Rattle.md_setting.specs.Meaning.{outcome_count, sizes_of, utility_of}
 use Rattle.md_mech.specs.Mechanism.{IsMechanism, chance_of, pay_of}
 use Rattle.md_mech.specs.Utility.{expected_utility}
 use Rattle.md_mech.proofs.ByProfileLaws.{chance_of-mechanism_by, pay_of-mechanism_by, IsMechanism-mechanism_by}
-use Rattle.md_bidders.specs.Auction.{GroupedAuction, bidder_count, value_count, value_at}
+use Rattle.md_setting.specs.Grouped.{GroupedAuction, bidder_count, value_count, value_at}
 use Rattle.md_bidders.specs.Assignments.{assignments, assignment_at, amount_in}
 use Rattle.md_bidders.specs.Setting.{setting_of}
 use Rattle.md_bidders.proofs.AssignmentLaws.{sum-at_way}

@@ -14,9 +14,9 @@ use Rattle.md_mech.specs.Admissible.{IsAdmissible}
 use Rattle.md_mech.specs.Rationality.{IsExPostRational, IsRationalBy}
 use Rattle.md_mech.specs.Truth.{IsDominantTruth, IsTruthfulBy}
 use Rattle.md_mech.specs.Utility.{expected_utility}
-use Rattle.md_bidders.specs.Auction.{GroupedAuction, bidder_count, value_count, value_at}
+use Rattle.md_setting.specs.Grouped.{GroupedAuction, bidder_count, value_count, value_at}
 use Rattle.md_bidders.specs.Setting.{setting_of}
-use Rattle.md_bidders.specs.Shaped.{IsOrdered}
+use Rattle.md_setting.specs.GroupedShaped.{IsOrdered}
 use Rattle.md_bidders.proofs.BidderLaws.{values-ascend}
 use Rattle.md_bidders.proofs.SettingLaws.{setting-truth, setting-rational, setting-no_deficit, agent_count-setting, size_at-setting, IsReport, is-report, weight-nonneg, outside_of-setting}
 use Rattle.md_list.specs.Ranks.{Rank, IsList}

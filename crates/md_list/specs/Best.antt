@@ -8,7 +8,7 @@ use Rattle.md_mech.specs.declared.mechanism.Mechanism.{Mechanism}
 use Rattle.md_mech.specs.Mechanism.{chance_of}
 use Rattle.md_mech.specs.Admissible.{IsAdmissible}
 use Rattle.md_mech.specs.Optimal.{IsOptimal, worth_of}
-use Rattle.md_bidders.specs.Auction.{GroupedAuction}
+use Rattle.md_setting.specs.Grouped.{GroupedAuction}
 use Rattle.md_bidders.specs.Setting.{setting_of}
 
 -- what slots are worth to those who get them, payments left out, over all profiles by weight, in units of one over the denominator

@@ -2,7 +2,7 @@
 use Rattle.std.specs.Prelude.{ℕ, suc, ℤ, pos, ◌+ℤ◌, ◌-ℤ◌, ◌*ℤ◌, slice_index}
 use Rattle.md_math.specs.Lists.{number_at}
 use Rattle.md_math.specs.Sums.{sum_to, total_by}
-use Rattle.md_bidders.specs.Auction.{Group, GroupedAuction}
+use Rattle.md_setting.specs.Grouped.{Group, GroupedAuction}
 
 -- the weight of a value, and that of all values from it on
 abbrev pub weight_in : Group → ℕ → ℤ

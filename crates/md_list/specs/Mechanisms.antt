@@ -8,7 +8,7 @@ use Rattle.md_mech.specs.Admissible.{IsAdmissible}
 use Rattle.md_mech.specs.ByProfiles.{mechanism_by}
 use Rattle.md_mech.specs.Rationality.{IsExPostRational}
 use Rattle.md_mech.specs.Truth.{IsDominantTruth}
-use Rattle.md_bidders.specs.Auction.{GroupedAuction, bidder_count}
+use Rattle.md_setting.specs.Grouped.{GroupedAuction, bidder_count}
 use Rattle.md_bidders.specs.Assignments.{assignment_at}
 use Rattle.md_bidders.specs.Setting.{setting_of}
 use Rattle.md_list.specs.Ranks.{Rank}

@@ -1,6 +1,6 @@
 -- Lists of bids, from best to worst.
 use Rattle.std.specs.Prelude.{◌≡◌, ℕ, suc, ◌<◌, ◌==◌, Bool, ◌&&◌, nat_le, nat_lt, if◌then◌else◌, List, [], ◌∷◌, length}
-use Rattle.md_bidders.specs.Auction.{GroupedAuction, group_at}
+use Rattle.md_setting.specs.Grouped.{GroupedAuction, group_at}
 
 -- a record of a list: of a group the values from number `first` up to, and without, number `stop`
 pub record Rank : Type 0 where

@@ -5,7 +5,7 @@ use Rattle.std.specs.Prelude.{ℕ, zero, suc, ◌+◌, ◌==◌, Bool, ◌&&◌,
 use Rattle.md_math.specs.Lists.{list_to}
 use Rattle.md_math.specs.Sums.{sum_to}
 use Rattle.md_space.specs.Profiles.{replaced}
-use Rattle.md_bidders.specs.Auction.{GroupedAuction, bidder_count, group_of, value_at}
+use Rattle.md_setting.specs.Grouped.{GroupedAuction, bidder_count, group_of, value_at}
 use Rattle.md_bidders.specs.Assignments.{amount_of}
 use Rattle.md_list.specs.Ranks.{Rank, place_of}
 

@@ -4,7 +4,7 @@
 use Rattle.std.specs.Prelude.{◌≡◌, ℕ, suc, ◌<◌, ℤ, pos, neg_ℤ, ◌-ℤ◌, ◌*ℤ◌, ◌<ℤ◌, List, [], ◌∷◌, length, slice_index_or}
 use Rattle.md_math.specs.LexOrder.{IsPairNonNegative}
 use Rattle.md_num.specs.declared.frac.Frac.{Frac}
-use Rattle.md_bidders.specs.Auction.{Group, GroupedAuction, group_at}
+use Rattle.md_setting.specs.Grouped.{Group, GroupedAuction, group_at}
 use Rattle.md_list.specs.Ranks.{Rank, IsList, left_after}
 use Rattle.md_list.specs.Gains.{weight_in, gain_of, benefit_of, between}
 

@@ -14,10 +14,10 @@ use Rattle.md_mech.specs.declared.mechanism.Mechanism.{Mechanism}
 use Rattle.md_mech.specs.Admissible.{IsAdmissible}
 use Rattle.md_mech.specs.Mechanism.{chance_of, pay_of, IsMechanism}
 use Rattle.md_mech.specs.Optimal.{worth_of}
-use Rattle.md_bidders.specs.Auction.{GroupedAuction, group_at, group_of, bidder_count}
+use Rattle.md_setting.specs.Grouped.{GroupedAuction, group_at, group_of, bidder_count}
 use Rattle.md_bidders.specs.Assignments.{assignment_at, amount_in}
 use Rattle.md_bidders.specs.Setting.{all_units, setting_of}
-use Rattle.md_bidders.specs.Shaped.{IsOrdered}
+use Rattle.md_setting.specs.GroupedShaped.{IsOrdered}
 use Rattle.md_bidders.proofs.AssignmentLaws.{is-assignment}
 use Rattle.md_bidders.proofs.BidderLaws.{group-below}
 use Rattle.md_bidders.proofs.SettingLaws.{size_at-setting}

@@ -21,7 +21,7 @@ use Rattle.md_mech.specs.Optimal.{objective_at, worth_of}
 use Rattle.md_mech.specs.Rationality.{IsInterimRational, IsRationalBy}
 use Rattle.md_mech.specs.Truth.{IsBayesTruth, IsTruthfulBy}
 use Rattle.md_mech.specs.Utility.{expected_utility, weighted_given}
-use Rattle.md_bidders.specs.Auction.{GroupedAuction, group_of, bidder_count, value_count, value_at}
+use Rattle.md_setting.specs.Grouped.{GroupedAuction, group_of, bidder_count, value_count, value_at}
 use Rattle.md_bidders.specs.Assignments.{assignments, assignment_at, amount_in}
 use Rattle.md_bidders.specs.Setting.{all_units, setting_of}
 use Rattle.md_bidders.proofs.SettingLaws.{setting-truth, setting-rational, setting-revenue, agent_count-setting, outcome_count-setting, is-report, utility_of-setting, outside_of-setting, welfare_of-setting, value_of-setting}

@@ -7,8 +7,8 @@ use Rattle.md_math.proofs.Order.{le_from_*ℤ, le_from_lt, nonneg-*ℤ, positive
 use Rattle.md_math.proofs.Ring.{linear, ring}
 use Rattle.md_math.proofs.SumLaws.{sum_to-same, sum_to-+ℤ, sum_to-*ℤ}
 use Rattle.md_num.specs.declared.frac.Frac.{Frac}
-use Rattle.md_bidders.specs.Auction.{GroupedAuction, group_at}
-use Rattle.md_bidders.specs.Shaped.{IsOrdered}
+use Rattle.md_setting.specs.Grouped.{GroupedAuction, group_at}
+use Rattle.md_setting.specs.GroupedShaped.{IsOrdered}
 use Rattle.md_list.specs.Gains.{weight_in, weight_from, gain_of, benefit_of, between}
 use Rattle.md_list.specs.Ranks.{Rank}
 use Rattle.md_list.specs.Valid.{rank_at, level_at, over_rank, group_in, unlisted, IsValid}

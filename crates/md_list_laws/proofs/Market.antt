@@ -10,10 +10,10 @@ use Rattle.md_math.proofs.TotalLaws.{total_by-places}
 use Rattle.md_space.specs.Profiles.{IsProfile, replaced}
 use Rattle.md_space.proofs.Ranks.{replaced-IsProfile}
 use Rattle.md_setting.specs.Meaning.{sizes_of, weight_of}
-use Rattle.md_bidders.specs.Auction.{GroupedAuction, group_at, group_of, group_with, bidder_count, value_count, value_at, weight_at}
+use Rattle.md_setting.specs.Grouped.{GroupedAuction, group_at, group_of, group_with, bidder_count, value_count, value_at, weight_at}
 use Rattle.md_bidders.specs.Products.{product_below}
 use Rattle.md_bidders.specs.Setting.{setting_of}
-use Rattle.md_bidders.specs.Shaped.{IsOrdered}
+use Rattle.md_setting.specs.GroupedShaped.{IsOrdered}
 use Rattle.md_bidders.proofs.BidderLaws.{is-group, values-ascend, weights-positive}
 use Rattle.md_bidders.proofs.ProductLaws.{product_below-same}
 use Rattle.md_bidders.proofs.SettingLaws.{sizes_of-setting, size_at-setting, is-report, weight_of-setting, weight-nonneg}

@@ -9,7 +9,7 @@ use Rattle.md_math.proofs.Order.{*ℤ-le}
 use Rattle.md_math.proofs.Ring.{linear, ring, *ℤ-zero}
 use Rattle.md_math.proofs.SumLaws.{sum_to-same, sum_to-zero, sum_to-swap, sum_to-*ℤ, sum_to-le}
 use Rattle.md_bidders.specs.Assignments.{amount_of}
-use Rattle.md_bidders.specs.Auction.{GroupedAuction, bidder_count}
+use Rattle.md_setting.specs.Grouped.{GroupedAuction, bidder_count}
 use Rattle.md_list.specs.Ranks.{Rank}
 use Rattle.md_list.specs.Rule.{place_at, is_before, count_to, before, amount_at}
 use Rattle.md_list.proofs.AmountLaws.{GoesFirst, first-decides, first-itself, before-apart}

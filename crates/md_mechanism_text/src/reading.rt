@@ -48,7 +48,7 @@ pub fn read_mechanism_text(
             Err(refusal) if names_another_kind(refusal) => read_other_kind(alloc, bytes, setting),
             Err(refusal) => Err(refusal),
         },
-        SettingFile::Auction(_) => unreachable!(),
+        SettingFile::Auction(_) | SettingFile::Bidders(_) => unreachable!(),
     }
 }
 

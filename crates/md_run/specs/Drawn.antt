@@ -3,7 +3,7 @@ use Rattle.std.specs.Prelude.{ℕ, ℤ, List}
 use Rattle.md_space.specs.Profiles.{IsProfile}
 use Rattle.md_setting.specs.Meaning.{sizes_of}
 use Rattle.md_setting.specs.declared.file.SettingFile.{SettingFile}
-use Rattle.md_setting.specs.declared.file.SettingFile.TheVariants.{General, Auction}
+use Rattle.md_setting.specs.declared.file.SettingFile.TheVariants.{General, Auction, Bidders}
 use Rattle.md_mech.specs.declared.mechanism.Mechanism.{Mechanism}
 use Rattle.md_border.specs.declared.interim.Interim.{Interim}
 use Rattle.md_expost.specs.declared.masses.Masses.{Masses}
@@ -35,8 +35,10 @@ ByMasses none some (TooWide cuts first second) = none
 abbrev pub IsDrawn : SettingFile → Answer → List ℕ → ℤ → ℤ → Drawn → Type 0
 IsDrawn (General s) answer t d1 d2 drawn = ByMechanism ⊥ (λ m. IsDrawnOf s m t d1 d2 drawn) answer
 IsDrawn (Auction a) answer t d1 d2 drawn = ByMasses ⊥ (λ interim y. IsAuctionDrawn a interim y t d1 d2 drawn) answer
+IsDrawn (Bidders a) answer t d1 d2 drawn = ⊥
 
 -- at each profile the draws make the lotteries that the answer says
 abbrev pub AreLotteries : SettingFile → Answer → Type 0
 AreLotteries (General s) answer = ByMechanism (Unit {0}) (λ m. (t : List ℕ) → IsProfile (sizes_of s) t → IsLottery s m t) answer
 AreLotteries (Auction a) answer = ByMasses (Unit {0}) (λ interim y. (t : List ℕ) → AreReports a t → IsAuctionLottery a y t) answer
+AreLotteries (Bidders a) answer = Unit {0}

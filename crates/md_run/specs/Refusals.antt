@@ -3,7 +3,7 @@ use Rattle.std.specs.Prelude.{◌≡◌, ℕ, ℤ, List}
 use Rattle.md_space.specs.Profiles.{IsProfile}
 use Rattle.md_setting.specs.Meaning.{sizes_of}
 use Rattle.md_setting.specs.declared.file.SettingFile.{SettingFile}
-use Rattle.md_setting.specs.declared.file.SettingFile.TheVariants.{General, Auction}
+use Rattle.md_setting.specs.declared.file.SettingFile.TheVariants.{General, Auction, Bidders}
 use Rattle.md_answer.specs.declared.answer.Answer.{Answer}
 use Rattle.md_run.specs.OfMechanism.{IsDraw}
 use Rattle.md_run.specs.OfMasses.{AreReports, IsAuctionDraw}
@@ -22,3 +22,4 @@ IsRefusedBy profile draw Memory = profile
 abbrev pub IsRefused : SettingFile → Answer → List ℕ → ℤ → ℤ → DrawRefusal → Type 0
 IsRefused (General s) answer t d1 d2 e = ByMechanism (e ≡ NoTable) (λ m. IsRefusedBy (IsProfile (sizes_of s) t) (IsDraw m.den d1 d2) e) answer
 IsRefused (Auction a) answer t d1 d2 e = ByMasses (e ≡ NoTable) (λ interim y. IsRefusedBy (AreReports a t) (IsAuctionDraw a y t d1 d2) e) answer
+IsRefused (Bidders a) answer t d1 d2 e = ⊥

@@ -1,6 +1,6 @@
 //! What is drawn of an answer.
-ghost use Rattle.std.specs.Prelude.{IfOk, IfErr};
-ghost use Rattle.md_setting.specs.ByKind.{WhereGeneral, WhereAuction};
+ghost use Rattle.std.specs.Prelude.{IfOk, IfErr, ◌≡◌, true};
+ghost use Rattle.md_setting.specs.ByKind.{WhereAuction, WhereGeneral, has_no_groups};
 ghost use Rattle.md_setting.specs.declared.file.SettingFile.TheVariants as files;
 ghost use Rattle.md_answer.specs.AnswerTo.{IsAnswerTo};
 ghost use Rattle.md_answer.specs.AuctionAnswerTo.{IsAuctionAnswer};
@@ -28,6 +28,7 @@ pub fn draw(
     d1: i128,
     d2: i128,
 ) -> Result<Drawn, DrawRefusal>
+    requires kind { has_no_groups file.now ≡ true }
     requires general { WhereGeneral (λ s. IsAnswerTo s answer.now) file.now }
     requires auction { WhereAuction (λ a. IsAuctionAnswer a answer.now) file.now }
     ensures drawn { IfOk result (IsDrawn file.now answer.now profile.now d1 d2) }
@@ -41,6 +42,7 @@ pub fn draw(
     match file {
         SettingFile::General(setting) => draw_general(alloc, setting, answer, profile, d1, d2),
         SettingFile::Auction(auction) => draw_auction(alloc, auction, answer, profile, d1, d2),
+        SettingFile::Bidders(_) => unreachable!(),
     }
 }
 

@@ -144,7 +144,7 @@ zero_weight : IsWeight (pos 0)
 zero_weight = record { nonneg = omega (arith, ints); within = IsWithin-zero 1000000 }
 
 -- what holds of each number of a list and of 0 holds of the number at each place
-at_each : (P : ℤ → Type 0) (p : ℤ → Bool) → ((z : ℤ) → p z ≡ true → P z) → P (pos 0) → (xs : List ℤ) → list_all p xs ≡ true → (k : ℕ) → P (number_at xs k)
+pub at_each : (P : ℤ → Type 0) (p : ℤ → Bool) → ((z : ℤ) → p z ≡ true → P z) → P (pos 0) → (xs : List ℤ) → list_all p xs ≡ true → (k : ℕ) → P (number_at xs k)
 at_each P p f z [] h k = z
 at_each P p f z (x ∷ xs) h zero = f x (and_left _ _ h)
 at_each P p f z (x ∷ xs) h (suc k) = at_each P p f z xs (and_right (p x) _ h) k

@@ -17,23 +17,23 @@ use Rattle.md_setting.specs.AuctionRefusals.{HasGoodNumbers, has_auction_sizes, 
 use Rattle.md_setting.specs.Refusals.{is_small, is_weight}
 use Rattle.md_setting.proofs.TestLaws.{and_left, and_right, all_below-at, list_all-at, le_of_test, is_within}
 
-same_of_eq : (m n : ℕ) → (m == n) ≡ true → m ≡ n
+pub same_of_eq : (m n : ℕ) → (m == n) ≡ true → m ≡ n
 same_of_eq m n h = grind (arith, nat_tests)
 
-positive : (n : ℕ) → not (n == 0) ≡ true → 0 < n
+pub positive : (n : ℕ) → not (n == 0) ≡ true → 0 < n
 positive n h = grind (arith, nat_tests)
 
-le_of_int : (a b : ℤ) → int_le a b ≡ true → a ≤ℤ b
+pub le_of_int : (a b : ℤ) → int_le a b ≡ true → a ≤ℤ b
 le_of_int a b h = grind (arith, ints)
 
-lt_of_int : (a b : ℤ) → int_lt a b ≡ true → a <ℤ b
+pub lt_of_int : (a b : ℤ) → int_lt a b ≡ true → a <ℤ b
 lt_of_int a b h = grind (arith, ints)
 
 -- a number of bidders, as it is written and as it is kept
-size_within : (z : ℤ) → pos 1 ≤ℤ z → z ≤ℤ pos 12 → (1 ≤ unsigned_abs z) × (unsigned_abs z ≤ 12)
-size_within z a b = (grind (arith, ints), grind (arith, ints))
+pub size_within : (limit : ℕ) (z : ℤ) → pos 1 ≤ℤ z → z ≤ℤ pos limit → (1 ≤ unsigned_abs z) × (unsigned_abs z ≤ limit)
+size_within limit z a b = (grind (arith, ints), grind (arith, ints))
 
-weight_size : (z : ℤ) → is_weight z ≡ true → unsigned_abs z ≤ 1000000
+pub weight_size : (z : ℤ) → is_weight z ≡ true → unsigned_abs z ≤ 1000000
 weight_size (pos n) h = le_of_test n 1000000 h
 weight_size (negsuc n) h = absurd (cc h)
 
@@ -136,7 +136,7 @@ good_weights bidders values weights h =
 
 -- ---- what passes the tests is within the limits
 
-range_of : (limit : ℕ) (z : ℤ) → is_up_to limit z ≡ true → (pos 0 ≤ℤ z) × (z ≤ℤ pos limit)
+pub range_of : (limit : ℕ) (z : ℤ) → is_up_to limit z ≡ true → (pos 0 ≤ℤ z) × (z ≤ℤ pos limit)
 range_of limit z h = (le_of_int _ _ (and_left _ _ h), le_of_int _ _ (and_right _ _ h))
 
 weight_at : (weights : List ℤ) (k : ℕ) → list_all is_weight weights ≡ true → k < length weights → slice_index (map unsigned_abs weights) k ≤ 1000000
@@ -148,7 +148,7 @@ accepted w h none =
     let sizes = good_sizes w h.sizes in
     let range = numbers w h.range in
     let weighed = good_weights (unsigned_abs w.bidders) w.values (weights_in w) none in
-    let bidders = size_within w.bidders sizes.some_bidder sizes.few_bidders in
+    let bidders = size_within 12 w.bidders sizes.some_bidder sizes.few_bidders in
     let one_each : length w.weights ≡ length w.values = same_of_eq _ _ h.shape in
     let kept : length (weights_in w) ≡ length w.values = length-map w.weights unsigned_abs ∙ one_each in
     record {
@@ -175,7 +175,7 @@ accepted w h none =
 pub bidders_fit : (w : WrittenAuction) → HasGoodNumbers w → T (non_neg w.bidders) × (unsigned_abs w.bidders < 2 ^ 32)
 bidders_fit w h =
     let sizes = good_sizes w h.sizes in
-    let within = size_within w.bidders sizes.some_bidder sizes.few_bidders in
+    let within = size_within 12 w.bidders sizes.some_bidder sizes.few_bidders in
     (not_negative w.bidders sizes.some_bidder, omega (arith, within))
   where
     not_negative : (z : ℤ) → pos 1 ≤ℤ z → T (non_neg z)
@@ -189,13 +189,14 @@ kept_weights w weights h e = ap length e ∙ length-map w.weights unsigned_abs �
 pub kept_sizes : (w : WrittenAuction) (weights : List ℕ) → HasGoodNumbers w → weights ≡ weights_in w → All (λ weight. weight ≤ 1000000) weights
 kept_sizes w weights h e = subst (All (λ weight. weight ≤ 1000000)) (sym e) (weight_sizes w.weights (numbers w h.range).weights)
 
-weight_back : (z : ℤ) → is_weight z ≡ true → pos (unsigned_abs z) ≡ z
+pub weight_back : (z : ℤ) → is_weight z ≡ true → pos (unsigned_abs z) ≡ z
 weight_back (pos n) h = refl
 weight_back (negsuc n) h = absurd (cc h)
 
-weights_back : (weights : List ℤ) → list_all is_weight weights ≡ true → map pos (map unsigned_abs weights) ≡ weights
-weights_back [] h = refl
-weights_back (z ∷ zs) h = rw (weight_back z (and_left _ _ h), weights_back zs (and_right (is_weight z) _ h)) refl
+-- numbers of which a test says that none is negative
+pub numbers_back : (p : ℤ → Bool) → ((z : ℤ) → p z ≡ true → pos (unsigned_abs z) ≡ z) → (numbers : List ℤ) → list_all p numbers ≡ true → map pos (map unsigned_abs numbers) ≡ numbers
+numbers_back p back [] h = refl
+numbers_back p back (z ∷ zs) h = rw (back z (and_left _ _ h), numbers_back p back zs (and_right (p z) _ h)) refl
 
 bidders_back : (z : ℤ) → pos 1 ≤ℤ z → pos (unsigned_abs z) ≡ z
 bidders_back (pos n) h = refl
@@ -204,7 +205,7 @@ bidders_back (negsuc n) h = absurd (omega (arith, ints))
 -- what is kept can be written as it was
 written_back : (w : WrittenAuction) → HasGoodNumbers w → as_written (auction_of w) ≡ w
 written_back w h =
-    rw (bidders_back w.bidders (good_sizes w h.sizes).some_bidder, weights_back w.weights (numbers w h.range).weights) refl
+    rw (bidders_back w.bidders (good_sizes w h.sizes).some_bidder, numbers_back is_weight weight_back w.weights (numbers w h.range).weights) refl
 
 pub kept : (w : WrittenAuction) (values : List ℤ) (weights : List ℕ) (total : ℕ) → HasGoodNumbers w → values ≡ w.values → weights ≡ weights_in w
     → weight_refusal_of (unsigned_abs w.bidders) w.values weights ≡ None → total ≡ total_weight weights

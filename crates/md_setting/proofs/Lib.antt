@@ -2,8 +2,11 @@ pub mod Accepted
 pub mod Apart
 pub mod Auctions
 pub mod CountLaws
+pub mod Divisors
 pub mod FirstRefusal
 pub mod GeneralLaws
+pub mod GroupedLaws
+pub mod GroupedViews
 pub mod IndependentLaws
 pub mod KeptLaws
 pub mod Lookups

@@ -16,7 +16,7 @@ use Rattle.md_setting.specs.Refusals.{is_name, has_good_names, has_named_types, 
 pub all_names : (texts : List (String Global)) → list_all is_name (names_of texts) ≡ list_all (λ text. is_name (string_bytes text)) texts
 all_names texts = list_all-map is_name string_bytes texts
 
-same_len : (row : Vec ℤ Global) → vec_len row ≡ length row.items
+pub same_len : (row : Vec ℤ Global) → vec_len row ≡ length row.items
 same_len row = omega arith
 
 both : (a b x y : Bool) → a ≡ b → x ≡ y → (a && x) ≡ (b && y)

@@ -3,6 +3,9 @@ pub mod AuctionRefusals
 pub mod AuctionShaped
 pub mod CountLists
 pub mod General
+pub mod Grouped
+pub mod GroupedRefusals
+pub mod GroupedShaped
 pub mod Kept
 pub mod Meaning
 pub mod Names

@@ -65,8 +65,8 @@ fn are_values(values: &[i64]) -> bool
     values.iter().all(|value| is_up_to(MAX_VALUE, *value))
 }
 
-// Whether the factors, and what the item is worth to the designer, are within their limits.
-fn are_factors_in_range(revenue: i64, welfare: i64, keep: i64) -> bool
+/// Whether the factors, and what an item that is kept is worth to the designer, are within their limits.
+pub(crate) fn are_factors_in_range(revenue: i64, welfare: i64, keep: i64) -> bool
     ensures { result ≡ (is_up_to 1000 revenue && is_small 1000 welfare && is_small 1000000 keep) }
 {
     is_up_to(MAX_REVENUE, revenue) && is_small(MAX_WELFARE, welfare) && is_small(MAX_KEEP, keep)
@@ -79,8 +79,8 @@ fn is_up_to(limit: i64, number: i64) -> bool
     0 <= number && number <= limit
 }
 
-// Whether each value times the factor of the bidders' utilities is within its limit.
-fn are_gains_in_range(welfare: i64, values: &[i64]) -> bool
+/// Whether each value times the factor of the bidders' utilities is within its limit.
+pub(crate) fn are_gains_in_range(welfare: i64, values: &[i64]) -> bool
     ensures { result ≡ list_all (λ value. is_small 10000000 (welfare *ℤ value)) values.now }
 {
     values.iter().all(|value| is_gain_in_range(welfare, *value))
@@ -137,9 +137,11 @@ pub(crate) fn total_weight(weights: &[u64]) -> u64
 
 /// Whether each value is below the next one.
 pub(crate) fn is_ascending(values: &[i64]) -> bool
-    requires { 1 ≤ length values.now }
     ensures { result ≡ is_ascending values.now }
 {
+    if values.is_empty() {
+        return true;
+    }
     for place in 0..values.len() - 1 {
         if values[place] >= values[place + 1] {
             return false;

@@ -1,6 +1,6 @@
 //! What a setting file holds.
 
-use crate::{Auction, Setting};
+use crate::{Auction, GroupedAuction, Setting};
 
 /// The setting of a file, by its kind.
 #[derive(Drop)]
@@ -9,4 +9,6 @@ pub enum SettingFile {
     General(Setting),
     /// A symmetric auction of one item.
     Auction(Auction),
+    /// An auction with groups of bidders who differ.
+    Bidders(GroupedAuction),
 }

@@ -1,12 +1,47 @@
 //! Whether the names of a setting are well formed and told apart.
-ghost use Rattle.std.specs.Prelude.{◌≡◌, IfOk, map, string_bytes};
+ghost use Rattle.std.specs.Prelude.{◌≡◌, ℕ, List, IfOk, map, string_bytes};
 ghost use Rattle.std.specs.List.{list_all};
-ghost use Rattle.md_setting.specs.Setting.{written, written_agent, names_of};
+ghost use Rattle.md_setting.specs.Setting.{written, written_agent};
+ghost use Rattle.md_setting.specs.Grouped.{written_grouped, written_group};
+ghost use Rattle.md_setting.specs.GroupedRefusals.{has_good_group_names, has_own_group_names};
 ghost use Rattle.md_setting.specs.Refusals.{is_name, is_name_byte, has_named_types, has_good_names, has_own_names, are_apart};
 
-use crate::{RawAgent, RawSetting};
+use crate::{RawAgent, RawGroup, RawGroupedAuction, RawSetting};
 use std::alloc::{AllocError, Global};
 use std::collections::BTreeSet;
+
+/// What has a name.
+pub(crate) trait Named {
+    ghost name_of: { Self → List ℕ };
+
+    /// Its name.
+    fn name(&self) -> &str
+        ensures { result.now ≡ name_of self.now };
+}
+
+impl Named for String {
+    ghost name_of = { string_bytes };
+
+    fn name(&self) -> &str {
+        self.as_str()
+    }
+}
+
+impl Named for RawAgent {
+    ghost name_of = { λ agent. (written_agent agent).name };
+
+    fn name(&self) -> &str {
+        self.name.as_str()
+    }
+}
+
+impl Named for RawGroup {
+    ghost name_of = { λ group. (written_group group).name };
+
+    fn name(&self) -> &str {
+        self.name.as_str()
+    }
+}
 
 /// The most bytes of a name.
 pub const MAX_NAME: usize = 32;
@@ -56,36 +91,50 @@ fn is_name_byte(b: u8) -> bool
     matches!(b, b'0'..=b'9' | b'A'..=b'Z' | b'a'..=b'z' | b'_')
 }
 
+/// Whether each group of bidders has such a name.
+#[tactic(auto, using(crate::proofs::GroupedViews::good_names))]
+pub(crate) fn has_good_group_names(raw: &RawGroupedAuction) -> bool
+    ensures { result ≡ has_good_group_names (written_grouped raw.now) }
+{
+    are_groups_named(&raw.groups)
+}
+
+fn are_groups_named(groups: &[RawGroup]) -> bool
+    ensures { result ≡ list_all (λ group. is_name (written_group group).name) groups.now }
+{
+    groups.iter().all(|group| is_name(&group.name))
+}
+
+/// Whether no two groups of bidders share a name.
+#[tactic(auto, using(crate::proofs::GroupedViews::own_names))]
+pub(crate) fn has_own_group_names(
+    alloc: Global,
+    raw: &RawGroupedAuction,
+) -> Result<bool, AllocError>
+    ensures { IfOk result (λ own. own ≡ has_own_group_names (written_grouped raw.now)) }
+{
+    are_apart(alloc, &raw.groups)
+}
+
 /// Whether no two agents, no two outcomes and no two types of one agent share a name.
 #[tactic(auto, using(crate::proofs::Views::own_names))]
 pub(crate) fn has_own_names(alloc: Global, raw: &RawSetting) -> Result<bool, AllocError>
     ensures { IfOk result (λ own. own ≡ has_own_names (written raw.now)) }
 {
     Ok(
-        are_agents_apart(alloc, &raw.agents)?
+        are_apart(alloc, &raw.agents)?
             && are_apart(alloc, &raw.outcomes)?
             && are_types_apart(alloc, &raw.agents)?,
     )
 }
 
-fn are_agents_apart(alloc: Global, agents: &[RawAgent]) -> Result<bool, AllocError>
-    ensures { IfOk result (λ apart. apart ≡ are_apart (map (λ agent. (written_agent agent).name) agents.now)) }
+/// Whether no two of some things share a name.
+pub(crate) fn are_apart<T: Named>(alloc: Global, items: &[T]) -> Result<bool, AllocError>
+    ensures { IfOk result (λ apart. apart ≡ are_apart (map T.name_of items.now)) }
 {
     let mut seen = BTreeSet::new(alloc);
-    for agent in agents {
-        if !seen.insert(agent.name.as_str())? {
-            return Ok(false);
-        }
-    }
-    Ok(true)
-}
-
-fn are_apart(alloc: Global, texts: &[String]) -> Result<bool, AllocError>
-    ensures { IfOk result (λ apart. apart ≡ are_apart (names_of texts.now)) }
-{
-    let mut seen = BTreeSet::new(alloc);
-    for text in texts {
-        if !seen.insert(text.as_str())? {
+    for item in items {
+        if !seen.insert(item.name())? {
             return Ok(false);
         }
     }

@@ -80,7 +80,7 @@ fn are_small_rows(limit: u64, rows: &[Vec<i64>]) -> bool
     rows.iter().all(|row| are_small(limit, row))
 }
 
-fn are_small(limit: u64, numbers: &[i64]) -> bool
+pub(crate) fn are_small(limit: u64, numbers: &[i64]) -> bool
     ensures { result ≡ list_all (is_small limit) numbers.now }
 {
     numbers.iter().all(|number| is_small(limit, *number))

@@ -1,4 +1,4 @@
-//! A setting as it is written down, before anything of it is checked.
+//! Settings as they are written down, before anything of them is checked.
 
 use crate::{Rational, Truth};
 
@@ -42,4 +42,34 @@ pub struct RawSetting {
     pub payments: bool,
     /// Whether the payments of each profile may not add to less than 0.
     pub no_deficit: bool,
+}
+
+/// A group of bidders as written: its lists run over its values, in one order.
+#[derive(Drop)]
+pub struct RawGroup {
+    /// The group's name.
+    pub name: String,
+    /// How many bidders there are in it.
+    pub count: i64,
+    /// The values that each of them may have for a unit.
+    pub values: Vec<i64>,
+    /// The weight of each value.
+    pub weights: Vec<i64>,
+    /// What a unit that one of them gets is worth to the designer.
+    pub worth: i64,
+}
+
+/// An auction with groups of bidders as written.
+#[derive(Drop)]
+pub struct RawGroupedAuction {
+    /// The amount of each slot.
+    pub slots: Vec<i64>,
+    /// The factor of the payments in the objective.
+    pub revenue: i64,
+    /// The factor of what slots are worth to bidders in the objective.
+    pub welfare: i64,
+    /// What a unit that nobody gets is worth to the designer.
+    pub keep: i64,
+    /// The groups, in the order of their bidders.
+    pub groups: Vec<RawGroup>,
 }

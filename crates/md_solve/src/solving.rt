@@ -1,6 +1,6 @@
 //! Settings and auctions solved.
-ghost use Rattle.std.specs.Prelude.{◌≡◌, ◌↔◌, ℕ, List, Some, IfOk};
-ghost use Rattle.md_setting.specs.ByKind.{WhereAuction, WhereGeneral};
+ghost use Rattle.std.specs.Prelude.{◌≡◌, ◌↔◌, ℕ, List, Some, IfOk, true};
+ghost use Rattle.md_setting.specs.ByKind.{WhereAuction, WhereGeneral, has_no_groups};
 ghost use Rattle.md_lp.specs.Program.{Program};
 ghost use Rattle.md_lp.specs.declared.pivot.Pivot.{Pivot};
 ghost use Rattle.md_lp.specs.declared.wide.Wide.{Wide};
@@ -41,6 +41,7 @@ use std::alloc::Global;
 /// The answer is a mass table whose mechanism is optimal, with its odds and payments, its value and multipliers of the last
 /// program; or the cuts and both first wide bases of that program.
 pub fn solve(alloc: Global, file: &SettingFile, width: Width) -> Result<Answer, NoMemory>
+    requires { has_no_groups file.now ≡ true }
     ensures solved { WhereGeneral (λ s. IfOk result (IsSolved s width)) file.now }
 
     // A setting and a width have one answer.
@@ -88,5 +89,6 @@ pub fn solve(alloc: Global, file: &SettingFile, width: Width) -> Result<Answer, 
     match file {
         SettingFile::General(setting) => solve_general(alloc, setting, width),
         SettingFile::Auction(auction) => solve_by_cuts(alloc, auction, width),
+        SettingFile::Bidders(_) => unreachable!(),
     }
 }

@@ -1,5 +1,5 @@
 pub mod Each
-pub mod EachAgent
+pub mod EachTable
 pub mod Names
 pub mod Utf8
 pub mod WritingLaws

@@ -14,6 +14,8 @@ use Rattle.md_setting.specs.Setting.{Agent, GeneralSetting}
 use Rattle.md_setting.specs.Meaning.{nobody}
 use Rattle.md_setting.specs.Auction.{SymmetricAuction, WrittenAuction, as_written, auction_of}
 use Rattle.md_setting.specs.AuctionRefusals.{auction_refusal_of}
+use Rattle.md_setting.specs.Grouped.{GroupedAuction, WrittenGroup, WrittenGroupedAuction, Group, group_as_written, said_group, grouped_of, grouped_as_written}
+use Rattle.md_setting.specs.GroupedRefusals.{grouped_refusal_of}
 use Rattle.md_setting.specs.Refusals.{refusal_of}
 use Rattle.md_setting.specs.declared.refusal.BuildRefusal.{BuildRefusal}
 use Rattle.md_toml.specs.declared.refusal.SettingRefusal.TheVariants.{Build}
@@ -26,13 +28,14 @@ use Rattle.md_toml.specs.declared.document.Version.TheVariants.{One, Two}
 use Rattle.md_toml.specs.declared.key.Key.{Key}
 use Rattle.md_toml.specs.declared.key.Key.TheVariants as key
 use Rattle.md_toml.specs.AuctionText.{auction_in}
-use Rattle.md_toml.specs.Document.{document_of, header_of}
-use Rattle.md_toml.specs.File.{built, built_auction, file_of, setting_of}
-use Rattle.md_toml.specs.General.{truth_in, rational_in, agent_of, each_agent, general_of}
-use Rattle.md_toml.specs.Known.{has_agent_keys}
+use Rattle.md_toml.specs.GroupedText.{group_of, grouped_in}
+use Rattle.md_toml.specs.Document.{document_of, kind_of}
+use Rattle.md_toml.specs.File.{built, built_auction, built_grouped, file_of, setting_of}
+use Rattle.md_toml.specs.General.{truth_in, rational_in, agent_of, general_of}
+use Rattle.md_toml.specs.Known.{has_agent_keys, has_only, group_keys}
 use Rattle.md_toml.specs.Reading.{Reading, ◌>>=◌}
-use Rattle.md_toml.specs.Values.{each_item, integer_in, text_in, table_in, list_in}
-use Rattle.md_toml.specs.Writing.{put, agents_data, put_member, items_from, numbers_data, texts_data, rows_data, truth_word, rational_word, header_with, with_demands, objective_table, with_weights, with_utilities, version_of, agent_table, with_prior, general_table_in, general_table, auction_table, file_table, IsAccepted}
+use Rattle.md_toml.specs.Values.{each_item, read_each, integer_in, text_in, table_in, list_in}
+use Rattle.md_toml.specs.Writing.{put, agents_data, put_member, items_from, numbers_data, texts_data, rows_data, truth_word, rational_word, header_with, with_demands, objective_table, with_weights, with_utilities, version_of, agent_table, with_prior, general_table_in, general_table, auction_table, group_table, groups_data, grouped_table, file_table, IsAccepted, version_number}
 
 -- ---- lists
 
@@ -117,7 +120,7 @@ record AreWritten (version : Version) (prior : Option (List ℤ)) (agents : List
 others_written : (version : Version) (prior : Option (List ℤ)) (agent : Agent) (agents : List Agent) → AreWritten version prior (agent ∷ agents) → AreWritten version prior agents
 others_written version prior agent agents h = record { at = λ i l. h.at (suc i) (omega arith) }
 
-agents_back : (version : Version) (prior : Option (List ℤ)) (agents : List Agent) → AreWritten version prior agents → each_agent version prior (map (agent_table prior) agents) ≡ Ok agents
+agents_back : (version : Version) (prior : Option (List ℤ)) (agents : List Agent) → AreWritten version prior agents → read_each (agent_of version prior) (map (agent_table prior) agents) ≡ Ok agents
 agents_back version prior [] h = refl
 agents_back version prior (agent ∷ agents) h =
     rw (
@@ -195,11 +198,11 @@ general_back version (Some p) s e h =
     )
     refl
 
-general_header : (version : Version) (prior : Option (List ℤ)) (s : GeneralSetting) → s.prior ≡ prior → header_of (general_table_in version s) ≡ Ok (record { version = version; kind = kind.General })
-general_header One None s e = rw e refl
-general_header One (Some p) s e = rw e refl
-general_header Two None s e = rw e refl
-general_header Two (Some p) s e = rw e refl
+general_kind : (version : Version) (prior : Option (List ℤ)) (s : GeneralSetting) → s.prior ≡ prior → kind_of (general_table_in version s) ≡ Ok (kind.General version)
+general_kind One None s e = rw e refl
+general_kind One (Some p) s e = rw e refl
+general_kind Two None s e = rw e refl
+general_kind Two (Some p) s e = rw e refl
 
 auction_back : (a : SymmetricAuction) → auction_in (auction_table a) ≡ Ok (as_written a)
 auction_back a = rw (numbers_back key.Values a.values, numbers_back key.Weights (map pos a.weights)) refl
@@ -223,8 +226,41 @@ built_auction_back w h = chosen (auction_refusal_of w) h
     chosen : (refusal : Option BuildRefusal) → refusal ≡ None → ◌≡◌ {A = Reading SymmetricAuction} (elim refusal [ None ↦ Ok (auction_of w) | Some r ↦ Err (Build r) ]) (Ok (auction_of w))
     chosen refusal e = rw e refl
 
+-- an auction with groups of bidders
+group_back : (group : WrittenGroup) → group_of (group_table group) ≡ Ok group
+group_back group = rw (numbers_back key.BidderValues group.values, numbers_back key.BidderWeights group.weights) refl
+
+groups_back : (groups : List WrittenGroup) → read_each group_of (map group_table groups) ≡ Ok groups
+groups_back [] = refl
+groups_back (group ∷ groups) = rw (group_back group, groups_back groups) refl
+
+group_tables_back : (k : Key) (groups : List WrittenGroup) → each_item (table_in k) (items_from (λ group. table (group_table group)) groups) ≡ Ok (map group_table groups)
+group_tables_back k [] = refl
+group_tables_back k (group ∷ groups) = rw (group_tables_back k groups) refl
+
+groups_known : (groups : List WrittenGroup) → list_all (has_only group_keys) (map group_table groups) ≡ true
+groups_known [] = refl
+groups_known (group ∷ groups) = rw (groups_known groups) refl
+
+grouped_back : (w : WrittenGroupedAuction) → grouped_in (grouped_table w) ≡ Ok w
+grouped_back w =
+    rw (numbers_back key.Slots w.slots, group_tables_back key.Bidder w.groups, groups_back w.groups, groups_known w.groups) refl
+
+built_grouped_back : (w : WrittenGroupedAuction) → grouped_refusal_of w ≡ None → built_grouped w ≡ Ok (grouped_of w)
+built_grouped_back w h = chosen (grouped_refusal_of w) h
+  where
+    chosen : (refusal : Option BuildRefusal) → refusal ≡ None → ◌≡◌ {A = Reading GroupedAuction} (elim refusal [ None ↦ Ok (grouped_of w) | Some r ↦ Err (Build r) ]) (Ok (grouped_of w))
+    chosen refusal e = rw e refl
+
+said_back : (groups : List Group) → map said_group (map group_as_written groups) ≡ groups
+said_back [] = refl
+said_back (group ∷ groups) = rw (weights_back group.weights, said_back groups) refl
+
+grouped_said : (a : GroupedAuction) → grouped_of (grouped_as_written a) ≡ a
+grouped_said a = rw (weights_back a.slots, said_back a.groups) refl
+
 -- what is printed of a file says that file
-file_back : (f : SettingFile) → IsAccepted f → (header_of (file_table f) >>= λ header. file_of header.kind header.version (file_table f)) ≡ Ok f
+file_back : (f : SettingFile) → IsAccepted f → (kind_of (file_table f) >>= λ kind. file_of kind (file_table f)) ≡ Ok f
 file_back (file.General s) h =
     let written : AreWritten (version_of s.agents) s.prior s.agents = record {
       at = λ i l. record {
@@ -233,7 +269,7 @@ file_back (file.General s) h =
         said = said_in s.agents i l;
       };
     } in
-    on_ok (header_of (general_table s)) (record { version = version_of s.agents; kind = kind.General }) (λ header. file_of header.kind header.version (general_table s)) (general_header (version_of s.agents) s.prior s refl)
+    on_ok (kind_of (general_table s)) (kind.General (version_of s.agents)) (λ kind. file_of kind (general_table s)) (general_kind (version_of s.agents) s.prior s refl)
     ∙ (on_ok (general_of (version_of s.agents) (general_table s)) s (λ said. built said >>= λ setting. Ok (file.General setting))
     (general_back (version_of s.agents) s.prior s refl written)
     ∙ on_ok (built s) s (λ setting. Ok (file.General setting)) (built_back s h.0))
@@ -242,6 +278,11 @@ file_back (file.Auction a) h =
     ∙ (on_ok (built_auction (as_written a)) (auction_of (as_written a)) (λ auction. Ok (file.Auction auction)) (built_auction_back (as_written a) h)
     ∙ ap (λ weights. Ok (file.Auction (record { bidders = a.bidders; values = a.values; weights = weights; revenue = a.revenue; welfare = a.welfare; keep = a.keep })))
     (weights_back a.weights))
+file_back (file.Bidders a) h =
+    let w = grouped_as_written a in
+    on_ok (grouped_in (grouped_table w)) w (λ written. built_grouped written >>= λ auction. Ok (file.Bidders auction)) (grouped_back w)
+    ∙ (on_ok (built_grouped w) (grouped_of w) (λ auction. Ok (file.Bidders auction)) (built_grouped_back w h)
+    ∙ ap (λ auction. Ok (file.Bidders auction)) (grouped_said a))
 
 -- ---- depth
 
@@ -311,7 +352,7 @@ prior-depth : (prior : Option (List ℤ)) (ms : Members) → members_depth ms �
 prior-depth None ms h = h
 prior-depth (Some p) ms h = put_depth 4 key.Prior (numbers_data p) ms (omega (arith, numbers-depth p)) h
 
-header-depth : (version : Version) (word : List ℕ) → members_depth (header_with version word) ≤ 4
+header-depth : (version : ℤ) (word : List ℕ) → members_depth (header_with version word) ≤ 4
 header-depth version word = omega arith
 
 demands-depth : (t : Truth) (r : Rational) (p n : Bool) (ms : Members) → members_depth ms ≤ 4 → members_depth (with_demands t r p n ms) ≤ 4
@@ -326,33 +367,65 @@ demands-depth t r p n ms h =
 
 general-depth : (s : GeneralSetting) → members_depth (general_table s) ≤ 4
 general-depth s =
-    let m0 = header_with (version_of s.agents) (codes "general") in
+    let m0 = header_with (version_number (version_of s.agents)) (codes "general") in
     let m1 = with_demands s.truth s.rational s.payments s.no_deficit m0 in
     let m2 = put key.Outcomes (texts_data s.outcomes) m1 in
     let m3 = put key.Objective (table (objective_table s.welfare s.revenue s.values)) m2 in
-    let h1 : members_depth m1 ≤ 4 = demands-depth s.truth s.rational s.payments s.no_deficit m0 (header-depth (version_of s.agents) (codes "general")) in
+    let h1 : members_depth m1 ≤ 4 = demands-depth s.truth s.rational s.payments s.no_deficit m0 (header-depth (version_number (version_of s.agents)) (codes "general")) in
     let h2 : members_depth m2 ≤ 4 = put_depth 4 key.Outcomes (texts_data s.outcomes) m1 (omega (arith, texts-depth s.outcomes)) h1 in
     let h3 : members_depth m3 ≤ 4 = put_depth 4 key.Objective (table (objective_table s.welfare s.revenue s.values)) m2 (omega (arith, objective-depth s.welfare s.revenue s.values)) h2 in
     put_depth 4 key.Agent (agents_data s.prior s.agents) (with_prior s.prior m3) (agents-depth s.prior s.agents) (prior-depth s.prior m3 h3)
 
 auction-depth : (a : SymmetricAuction) → members_depth (auction_table a) ≤ 4
 auction-depth a =
-    let m0 = header_with One (codes "auction") in
+    let m0 = header_with (pos 1) (codes "auction") in
     let m1 = put key.Bidders (integer (pos a.bidders)) m0 in
     let m2 = put key.Values (numbers_data a.values) m1 in
     let m3 = put key.Weights (numbers_data (as_written a).weights) m2 in
     let m4 = put key.Revenue (integer a.revenue) m3 in
     let m5 = put key.Welfare (integer a.welfare) m4 in
-    let h1 : members_depth m1 ≤ 4 = put_depth 4 key.Bidders (integer (pos a.bidders)) m0 (omega arith) (header-depth One (codes "auction")) in
+    let h1 : members_depth m1 ≤ 4 = put_depth 4 key.Bidders (integer (pos a.bidders)) m0 (omega arith) (header-depth (pos 1) (codes "auction")) in
     let h2 : members_depth m2 ≤ 4 = put_depth 4 key.Values (numbers_data a.values) m1 (omega (arith, numbers-depth a.values)) h1 in
     let h3 : members_depth m3 ≤ 4 = put_depth 4 key.Weights (numbers_data (as_written a).weights) m2 (omega (arith, numbers-depth (as_written a).weights)) h2 in
     let h4 : members_depth m4 ≤ 4 = put_depth 4 key.Revenue (integer a.revenue) m3 (omega arith) h3 in
     let h5 : members_depth m5 ≤ 4 = put_depth 4 key.Welfare (integer a.welfare) m4 (omega arith) h4 in
     put_depth 4 key.Keep (integer a.keep) m5 (omega arith) h5
 
+group-depth : (group : WrittenGroup) → members_depth (group_table group) ≤ 1
+group-depth g =
+    let m1 = put key.BidderName (string g.name) no_members in
+    let m2 = put key.BidderCount (integer g.count) m1 in
+    let m3 = put key.BidderValues (numbers_data g.values) m2 in
+    let m4 = put key.BidderWeights (numbers_data g.weights) m3 in
+    let h1 : members_depth m1 ≤ 1 = put_depth 1 key.BidderName (string g.name) no_members (omega arith) (omega arith) in
+    let h2 : members_depth m2 ≤ 1 = put_depth 1 key.BidderCount (integer g.count) m1 (omega arith) h1 in
+    let h3 : members_depth m3 ≤ 1 = put_depth 1 key.BidderValues (numbers_data g.values) m2 (numbers-depth g.values) h2 in
+    let h4 : members_depth m4 ≤ 1 = put_depth 1 key.BidderWeights (numbers_data g.weights) m3 (numbers-depth g.weights) h3 in
+    put_depth 1 key.BidderWorth (integer g.worth) m4 (omega arith) h4
+
+groups-depth : (groups : List WrittenGroup) → depth (groups_data groups) ≤ 4
+groups-depth groups =
+    let h : items_depth (items_from (λ group. table (group_table group)) groups) ≤ 3 =
+    items-depth 3 (λ group. table (group_table group)) groups (λ group. omega (arith, group-depth group)) in
+    omega (arith, h)
+
+grouped-depth : (w : WrittenGroupedAuction) → members_depth (grouped_table w) ≤ 4
+grouped-depth w =
+    let m0 = header_with (pos 3) (codes "bidders") in
+    let m1 = put key.Slots (numbers_data w.slots) m0 in
+    let m2 = put key.Revenue (integer w.revenue) m1 in
+    let m3 = put key.Welfare (integer w.welfare) m2 in
+    let m4 = put key.Keep (integer w.keep) m3 in
+    let h1 : members_depth m1 ≤ 4 = put_depth 4 key.Slots (numbers_data w.slots) m0 (omega (arith, numbers-depth w.slots)) (header-depth (pos 3) (codes "bidders")) in
+    let h2 : members_depth m2 ≤ 4 = put_depth 4 key.Revenue (integer w.revenue) m1 (omega arith) h1 in
+    let h3 : members_depth m3 ≤ 4 = put_depth 4 key.Welfare (integer w.welfare) m2 (omega arith) h2 in
+    let h4 : members_depth m4 ≤ 4 = put_depth 4 key.Keep (integer w.keep) m3 (omega arith) h3 in
+    put_depth 4 key.Bidder (groups_data w.groups) m4 (groups-depth w.groups) h4
+
 file-depth : (f : SettingFile) → members_depth (file_table f) ≤ 4
 file-depth (file.General s) = general-depth s
 file-depth (file.Auction a) = auction-depth a
+file-depth (file.Bidders a) = grouped-depth (grouped_as_written a)
 
 -- ---- the bytes
 
@@ -370,4 +443,4 @@ text_document f bytes ms text same parsed =
 -- which says the setting
 pub text_back : (f : SettingFile) (bytes : List ℕ) → IsAccepted f → document_of bytes ≡ Ok (file_table f) → setting_of bytes ≡ Ok f
 text_back f bytes accepted document =
-    on_ok (document_of bytes) (file_table f) (λ members. header_of members >>= λ header. file_of header.kind header.version members) document ∙ file_back f accepted
+    on_ok (document_of bytes) (file_table f) (λ members. kind_of members >>= λ kind. file_of kind members) document ∙ file_back f accepted

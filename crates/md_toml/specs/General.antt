@@ -1,5 +1,5 @@
 -- What a document says of a general setting.
-use Rattle.std.specs.Prelude.{ℕ, ℤ, pos, Bool, true, false, List, [], ◌∷◌, length, replicate, Ok, Err, Option, None, Some, codes, is_some, if◌then◌else◌}
+use Rattle.std.specs.Prelude.{ℕ, ℤ, pos, Bool, true, false, List, [], length, replicate, Ok, Err, Option, None, Some, codes, is_some, if◌then◌else◌}
 use Rattle.std.specs.Str.{bytes_eq}
 use Rattle.toml.specs.Data.{Data, Members, no_members}
 use Rattle.md_setting.specs.declared.kinds.Truth.{Truth}
@@ -15,7 +15,7 @@ use Rattle.md_toml.specs.declared.key.Key.TheVariants as key
 use Rattle.md_toml.specs.declared.refusal.SettingRefusal.TheVariants.{UnknownWord}
 use Rattle.md_toml.specs.Known.{has_at, has_known_keys, known_only}
 use Rattle.md_toml.specs.Reading.{Reading, ◌>>=◌}
-use Rattle.md_toml.specs.Values.{text_in, integer_in, truth_value_in, table_in, list_in, required, defaulted}
+use Rattle.md_toml.specs.Values.{text_in, integer_in, truth_value_in, table_in, list_in, read_each, required, defaulted}
 
 -- the kind of truth that a word stands for
 abbrev pub truth_in : Key → Data → Reading Truth
@@ -92,14 +92,6 @@ agent_of version prior members = do
   at ← at_of (has_at version members) members
   Ok record { name = name; types = types; weights = weights; outside = outside; utility = utility; at = at }
 
--- each agent, read one after the other
-abbrev pub each_agent : Version → Option (List ℤ) → List Members → Reading (List Agent)
-each_agent version prior [] = Ok []
-each_agent version prior (members ∷ rest) = do
-  first ← agent_of version prior members
-  others ← each_agent version prior rest
-  Ok (first ∷ others)
-
 -- the joint weights, where the key stands
 abbrev pub prior_of : Members → Reading (Option (List ℤ))
 prior_of members = defaulted (λ k value. list_in integer_in k value >>= λ weights. Ok (Some weights)) None key.Prior members
@@ -113,7 +105,7 @@ general_of version members = do
   objective ← objective_of outcomes objective_members
   prior ← prior_of members
   tables ← required (list_in table_in) key.Agent members
-  agents ← each_agent version prior tables
+  agents ← read_each (agent_of version prior) tables
   _ ← known_only (has_known_keys version members objective_members tables (is_some prior))
   Ok record {
     agents = agents;

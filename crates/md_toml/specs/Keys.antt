@@ -1,7 +1,7 @@
 -- The names of the keys of setting files.
 use Rattle.std.specs.Prelude.{ℕ, List, codes}
 use Rattle.md_toml.specs.declared.key.Key.{Key}
-use Rattle.md_toml.specs.declared.key.Key.TheVariants.{Format, Version, Kind, Truth, Rational, Payments, NoDeficit, Outcomes, Objective, ObjectiveWelfare, ObjectiveRevenue, ObjectiveValue, Prior, Agent, AgentName, AgentTypes, AgentWeights, AgentOutside, AgentUtility, AgentUtilityAt, Bidders, Values, Weights, Revenue, Welfare, Keep}
+use Rattle.md_toml.specs.declared.key.Key.TheVariants.{Format, Version, Kind, Truth, Rational, Payments, NoDeficit, Outcomes, Objective, ObjectiveWelfare, ObjectiveRevenue, ObjectiveValue, Prior, Agent, AgentName, AgentTypes, AgentWeights, AgentOutside, AgentUtility, AgentUtilityAt, Bidders, Values, Weights, Revenue, Welfare, Keep, Slots, Bidder, BidderName, BidderCount, BidderValues, BidderWeights, BidderWorth}
 
 -- the whole name of a key
 abbrev pub text_of : Key → List ℕ
@@ -31,6 +31,13 @@ text_of Weights = codes "weights"
 text_of Revenue = codes "revenue"
 text_of Welfare = codes "welfare"
 text_of Keep = codes "keep"
+text_of Slots = codes "slots"
+text_of Bidder = codes "bidder"
+text_of BidderName = codes "bidder.name"
+text_of BidderCount = codes "bidder.count"
+text_of BidderValues = codes "bidder.values"
+text_of BidderWeights = codes "bidder.weights"
+text_of BidderWorth = codes "bidder.worth"
 
 -- the name of a key within its own table
 abbrev pub member_name : Key → List ℕ
@@ -43,4 +50,9 @@ member_name AgentWeights = codes "weights"
 member_name AgentOutside = codes "outside"
 member_name AgentUtility = codes "utility"
 member_name AgentUtilityAt = codes "utility_at"
+member_name BidderName = codes "name"
+member_name BidderCount = codes "count"
+member_name BidderValues = codes "values"
+member_name BidderWeights = codes "weights"
+member_name BidderWorth = codes "worth"
 member_name key = text_of key

@@ -6,7 +6,7 @@ use Rattle.toml.specs.Data.{Members, no_members, member, get_member}
 use Rattle.md_toml.specs.declared.document.Version.{Version}
 use Rattle.md_toml.specs.declared.document.Version.TheVariants.{One, Two}
 use Rattle.md_toml.specs.declared.key.Key.{Key}
-use Rattle.md_toml.specs.declared.key.Key.TheVariants.{Format, Version as VersionKey, Kind, Truth, Rational, Payments, NoDeficit, Outcomes, Objective, ObjectiveWelfare, ObjectiveRevenue, ObjectiveValue, Prior, Agent, AgentName, AgentTypes, AgentWeights, AgentOutside, AgentUtility, AgentUtilityAt, Bidders, Values, Weights, Revenue, Welfare, Keep}
+use Rattle.md_toml.specs.declared.key.Key.TheVariants.{Format, Version as VersionKey, Kind, Truth, Rational, Payments, NoDeficit, Outcomes, Objective, ObjectiveWelfare, ObjectiveRevenue, ObjectiveValue, Prior, Agent, AgentName, AgentTypes, AgentWeights, AgentOutside, AgentUtility, AgentUtilityAt, Bidders, Values, Weights, Revenue, Welfare, Keep, Slots, Bidder, BidderName, BidderCount, BidderValues, BidderWeights, BidderWorth}
 use Rattle.md_toml.specs.declared.refusal.SettingRefusal.TheVariants.{UnknownKey}
 use Rattle.md_toml.specs.Keys.{member_name}
 use Rattle.md_toml.specs.Reading.{Reading}
@@ -35,6 +35,13 @@ agent_keys has_prior at = (if has_prior then [] else AgentWeights ∷ []) ++ (Ag
 abbrev pub auction_keys : List Key
 auction_keys = header_keys ++ (Bidders ∷ Values ∷ Weights ∷ Revenue ∷ Welfare ∷ Keep ∷ [])
 
+-- the keys that the top table of an auction with groups of bidders may have, and those of a group's table
+abbrev pub grouped_keys : List Key
+grouped_keys = header_keys ++ (Slots ∷ Revenue ∷ Welfare ∷ Keep ∷ Bidder ∷ [])
+
+abbrev pub group_keys : List Key
+group_keys = BidderName ∷ BidderCount ∷ BidderValues ∷ BidderWeights ∷ BidderWorth ∷ []
+
 -- the names of a table
 abbrev pub names_in : Members → List (List ℕ)
 names_in no_members = []
@@ -56,6 +63,10 @@ has_agent_keys version has_prior members = has_only (agent_keys has_prior (has_a
 abbrev pub has_known_keys : Version → Members → Members → List Members → Bool → Bool
 has_known_keys version top objective agents has_prior =
     has_only general_keys top && (has_only objective_keys objective && list_all (has_agent_keys version has_prior) agents)
+
+-- the top table and that of each group have only keys that they may have
+abbrev pub has_grouped_keys : Members → List Members → Bool
+has_grouped_keys top groups = has_only grouped_keys top && list_all (has_only group_keys) groups
 
 -- tables with unknown keys are refused
 abbrev pub known_only : Bool → Reading (Unit {0})

@@ -4,6 +4,7 @@ pub mod Values
 pub mod Known
 pub mod Document
 pub mod General
+pub mod GroupedText
 pub mod AuctionText
 pub mod File
 pub mod Writing

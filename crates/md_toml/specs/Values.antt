@@ -57,6 +57,14 @@ defaulted read default key members = elim (get_member (member_name key) members)
   | Some value ↦ read key value
 ]
 
+-- each table, read one after the other
+abbrev pub read_each : {T : Type 0} → (Members → Reading T) → List Members → Reading (List T)
+read_each read [] = Ok []
+read_each read (members ∷ rest) = do
+  first ← read members
+  others ← read_each read rest
+  Ok (first ∷ others)
+
 -- the members of each of some tables
 abbrev pub members_of_all : List (Bor (BTreeMap (String Global) Value)) → List Members
 members_of_all tables = map (λ members. table_view members.now) tables

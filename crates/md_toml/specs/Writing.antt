@@ -13,6 +13,8 @@ use Rattle.md_setting.specs.declared.kinds.Rational.TheVariants as rational
 use Rattle.md_setting.specs.Setting.{Agent, GeneralSetting}
 use Rattle.md_setting.specs.Auction.{SymmetricAuction, as_written}
 use Rattle.md_setting.specs.AuctionRefusals.{auction_refusal_of}
+use Rattle.md_setting.specs.Grouped.{WrittenGroup, WrittenGroupedAuction, grouped_as_written}
+use Rattle.md_setting.specs.GroupedRefusals.{grouped_refusal_of}
 use Rattle.md_setting.specs.Refusals.{refusal_of}
 use Rattle.md_setting.specs.Shaped.{IsShaped}
 use Rattle.md_toml.specs.declared.document.Version.{Version}
@@ -65,10 +67,10 @@ abbrev pub version_of : List Agent → Version
 version_of agents = if list_any (λ agent. is_some agent.at) agents then Two else One
 
 -- the first keys
-abbrev pub header_with : Version → List ℕ → Members
-header_with version word =
+abbrev pub header_with : ℤ → List ℕ → Members
+header_with number word =
     put key.Kind (string word)
-    (put key.Version (integer (version_number version)) (put key.Format (string (codes "mechanism-setting")) no_members))
+    (put key.Version (integer number) (put key.Format (string (codes "mechanism-setting")) no_members))
 
 -- what is demanded of a mechanism
 abbrev pub with_demands : Truth → Rational → Bool → Bool → Members → Members
@@ -109,7 +111,7 @@ general_table_in version s =
     (with_prior s.prior
     (put key.Objective (table (objective_table s.welfare s.revenue s.values))
     (put key.Outcomes (texts_data s.outcomes)
-    (with_demands s.truth s.rational s.payments s.no_deficit (header_with version (codes "general"))))))
+    (with_demands s.truth s.rational s.payments s.no_deficit (header_with (version_number version) (codes "general"))))))
 
 abbrev pub general_table : GeneralSetting → Members
 general_table s = general_table_in (version_of s.agents) s
@@ -118,13 +120,29 @@ abbrev pub auction_table : SymmetricAuction → Members
 auction_table a =
     put key.Keep (integer a.keep) (put key.Welfare (integer a.welfare) (put key.Revenue (integer a.revenue)
     (put key.Weights (numbers_data (as_written a).weights) (put key.Values (numbers_data a.values)
-    (put key.Bidders (integer (pos a.bidders)) (header_with One (codes "auction")))))))
+    (put key.Bidders (integer (pos a.bidders)) (header_with (pos 1) (codes "auction")))))))
+
+abbrev pub group_table : WrittenGroup → Members
+group_table group =
+    put key.BidderWorth (integer group.worth) (put key.BidderWeights (numbers_data group.weights)
+    (put key.BidderValues (numbers_data group.values) (put key.BidderCount (integer group.count) (put key.BidderName (string group.name) no_members))))
+
+abbrev pub groups_data : List WrittenGroup → Data
+groups_data groups = array (items_from (λ group. table (group_table group)) groups)
+
+abbrev pub grouped_table : WrittenGroupedAuction → Members
+grouped_table auction =
+    put key.Bidder (groups_data auction.groups)
+    (put key.Keep (integer auction.keep) (put key.Welfare (integer auction.welfare) (put key.Revenue (integer auction.revenue)
+    (put key.Slots (numbers_data auction.slots) (header_with (pos 3) (codes "bidders"))))))
 
 abbrev pub file_table : SettingFile → Members
 file_table (file.General setting) = general_table setting
 file_table (file.Auction auction) = auction_table auction
+file_table (file.Bidders auction) = grouped_table (grouped_as_written auction)
 
 -- nothing in what the file holds is refused
 abbrev pub IsAccepted : SettingFile → Type 0
 IsAccepted (file.General setting) = (refusal_of setting ≡ None) × IsShaped setting
 IsAccepted (file.Auction auction) = auction_refusal_of (as_written auction) ≡ None
+IsAccepted (file.Bidders auction) = grouped_refusal_of (grouped_as_written auction) ≡ None

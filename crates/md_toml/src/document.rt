@@ -1,9 +1,10 @@
 //! What the bytes of a file say as a document, and what its first keys say.
+ghost use Rattle.std.specs.Prelude.{◌≡◌};
 ghost use Rattle.toml.specs.View.{view, table_view};
 ghost use Rattle.md_toml.specs.Reading.{Gives};
-ghost use Rattle.md_toml.specs.Document.{document_of, format_in, version_in, kind_in, header_of};
+ghost use Rattle.md_toml.specs.Document.{document_of, format_in, is_text, says_bidders, version_in, kind_in, kind_of};
 
-use crate::values::{read_integer, read_text, value_at};
+use crate::values::{member_at, read_integer, read_text, value_at};
 use crate::{Key, SettingRefusal};
 use std::alloc::Global;
 use toml::{Table, Value};
@@ -31,55 +32,80 @@ fn read_format(key: Key, value: &Value) -> Result<(), SettingRefusal>
     }
 }
 
-/// The version of the format. In the second one the utility of an agent may depend on the types of all agents.
+/// The version of a file about a general setting. In the second one the utility of an agent may depend on the types of all
+/// agents.
 #[derive(Clone, Copy)]
 pub(crate) enum Version {
     One,
     Two,
 }
 
-fn read_version(key: Key, value: &Value) -> Result<Version, SettingRefusal>
-    ensures { Gives (λ version. version) result (version_in key (view value.now)) }
-{
-    match read_integer(key, value)? {
-        1 => Ok(Version::One),
-        2 => Ok(Version::Two),
-        _ => Err(SettingRefusal::UnknownWord(key)),
-    }
-}
-
 /// What a file is about.
 #[derive(Clone, Copy)]
 pub(crate) enum Kind {
     /// A setting with agents and outcomes of its own.
-    General,
+    General(Version),
     /// A symmetric auction of one item.
     Auction,
+    /// An auction with groups of bidders who differ.
+    Bidders,
 }
 
-fn read_kind(key: Key, value: &Value) -> Result<Kind, SettingRefusal>
-    ensures { Gives (λ kind. kind) result (kind_in key (view value.now)) }
+/// What the first keys say: the kind of the file, and the version where that tells something.
+pub(crate) fn read_kind(members: &Table) -> Result<Kind, SettingRefusal>
+    ensures { Gives (λ kind. kind) result (kind_of (table_view members.now)) }
 {
-    match read_text(key, value)?.as_str() {
-        "general" => Ok(Kind::General),
-        "auction" => Ok(Kind::Auction),
+    read_format(Key::Format, value_at(members, Key::Format)?)?;
+    let of_bidders = says_bidders(members);
+    let version = read_version(of_bidders, Key::Version, value_at(members, Key::Version)?)?;
+    match version {
+        Some(version) => read_early_kind(version, Key::Kind, value_at(members, Key::Kind)?),
+        None => Ok(Kind::Bidders),
+    }
+}
+
+// Whether the file says that it is about groups of bidders.
+fn says_bidders(members: &Table) -> bool
+    ensures { result ≡ says_bidders (table_view members.now) }
+{
+    match member_at(members, Key::Kind) {
+        Some(value) => is_text("bidders", value),
+        None => false,
+    }
+}
+
+fn is_text(word: &str, value: &Value) -> bool
+    ensures { result ≡ is_text word.now (view value.now) }
+{
+    match value {
+        Value::String(text) => text.as_str() == word,
+        _ => false,
+    }
+}
+
+// The version of the format, or none where it is the third one, that of groups of bidders alone.
+fn read_version(
+    of_bidders: bool,
+    key: Key,
+    value: &Value,
+) -> Result<Option<Version>, SettingRefusal>
+    ensures { Gives (λ version. version) result (version_in of_bidders key (view value.now)) }
+{
+    match read_integer(key, value)? {
+        1 => Ok(Some(Version::One)),
+        2 => Ok(Some(Version::Two)),
+        3 if of_bidders => Ok(None),
         _ => Err(SettingRefusal::UnknownWord(key)),
     }
 }
 
-/// What the first keys say.
-#[derive(Clone, Copy)]
-pub(crate) struct Header {
-    pub(crate) version: Version,
-    pub(crate) kind: Kind,
-}
-
-/// What the first keys say: the version and the kind of the file.
-pub(crate) fn read_header(members: &Table) -> Result<Header, SettingRefusal>
-    ensures { Gives (λ header. header) result (header_of (table_view members.now)) }
+// The kind of setting in the first two versions.
+fn read_early_kind(version: Version, key: Key, value: &Value) -> Result<Kind, SettingRefusal>
+    ensures { Gives (λ kind. kind) result (kind_in version key (view value.now)) }
 {
-    read_format(Key::Format, value_at(members, Key::Format)?)?;
-    let version = read_version(Key::Version, value_at(members, Key::Version)?)?;
-    let kind = read_kind(Key::Kind, value_at(members, Key::Kind)?)?;
-    Ok(Header { version, kind })
+    match read_text(key, value)?.as_str() {
+        "general" => Ok(Kind::General(version)),
+        "auction" => Ok(Kind::Auction),
+        _ => Err(SettingRefusal::UnknownWord(key)),
+    }
 }

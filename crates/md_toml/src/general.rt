@@ -3,8 +3,8 @@ ghost use Rattle.std.specs.Prelude.{map, length, pos, string_bytes, option_map, 
 ghost use Rattle.toml.specs.View.{view, table_view};
 ghost use Rattle.md_setting.specs.Setting.{written_agent, names_of, lists_of, written};
 ghost use Rattle.md_toml.specs.Reading.{Gives};
-ghost use Rattle.md_toml.specs.Values.{members_of_all, table_in, integer_in, list_in, defaulted};
-ghost use Rattle.md_toml.specs.General.{truth_in, rational_in, demands_of, zeros_for, said_objective, objective_of, weights_of, utility_of, at_of, agent_of, prior_of, each_agent, general_of};
+ghost use Rattle.md_toml.specs.Values.{members_of_all, read_each, table_in, integer_in, list_in, defaulted};
+ghost use Rattle.md_toml.specs.General.{truth_in, rational_in, demands_of, zeros_for, said_objective, objective_of, weights_of, utility_of, at_of, agent_of, prior_of, general_of};
 
 use crate::document::Version;
 use crate::known::{has_at, has_known_keys};
@@ -197,7 +197,7 @@ fn read_agents(
     tables: &[&Table],
     prior: &Option<Vec<i64>>,
 ) -> Result<Vec<RawAgent>, SettingRefusal>
-    ensures { Gives (λ agents. map written_agent agents.items) result (each_agent version (option_map (λ weights. weights.items) prior.now) (members_of_all tables.now)) }
+    ensures { Gives (λ agents. map written_agent agents.items) result (read_each (agent_of version (option_map (λ weights. weights.items) prior.now)) (members_of_all tables.now)) }
 {
     let mut agents = Vec::new(alloc);
     for members in tables {

@@ -50,12 +50,26 @@ pub enum Key {
     Values,
     /// `weights` of an auction
     Weights,
-    /// `revenue` of an auction
+    /// `revenue` of an auction, with groups of bidders or without
     Revenue,
-    /// `welfare` of an auction
+    /// `welfare` of an auction, with groups of bidders or without
     Welfare,
-    /// `keep` of an auction
+    /// `keep` of an auction, with groups of bidders or without
     Keep,
+    /// `slots`
+    Slots,
+    /// `bidder`
+    Bidder,
+    /// `bidder.name`
+    BidderName,
+    /// `bidder.count`
+    BidderCount,
+    /// `bidder.values`
+    BidderValues,
+    /// `bidder.weights`
+    BidderWeights,
+    /// `bidder.worth`
+    BidderWorth,
 }
 
 impl Key {
@@ -92,6 +106,13 @@ impl Key {
             Key::Revenue => "revenue",
             Key::Welfare => "welfare",
             Key::Keep => "keep",
+            Key::Slots => "slots",
+            Key::Bidder => "bidder",
+            Key::BidderName => "bidder.name",
+            Key::BidderCount => "bidder.count",
+            Key::BidderValues => "bidder.values",
+            Key::BidderWeights => "bidder.weights",
+            Key::BidderWorth => "bidder.worth",
         }
     }
 
@@ -109,6 +130,11 @@ impl Key {
             Key::AgentOutside => "outside",
             Key::AgentUtility => "utility",
             Key::AgentUtilityAt => "utility_at",
+            Key::BidderName => "name",
+            Key::BidderCount => "count",
+            Key::BidderValues => "values",
+            Key::BidderWeights => "weights",
+            Key::BidderWorth => "worth",
             other => other.text(),
         }
     }

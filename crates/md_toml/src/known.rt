@@ -4,7 +4,7 @@ ghost use Rattle.std.specs.List.{list_all};
 ghost use Rattle.toml.specs.Data.{get_member};
 ghost use Rattle.toml.specs.View.{table_view};
 ghost use Rattle.md_toml.specs.Keys.{member_name};
-ghost use Rattle.md_toml.specs.Known.{agent_keys, auction_keys, has_agent_keys, has_at, has_only, has_known_keys, is_among};
+ghost use Rattle.md_toml.specs.Known.{agent_keys, auction_keys, has_agent_keys, has_at, has_only, has_known_keys, has_grouped_keys, is_among};
 ghost use Rattle.md_toml.specs.Values.{members_of_all};
 
 use crate::Key;
@@ -63,6 +63,27 @@ const AUCTION_KEYS: [Key; 9] = [
     Key::Revenue,
     Key::Welfare,
     Key::Keep,
+];
+
+// The keys that the top table of an auction with groups of bidders may have.
+const GROUPED_KEYS: [Key; 8] = [
+    Key::Format,
+    Key::Version,
+    Key::Kind,
+    Key::Slots,
+    Key::Revenue,
+    Key::Welfare,
+    Key::Keep,
+    Key::Bidder,
+];
+
+// The keys that the table of a group of bidders may have.
+const GROUP_KEYS: [Key; 5] = [
+    Key::BidderName,
+    Key::BidderCount,
+    Key::BidderValues,
+    Key::BidderWeights,
+    Key::BidderWorth,
 ];
 
 // Whether a name is that of one of the keys.
@@ -152,4 +173,23 @@ pub(crate) fn has_auction_keys(members: &Table) -> bool
     ensures { result ≡ has_only auction_keys (table_view members.now) }
 {
     has_only(members, &AUCTION_KEYS)
+}
+
+/// Whether all tables of an auction with groups of bidders have only keys that they may have.
+pub(crate) fn has_grouped_keys(members: &Table, groups: &[&Table]) -> bool
+    ensures { result ≡ has_grouped_keys (table_view members.now) (members_of_all groups.now) }
+{
+    has_only(members, &GROUPED_KEYS) && have_only(groups, &GROUP_KEYS)
+}
+
+// Whether each table has no other keys than these.
+fn have_only(tables: &[&Table], keys: &[Key]) -> bool
+    ensures { result ≡ list_all (has_only keys.now) (members_of_all tables.now) }
+{
+    for table in tables {
+        if !has_only(table, keys) {
+            return false;
+        }
+    }
+    true
 }

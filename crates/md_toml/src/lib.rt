@@ -4,8 +4,9 @@
 ghost use Rattle.std.specs.Prelude.{◌≡◌, Ok, IfOk};
 ghost use Rattle.md_toml.specs.Reading.{Gives};
 ghost use Rattle.md_toml.specs.Document.{document_of};
-ghost use Rattle.md_toml.specs.File.{built, built_auction, file_of, setting_of};
+ghost use Rattle.md_toml.specs.File.{built, built_auction, built_grouped, file_of, setting_of};
 ghost use Rattle.md_setting.specs.Setting.{written};
+ghost use Rattle.md_setting.specs.Grouped.{written_grouped};
 ghost use Rattle.md_toml.specs.AuctionText.{said_auction};
 ghost use Rattle.md_toml.specs.Writing.{file_table};
 ghost use Rattle.toml.specs.View.{table_view};
@@ -13,6 +14,7 @@ ghost use Rattle.toml.specs.View.{table_view};
 mod auction;
 mod document;
 mod general;
+mod grouped;
 mod key;
 mod known;
 mod print;
@@ -21,11 +23,14 @@ mod values;
 mod write;
 
 use auction::{RawAuction, read_auction};
-use document::{Header, Kind, read_document, read_header};
+use document::{Kind, read_document, read_kind};
 use general::read_general;
+use grouped::read_grouped;
 pub use key::Key;
 use md_num::NoMemory;
-use md_setting::{Auction, BuildRefusal, RawSetting, Setting, SettingFile};
+use md_setting::{
+    Auction, BuildRefusal, GroupedAuction, RawGroupedAuction, RawSetting, Setting, SettingFile,
+};
 pub use refusal::SettingRefusal;
 use std::alloc::Global;
 use toml::Table;
@@ -36,8 +41,8 @@ pub fn read_setting(alloc: Global, bytes: &[u8]) -> Result<SettingFile, SettingR
     ensures { Gives (λ file. file) result (setting_of bytes.now) }
 {
     let members = read_document(alloc, bytes)?;
-    let header = read_header(&members)?;
-    read_file(alloc, header, &members)
+    let kind = read_kind(&members)?;
+    read_file(alloc, kind, &members)
 }
 
 /// The bytes of a file that says this setting, in the first version of the format that can say it.
@@ -56,17 +61,21 @@ pub fn write_setting(alloc: Global, file: &SettingFile) -> Result<Vec<u8>, NoMem
 }
 
 // What the document says of its kind of setting.
-fn read_file(alloc: Global, header: Header, members: &Table) -> Result<SettingFile, SettingRefusal>
-    ensures { Gives (λ file. file) result (file_of header.kind header.version (table_view members.now)) }
+fn read_file(alloc: Global, kind: Kind, members: &Table) -> Result<SettingFile, SettingRefusal>
+    ensures { Gives (λ file. file) result (file_of kind (table_view members.now)) }
 {
-    match header.kind {
-        Kind::General => {
-            let setting = build(alloc, read_general(alloc, members, header.version)?)?;
+    match kind {
+        Kind::General(version) => {
+            let setting = build(alloc, read_general(alloc, members, version)?)?;
             Ok(SettingFile::General(setting))
         }
         Kind::Auction => {
             let auction = build_auction(alloc, read_auction(alloc, members)?)?;
             Ok(SettingFile::Auction(auction))
+        }
+        Kind::Bidders => {
+            let auction = build_grouped(alloc, read_grouped(alloc, members)?)?;
+            Ok(SettingFile::Bidders(auction))
         }
     }
 }
@@ -95,6 +104,17 @@ fn build_auction(alloc: Global, raw: RawAuction) -> Result<Auction, SettingRefus
         raw.welfare,
         raw.keep,
     ) {
+        Ok(auction) => Ok(auction),
+        Err(BuildRefusal::Memory) => Err(SettingRefusal::Memory),
+        Err(refusal) => Err(SettingRefusal::Build(refusal)),
+    }
+}
+
+// The auction with groups of bidders that was written, unless it is refused.
+fn build_grouped(alloc: Global, raw: RawGroupedAuction) -> Result<GroupedAuction, SettingRefusal>
+    ensures { Gives (λ auction. auction) result (built_grouped (written_grouped raw)) }
+{
+    match GroupedAuction::new(alloc, raw) {
         Ok(auction) => Ok(auction),
         Err(BuildRefusal::Memory) => Err(SettingRefusal::Memory),
         Err(refusal) => Err(SettingRefusal::Build(refusal)),

@@ -4,13 +4,17 @@ ghost use Rattle.std.specs.List.{list_any};
 ghost use Rattle.toml.specs.Data.{no_members, table};
 ghost use Rattle.toml.specs.View.{view, table_view};
 ghost use Rattle.md_setting.specs.Setting.{written_agent, written, names_of, lists_of};
-ghost use Rattle.md_toml.specs.Writing.{put, version_number, version_of, header_with, with_demands, objective_table, with_weights, with_utilities, agent_table, agents_data, with_prior, general_table, auction_table, file_table, IsAccepted, numbers_data, texts_data, rows_data, truth_word, rational_word};
+ghost use Rattle.md_setting.specs.Grouped.{written_group, written_grouped};
+ghost use Rattle.md_toml.specs.Writing.{put, version_number, version_of, header_with, with_demands, objective_table, with_weights, with_utilities, agent_table, agents_data, with_prior, general_table, auction_table, group_table, groups_data, grouped_table, file_table, IsAccepted, numbers_data, texts_data, rows_data, truth_word, rational_word};
 
 use crate::Key;
 use crate::document::Version;
 use crate::print::{put, put_integer, put_numbers, put_rows, put_text, put_texts, sizes_value};
 use md_num::NoMemory;
-use md_setting::{Auction, Rational, RawAgent, RawSetting, Setting, SettingFile, Truth};
+use md_setting::{
+    Auction, Rational, RawAgent, RawGroup, RawGroupedAuction, RawSetting, Setting, SettingFile,
+    Truth,
+};
 use std::alloc::Global;
 use toml::{Table, Value};
 
@@ -70,13 +74,13 @@ fn version_of(agents: &[RawAgent]) -> Version
     }
 }
 
-// The first keys, with the word for the kind.
-fn header_table(alloc: Global, version: Version, kind: &str) -> Result<Table, NoMemory>
+// The first keys, with the number of the version and the word for the kind.
+fn header_table(alloc: Global, version: i64, kind: &str) -> Result<Table, NoMemory>
     ensures { IfOk result (λ members. table_view members ≡ header_with version kind.now) }
 {
     let mut members = Table::new(alloc);
     put_text(alloc, &mut members, Key::Format, "mechanism-setting")?;
-    put_integer(alloc, &mut members, Key::Version, version_number(version))?;
+    put_integer(alloc, &mut members, Key::Version, version)?;
     put_text(alloc, &mut members, Key::Kind, kind)?;
     Ok(members)
 }
@@ -174,7 +178,8 @@ fn put_prior(alloc: Global, members: &mut Table, prior: &Option<Vec<i64>>) -> Re
 fn general_table(alloc: Global, raw: &RawSetting) -> Result<Table, NoMemory>
     ensures { IfOk result (λ members. table_view members ≡ general_table (written raw.now)) }
 {
-    let mut members = header_table(alloc, version_of(&raw.agents), "general")?;
+    let version = version_number(version_of(&raw.agents));
+    let mut members = header_table(alloc, version, "general")?;
     put_demands(alloc, &mut members, raw)?;
     put_texts(alloc, &mut members, Key::Outcomes, &raw.outcomes)?;
     put(
@@ -197,7 +202,7 @@ fn auction_table(alloc: Global, auction: &Auction, values: &[i64]) -> Result<Tab
     requires { values.now ≡ auction.now.values }
     ensures { IfOk result (λ members. table_view members ≡ auction_table auction.now) }
 {
-    let mut members = header_table(alloc, Version::One, "auction")?;
+    let mut members = header_table(alloc, 1, "auction")?;
     put_integer(
         alloc,
         &mut members,
@@ -217,6 +222,45 @@ fn auction_table(alloc: Global, auction: &Auction, values: &[i64]) -> Result<Tab
     Ok(members)
 }
 
+fn group_table(alloc: Global, group: &RawGroup) -> Result<Table, NoMemory>
+    ensures { IfOk result (λ members. table_view members ≡ group_table (written_group group.now)) }
+{
+    let mut members = Table::new(alloc);
+    put_text(alloc, &mut members, Key::BidderName, group.name.as_str())?;
+    put_integer(alloc, &mut members, Key::BidderCount, group.count)?;
+    put_numbers(alloc, &mut members, Key::BidderValues, &group.values)?;
+    put_numbers(alloc, &mut members, Key::BidderWeights, &group.weights)?;
+    put_integer(alloc, &mut members, Key::BidderWorth, group.worth)?;
+    Ok(members)
+}
+
+fn groups_value(alloc: Global, groups: &[RawGroup]) -> Result<Value, NoMemory>
+    ensures { IfOk result (λ value. view value ≡ groups_data (map written_group groups.now)) }
+{
+    let mut tables = Vec::new(alloc);
+    for group in groups {
+        tables.push(Value::Table(group_table(alloc, group)?))?;
+    }
+    Ok(Value::Array(tables))
+}
+
+fn grouped_table(alloc: Global, raw: &RawGroupedAuction) -> Result<Table, NoMemory>
+    ensures { IfOk result (λ members. table_view members ≡ grouped_table (written_grouped raw.now)) }
+{
+    let mut members = header_table(alloc, 3, "bidders")?;
+    put_numbers(alloc, &mut members, Key::Slots, &raw.slots)?;
+    put_integer(alloc, &mut members, Key::Revenue, raw.revenue)?;
+    put_integer(alloc, &mut members, Key::Welfare, raw.welfare)?;
+    put_integer(alloc, &mut members, Key::Keep, raw.keep)?;
+    put(
+        alloc,
+        &mut members,
+        Key::Bidder,
+        groups_value(alloc, &raw.groups)?,
+    )?;
+    Ok(members)
+}
+
 /// The document of a setting.
 pub(crate) fn file_table(alloc: Global, file: &SettingFile) -> Result<Table, NoMemory>
     ensures members { IfOk result (λ members. table_view members ≡ file_table file.now) }
@@ -225,5 +269,6 @@ pub(crate) fn file_table(alloc: Global, file: &SettingFile) -> Result<Table, NoM
     match file {
         SettingFile::General(setting) => general_table(alloc, setting.as_written()),
         SettingFile::Auction(auction) => { auction_table(alloc, auction, auction.values()) }
+        SettingFile::Bidders(auction) => grouped_table(alloc, auction.as_written()),
     }
 }

@@ -9,13 +9,14 @@ use Rattle.md_cli_words.specs.Commands.{command_in}
 use Rattle.md_cli_words.specs.Words.{Order, command_of}
 use Rattle.md_cli_words.specs.declared.command.Command.{Command}
 use Rattle.md_cli_words.specs.declared.command.Command.TheVariants.{Audit, Rows, Check, Solve, Replay, Realise, Fair, Find, FindFair, FairCheck, Require, RequireCheck, Asym, AsymCheck, Units, UnitCheck, Threshold, Award, Determ, DetermCheck, Run, Report, Iron, IronUnits, Make, Drill}
+use Rattle.md_setting.specs.ByKind.{has_no_groups}
 use Rattle.md_setting.specs.declared.file.SettingFile.{SettingFile}
-use Rattle.md_setting.specs.declared.file.SettingFile.TheVariants.{General, Auction}
+use Rattle.md_setting.specs.declared.file.SettingFile.TheVariants.{General, Auction, Bidders}
 use Rattle.md_cli_driver.specs.declared.refusal.Refusal.{Refusal}
 use Rattle.md_cli_driver.specs.declared.refusal.Refusal.TheVariants as refusal
 use Rattle.md_top.specs.Promises.{IsComplete, IsFaultless, IsFound, IsHeadlineBy, IsHeadlineOf, IsPrinted, IsPrintedOf, IsReplied}
 use Rattle.md_cli_driver.specs.Refused.{refused, status_of}
-use Rattle.md_cli_driver.specs.Reading.{is_any, is_general, second_in, setting_in}
+use Rattle.md_cli_driver.specs.Reading.{is_general, second_in, setting_in}
 use Rattle.md_top.specs.Reply.{IsReply, IsSaid, IsSaidBy, IsSaidOfOrder, IsSaidOfWork, find_work}
 use Rattle.md_cli_driver.specs.Works.{IsSaidOf, IsSaidOfBoth, one_file, two_files}
 use Rattle.md_cli_best.specs.Finding.{IsFind, IsFindShownBy, IsFindStatus, basis_in}
@@ -134,10 +135,12 @@ module _ (Shows : SettingFile → ℕ → List ℕ → Type 0) (saying : Saying)
 solve-shows : (width : ℕ) (saying : Saying) (file : SettingFile) → IsSolve width file saying → IsShownBy file width saying.status saying.text
 solve-shows width saying (General s) h = h.headline
 solve-shows width saying (Auction a) h = h.headline
+solve-shows width saying (Bidders a) h = absurd h
 
 find-shows : (saying : Saying) (file : SettingFile) → IsFind file saying → IsFindShownBy file saying.status saying.text
 find-shows saying (General s) h = h.headline
 find-shows saying (Auction a) h = tt
+find-shows saying (Bidders a) h = tt
 
 found-shows : (has_second : Bool) (order : Order) (content : List ℕ → Option (List ℕ)) (before after : List ℕ → ℕ) (saying : Saying) (status : ℕ) (out err : SinkChange)
     → IsSaidOfWork (find_work has_second) order.setting order.second content before after saying → IsDelivered saying status out err → IsFound has_second order content status out
@@ -153,7 +156,7 @@ headline-of_command Audit order content before after saying status out err said 
 headline-of_command Rows order content before after saying status out err said delivered = tt
 headline-of_command Check order content before after saying status out err said delivered = tt
 headline-of_command Solve order content before after saying status out err said delivered =
-    printed-of (λ file. IsShownBy file order.width) saying status out err delivered is_any (IsSolve order.width) IsSolveStatus (solve-shows order.width saying) order.setting order.second content before after said
+    printed-of (λ file. IsShownBy file order.width) saying status out err delivered has_no_groups (IsSolve order.width) IsSolveStatus (solve-shows order.width saying) order.setting order.second content before after said
 headline-of_command Find order content before after saying status out err said delivered =
     found-shows order.has_second order content before after saying status out err said delivered
 headline-of_command FindFair order content before after saying status out err said delivered = tt

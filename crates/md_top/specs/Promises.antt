@@ -5,8 +5,9 @@ use Rattle.md_ports.specs.Faults.{Rose}
 use Rattle.md_cli_words.specs.declared.command.Command.{Command}
 use Rattle.md_cli_words.specs.declared.command.Command.TheVariants.{Audit, Rows, Check, Solve, Replay, Realise, Fair, Find, FindFair, FairCheck, Require, RequireCheck, Asym, AsymCheck, Units, UnitCheck, Threshold, Award, Determ, DetermCheck, Run, Report, Iron, IronUnits, Make, Drill}
 use Rattle.md_cli_words.specs.Words.{Order}
+use Rattle.md_setting.specs.ByKind.{has_no_groups}
 use Rattle.md_setting.specs.declared.file.SettingFile.{SettingFile}
-use Rattle.md_cli_driver.specs.Reading.{is_any, is_general, setting_in}
+use Rattle.md_cli_driver.specs.Reading.{is_general, setting_in}
 use Rattle.md_top.specs.Reply.{HasFaulted, IsReply}
 use Rattle.md_cli_driver.specs.Saying.{IsDelivered, SinkChange}
 use Rattle.md_cli_best.specs.Finding.{IsFindShownBy}
@@ -38,7 +39,7 @@ IsFound true order content status out = IsPrintedOfBoth is_general IsFindShownBy
 
 -- where the best mechanism of a setting is to be found, it shows what the headline says
 abbrev pub IsHeadlineBy : Command → Order → (List ℕ → Option (List ℕ)) → ℕ → SinkChange → Type 0
-IsHeadlineBy Solve order content status out = IsPrintedOf is_any (λ file. IsShownBy file order.width) order.setting content status out
+IsHeadlineBy Solve order content status out = IsPrintedOf has_no_groups (λ file. IsShownBy file order.width) order.setting content status out
 IsHeadlineBy Find order content status out = IsFound order.has_second order content status out
 IsHeadlineBy Audit order content status out = Unit {0}
 IsHeadlineBy Rows order content status out = Unit {0}

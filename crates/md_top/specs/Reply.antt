@@ -12,9 +12,10 @@ use Rattle.md_fair.specs.declared.answer.FairAnswer.{FairAnswer}
 use Rattle.md_require.specs.declared.condition.Condition.{Condition}
 use Rattle.md_require_text.specs.Told.{Told}
 use Rattle.md_mechanism_text.specs.Proposals.{Proposed}
+use Rattle.md_setting.specs.ByKind.{has_no_groups}
 use Rattle.md_cli_driver.specs.declared.refusal.Refusal.TheVariants as refusal
 use Rattle.md_cli_driver.specs.Saying.{Saying}
-use Rattle.md_cli_driver.specs.Reading.{answer_in, is_any, is_auction, is_general}
+use Rattle.md_cli_driver.specs.Reading.{answer_in, is_auction, is_general}
 use Rattle.md_cli_driver.specs.Refused.{refused}
 use Rattle.md_cli_driver.specs.Works.{Work, no_file, one_file, two_files, sale_files, number_refused, IsReplyTo, HasFaultedIn}
 use Rattle.md_cli_best.specs.Headline.{IsSolveStatus}
@@ -81,11 +82,11 @@ award_work number profile draw = sale_of number (λ units. one_file is_auction (
 -- An outcome is drawn from an answer at a profile, and what an answer does is told. Where --units asks for a number, the answer is
 -- one about so many units.
 abbrev pub draw_work : Option ℤ → List ℕ → ℤ → ℤ → Work
-draw_work None profile first second = two_files Drawable is_any drawable_in (IsRun profile first second) IsRunStatus
+draw_work None profile first second = two_files Drawable has_no_groups drawable_in (IsRun profile first second) IsRunStatus
 draw_work (Some number) profile first second = sale_of number (λ units. two_files Answer is_auction (unit_table_in units) (IsUnitRun units profile first second) IsRunStatus)
 
 abbrev pub report_work : Option ℤ → Work
-report_work None = two_files Reported is_any reported_in IsReporting IsReportStatus
+report_work None = two_files Reported has_no_groups reported_in IsReporting IsReportStatus
 report_work (Some number) = sale_of number (λ units. two_files Answer is_auction (unit_table_in units) (IsUnitReporting units) IsUnitReportStatus)
 
 -- The best mechanism of a setting is found. What is said of it is the same where a second file lists a basis to begin with.
@@ -96,10 +97,10 @@ find_work true = two_files Listed is_general basis_in (λ file basis. IsFind fil
 -- the commands: the files of each, what it says of them, and its statuses
 abbrev pub work_by : Command → Order → Work
 work_by Audit order = two_files Proposed is_general proposal_in IsAudit IsAuditStatus
-work_by Rows order = one_file is_any IsRows IsRowsStatus
-work_by Check order = two_files Answer is_any answer_in IsCheck IsCheckStatus
-work_by Solve order = one_file is_any (IsSolve order.width) IsSolveStatus
-work_by Replay order = two_files Pivots is_any pivots_in (IsReplay order.width) IsReplayStatus
+work_by Rows order = one_file has_no_groups IsRows IsRowsStatus
+work_by Check order = two_files Answer has_no_groups answer_in IsCheck IsCheckStatus
+work_by Solve order = one_file has_no_groups (IsSolve order.width) IsSolveStatus
+work_by Replay order = two_files Pivots has_no_groups pivots_in (IsReplay order.width) IsReplayStatus
 work_by Realise order = two_files Interim is_auction odds_in IsRealise IsRealiseStatus
 work_by Fair order = one_file is_general (IsFair order.width) IsSolveStatus
 work_by Find order = find_work order.has_second

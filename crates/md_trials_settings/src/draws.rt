@@ -1,4 +1,7 @@
 //! Draws at profiles that no words stand for.
+ghost use Rattle.std.specs.Prelude.{◌≡◌};
+ghost use Rattle.md_setting.specs.ByKind.{has_no_groups};
+
 use md_answer::read_answer;
 use md_run::{DrawRefusal, draw};
 use md_samples::sale;
@@ -109,8 +112,18 @@ fn is_same(found: DrawRefusal, wanted: DrawRefusal) -> bool {
     }
 }
 
+// Whether a setting has no groups of bidders.
+fn has_no_groups(file: &SettingFile) -> bool
+    ensures { result ≡ has_no_groups file.now }
+{
+    !matches!(file, SettingFile::Bidders(_))
+}
+
 fn is_refused(alloc: Global, file: &SettingFile, case: &Case) -> bool {
     let (first, second) = case.draws;
+    if !has_no_groups(file) {
+        return false;
+    }
     match read_answer(alloc, case.text.as_bytes(), file) {
         Ok(answer) => match draw(alloc, file, &answer, case.profile, first, second) {
             Ok(_) => false,

@@ -1,4 +1,7 @@
 //! Answers that no command writes: with numbers that are the greatest or stand for nothing, in an older version, or as a table.
+ghost use Rattle.std.specs.Prelude.{◌≡◌};
+ghost use Rattle.md_setting.specs.ByKind.{has_no_groups};
+
 use md_answer::{read_answer, write_answer};
 use md_setting::SettingFile;
 use md_toml::read_setting;
@@ -62,8 +65,18 @@ static WRITTEN: [(&str, &str, &str); 8] = [
     ),
 ];
 
+// Whether a setting has no groups of bidders.
+fn has_no_groups(file: &SettingFile) -> bool
+    ensures { result ≡ has_no_groups file.now }
+{
+    !matches!(file, SettingFile::Bidders(_))
+}
+
 // Whether an answer about a file is read, and written as that text.
 fn is_written_about(alloc: Global, file: &SettingFile, answer: &str, text: &str) -> bool {
+    if !has_no_groups(file) {
+        return false;
+    }
     match read_answer(alloc, answer.as_bytes(), file) {
         Ok(answer) => match write_answer(alloc, file, &answer) {
             Ok(written) => written.as_slice() == text.as_bytes(),

@@ -1,10 +1,11 @@
-//! Settings written as files that no command writes: with a joint prior, with utilities by profile, and with what else was left out.
+//! Settings written as files that no command writes: with a joint prior, with utilities by profile, with groups of bidders, and with
+//! what else was left out.
 use md_toml::{read_setting, write_setting};
 use std::alloc::Global;
 use std::test::Fail;
 
 // A setting file, and the same as it is written.
-static WRITTEN: [(&str, &str); 3] = [
+static WRITTEN: [(&str, &str); 4] = [
     // Two bidders whose types are not independent.
     (
         "format = \"mechanism-setting\"\nversion = 1\nkind = \"general\"\ntruth = \"bayes\"\nrational = \"interim\"\npayments = true\noutcomes = [\"keep\", \"first\", \"second\"]\nprior = [2, 1, 1, 2]\n[objective]\nrevenue = 1\n[[agent]]\nname = \"one\"\ntypes = [\"v1\", \"v2\"]\nutility = [[0, 1, 0], [0, 2, 0]]\n[[agent]]\nname = \"two\"\ntypes = [\"v1\", \"v2\"]\nutility = [[0, 0, 1], [0, 0, 2]]\n",
@@ -18,6 +19,11 @@ static WRITTEN: [(&str, &str); 3] = [
     (
         "format = \"mechanism-setting\"\nversion = 2\nkind = \"auction\"\nbidders = 2\nvalues = [2, 3, 6]\nweights = [2, 1, 1]\nwelfare = -5\n",
         "bidders = 2\nformat = \"mechanism-setting\"\nkeep = 0\nkind = \"auction\"\nrevenue = 1\nvalues = [2, 3, 6]\nversion = 1\nweights = [2, 1, 1]\nwelfare = -5\n",
+    ),
+    // A group whose bidder sells, and one of three bidders.
+    (
+        "format = \"mechanism-setting\"\nversion = 3\nkind = \"bidders\"\nwelfare = -5\n[[bidder]]\nname = \"one\"\nvalues = [-9, -4]\nweights = [2, 1]\n[[bidder]]\nname = \"two\"\ncount = 3\nvalues = [7]\nweights = [5]\nworth = 20\n",
+        "format = \"mechanism-setting\"\nkeep = 0\nkind = \"bidders\"\nrevenue = 1\nslots = [1]\nversion = 3\nwelfare = -5\n\n[[bidder]]\ncount = 1\nname = \"one\"\nvalues = [-9, -4]\nweights = [2, 1]\nworth = 0\n\n[[bidder]]\ncount = 3\nname = \"two\"\nvalues = [7]\nweights = [5]\nworth = 20\n",
     ),
 ];
 

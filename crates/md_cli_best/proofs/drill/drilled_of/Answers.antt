@@ -8,8 +8,8 @@ use Rattle.md_cli_driver.specs.Saying.{said}
 use Rattle.md_cli_best.proofs.Drilled.{readable, sure}
 use Rattle.md_cli_best.proofs.drill.drilled_of.Goals as goal
 
-pub told_of-requires : goal.told_of-requires
-told_of-requires c =
+pub told_of-requires-clause-readable : goal.told_of-requires-clause-readable
+told_of-requires-clause-readable c =
     subst (IsReadable c.args.file.now) (sym c.deref.ensures.value)
     (readable c.args.file.now c.greatest_width.result (said c.in_ok-solved.solved) c.in_ok-solved.ensures.solving)
 

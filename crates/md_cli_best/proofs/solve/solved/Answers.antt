@@ -10,7 +10,7 @@ pub returns-clause-solving : goal.returns-clause-solving
 returns-clause-solving c =
     let answer = c.in_ok-answer.answer in
     let width = c.args.width in
-    elim (by_kind c.args.file.now) [
+    elim (by_kind c.args.file.now c.requires) [
       | inl kind ↦
           let s = kind.0 in
           let h = rw kind.1 at c.in_ok-answer.ensures in

@@ -6,4 +6,4 @@ pub returns-clause-checked : goal.returns-clause-checked
 returns-clause-checked c =
     let h = c.in_ok-verdict.ensures in
     IfOk-weaker c.tell_verdict.result _ _
-    (λ answered told. told_verdict c.args.file.now c.args.answer.now c.in_ok-verdict.verdict _ h.verdict h.auction_verdict h.only h.auction_only h.claim h.auction_claim h.undecided told) c.tell_verdict.ensures.told
+    (λ answered told. told_verdict c.args.file.now c.args.answer.now c.in_ok-verdict.verdict _ c.requires.kind h.verdict h.auction_verdict h.only h.auction_only h.claim h.auction_claim h.undecided told) c.tell_verdict.ensures.told

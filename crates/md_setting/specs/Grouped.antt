@@ -1,7 +1,9 @@
 -- Auctions with groups of bidders: bidders of a group have the same values, by the same weights, apart from each other and from all
 -- others. Slots go to bidders, at most one to each. A bidder with a value below 0 sells: it is paid for what it gives up.
-use Rattle.std.specs.Prelude.{ℕ, suc, ℤ, List, [], ◌∷◌, ◌++◌, length, replicate, slice_index, slice_index_or, pos}
+use Rattle.std.specs.Prelude.{ℕ, suc, ℤ, List, [], ◌∷◌, ◌++◌, length, map, replicate, slice_index, slice_index_or, pos, unsigned_abs, string_bytes}
 use Rattle.md_math.specs.Lists.{number_at}
+use Rattle.md_setting.specs.declared.raw.RawGroup.{RawGroup}
+use Rattle.md_setting.specs.declared.raw.RawGroupedAuction.{RawGroupedAuction}
 
 -- so many bidders with these values, each of which has a weight; `worth` is what a unit that one of them gets is worth to the designer
 pub record Group : Type 0 where
@@ -19,6 +21,61 @@ pub record GroupedAuction : Type 0 where
   pub welfare : ℤ
   pub keep : ℤ
   pub groups : List Group
+
+-- ---- as written
+
+-- a group and an auction as written, before anything of them is checked
+pub record WrittenGroup : Type 0 where
+  pub name : List ℕ
+  pub count : ℤ
+  pub values : List ℤ
+  pub weights : List ℤ
+  pub worth : ℤ
+
+pub record WrittenGroupedAuction : Type 0 where
+  pub slots : List ℤ
+  pub revenue : ℤ
+  pub welfare : ℤ
+  pub keep : ℤ
+  pub groups : List WrittenGroup
+
+abbrev pub written_group : RawGroup → WrittenGroup
+written_group g = record { name = string_bytes g.name; count = g.count; values = g.values.items; weights = g.weights.items; worth = g.worth }
+
+abbrev pub written_grouped : RawGroupedAuction → WrittenGroupedAuction
+written_grouped raw = record {
+  slots = raw.slots.items;
+  revenue = raw.revenue;
+  welfare = raw.welfare;
+  keep = raw.keep;
+  groups = map written_group raw.groups.items;
+}
+
+-- what they say, where no count, weight or amount is negative
+abbrev pub said_group : WrittenGroup → Group
+said_group g = record { name = g.name; count = unsigned_abs g.count; values = g.values; weights = map unsigned_abs g.weights; worth = g.worth }
+
+abbrev pub grouped_of : WrittenGroupedAuction → GroupedAuction
+grouped_of w = record {
+  slots = map unsigned_abs w.slots;
+  revenue = w.revenue;
+  welfare = w.welfare;
+  keep = w.keep;
+  groups = map said_group w.groups;
+}
+
+-- a group and an auction as they are written
+abbrev pub group_as_written : Group → WrittenGroup
+group_as_written g = record { name = g.name; count = pos g.count; values = g.values; weights = map pos g.weights; worth = g.worth }
+
+abbrev pub grouped_as_written : GroupedAuction → WrittenGroupedAuction
+grouped_as_written a = record {
+  slots = map pos a.slots;
+  revenue = a.revenue;
+  welfare = a.welfare;
+  keep = a.keep;
+  groups = map group_as_written a.groups;
+}
 
 -- ---- groups
 
