@@ -1,6 +1,7 @@
 // What the page shows of an answer: a rule as pictures and tables, and what shows that no other is better. All numbers are those of the
 // text, or sums and quotients of them.
 
+import { amountCell, amountText, shortText } from "./amounts.js";
 import { conditionsPart, withoutConditions } from "./conditions.js";
 import { folded, head, make, number, table } from "./dom.js";
 import { Fraction, counted, sum } from "./fraction.js";
@@ -8,6 +9,7 @@ import { barsFigure, legend, lotteryFigure } from "./pictures.js";
 import { byProfile, firstWith, fractionsOf, withWord } from "./records.js";
 import { profilesOf, weightOfProfile } from "./setting.js";
 import {
+  amountVerdict,
   cutNames,
   foldedTable,
   fractionWith,
@@ -15,7 +17,6 @@ import {
   overText,
   paragraph,
   shortened,
-  valueText,
   verdict,
   view,
 } from "./verdicts.js";
@@ -23,8 +24,8 @@ import {
 const MOST_PICTURES = 16;
 
 const VERDICTS = {
-  optimal: (value) => verdict(valueText(value), "Optimal: no other rule that meets the conditions has a greater value.", "good"),
-  infeasible: () => verdict("No rule", "No rule meets the conditions of this setting.", "bad"),
+  optimal: (value) => amountVerdict("Value", value, "Optimal: no other rule that meets the conditions has a greater value.", "good"),
+  infeasible: () => verdict("No rule meets these conditions", "What the setting demands cannot hold together.", "bad"),
   unbounded: () =>
     verdict(
       "No bound",
@@ -51,18 +52,35 @@ const OPTIMAL_WORDS = {
 
 function verdictOf(records) {
   const [, kind, word] = firstWith(records, "answer");
-  const found = { ...VERDICTS[word](fractionWith(records, "value")) };
+  const value = fractionWith(records, "value");
+  const found = { ...VERDICTS[word](value) };
   if (word === "infeasible" && kind === "required") {
-    return { ...found, words: "No rule meets the conditions of this setting and yours." };
+    return { ...found, words: "What the setting demands and your conditions cannot hold together." };
+  }
+  if (word === "optimal" && kind === "fair") {
+    return amountVerdict("Who gets least gets", value, OPTIMAL_WORDS.fair, "good");
   }
   return word === "optimal" && kind in OPTIMAL_WORDS ? { ...found, words: OPTIMAL_WORDS[kind] } : found;
+}
+
+/** What stands above the best auction: its reserve, which is the least value that ever wins. */
+function reserveVerdict(records, setting) {
+  const found = verdictOf(records);
+  const odds = firstWith(records, "odds");
+  if (setting === null || found.kind !== "good" || odds === undefined) {
+    return found;
+  }
+  const least = odds.findIndex((each) => each !== "0");
+  const words = `Value ${amountText(fractionWith(records, "value"))}. ${found.words}`;
+  return verdict(least < 0 ? "Nothing is ever sold" : least === 0 ? "No reserve" : `Reserve ${setting.values[least]}`, words, "good");
 }
 
 /** What `solve` and `fair` print. */
 export function answerView(records, { setting, names = [] }) {
   const [, kind] = firstWith(records, "answer");
   const parts = kind === "auction" ? auctionParts(records, setting) : mechanismParts(records, setting);
-  return view(verdictOf(records), parts, multipliersPart(records, names), widePart(records));
+  const found = kind === "auction" ? reserveVerdict(records, setting) : verdictOf(records);
+  return view(found, parts, multipliersPart(records, names), widePart(records));
 }
 
 /** A view of an answer, or of the words that tell why there is none. */
@@ -146,7 +164,7 @@ function paymentsPart(setting, payments, word) {
     return make("div", { class: "flow" }, agents.map((_, agent) => paymentSquare(agents, payments, agent, word)));
   }
   const heads = [...agents.map(({ name }) => name), ...agents.map(({ name }) => `#${name} pays`)];
-  const rows = profilesOf(agents).map((types) => [...types.map(head), ...payments.get(types.join(",")).map(number)]);
+  const rows = profilesOf(agents).map((types) => [...types.map(head), ...payments.get(types.join(",")).map(amountCell)]);
   const short = shortened(rows);
   return table(`${word}s by report`, heads, short.rows, short.note);
 }
@@ -155,7 +173,7 @@ function paymentSquare([first, second], payments, agent, word) {
   const heads = [`${first.name} \u2193 ${second.name} \u2192`, ...second.types.map((type) => `#${type}`)];
   const rows = first.types.map((row) => [
     head(row),
-    ...second.types.map((column) => number(payments.get(`${row},${column}`)[agent])),
+    ...second.types.map((column) => amountCell(payments.get(`${row},${column}`)[agent])),
   ]);
   return table(`${word} of ${[first, second][agent].name}`, heads, rows);
 }
@@ -185,7 +203,7 @@ function widePart(records) {
 /** What `units` prints. */
 export function unitsView(records, { setting, names = [], values }) {
   const parts = auctionParts(records, setting, BigInt(values.units));
-  return view(verdictOf(records), parts, multipliersPart(records, names), widePart(records));
+  return view(reserveVerdict(records, setting), parts, multipliersPart(records, names), widePart(records));
 }
 
 function auctionParts(records, setting, units = 1n) {
@@ -198,8 +216,8 @@ function auctionParts(records, setting, units = 1n) {
   const rows = names.map((name, place) => [
     head(name),
     number(setting.weights[place]),
-    number(odds[place]),
-    number(pays[place]),
+    amountCell(odds[place]),
+    amountCell(pays[place]),
     perWin(odds[place], pays[place]),
   ]);
   return [
@@ -221,7 +239,7 @@ function oddsAndPays(who, names, odds, pays) {
 }
 
 function perWin(odds, pays) {
-  return odds.isZero() ? "" : number(pays.over(odds));
+  return odds.isZero() ? "" : amountCell(pays.over(odds));
 }
 
 /** Who wins, by how many bidders have each value. */
@@ -238,8 +256,8 @@ function massRow({ values, weights }, counts, masses, { denominator, units }) {
   const weight = weightOf(weights, counts.map(BigInt));
   const shares = masses.map((mass) => new Fraction(BigInt(mass), weight * BigInt(denominator)));
   const bidders = counts.flatMap((count, place) => (count === "0" ? [] : [`${count} with ${values[place]}`]));
-  const goes = shares.flatMap((share, place) => (share.isZero() ? [] : [`${values[place]}: ${share}`]));
-  return [head(bidders.join(", ")), goes.join(", ") || make("span", { class: "soft" }, "nobody"), number(rest(units, shares))];
+  const goes = shares.flatMap((share, place) => (share.isZero() ? [] : [`${values[place]}: ${shortText(share)}`]));
+  return [head(bidders.join(", ")), goes.join(", ") || make("span", { class: "soft" }, "nobody"), amountCell(rest(units, shares))];
 }
 
 /** What is left of so much. */
@@ -280,7 +298,7 @@ function bidderPart(records, { name, types }, denominator) {
     const [, ...fields] = withWord(records, word).find(([agent]) => agent === name);
     return fractionsOf(fields, denominator);
   });
-  const rows = types.map((type, place) => [head(type), number(odds[place]), number(pays[place]), perWin(odds[place], pays[place])]);
+  const rows = types.map((type, place) => [head(type), amountCell(odds[place]), amountCell(pays[place]), perWin(odds[place], pays[place])]);
   const caption = `Odds and payments of ${name}`;
   return make(
     "div",
@@ -298,7 +316,7 @@ function salesPart(records, setting, denominator) {
     const types = fields.slice(0, agents.length);
     const weight = weightOfProfile(setting, types);
     const shares = fields.slice(agents.length).map((mass) => (weight ? new Fraction(BigInt(mass), weight * BigInt(denominator)) : null));
-    return [...types.map(head), ...shares.map((share) => (share ? number(share) : "")), weight ? number(rest(1n, shares)) : ""];
+    return [...types.map(head), ...shares.map((share) => (share ? amountCell(share) : "")), weight ? amountCell(rest(1n, shares)) : ""];
   });
   const heads = [...agents.map(({ name }) => name), ...agents.map(({ name }) => `#${name} has it`), "#Is kept"];
   return foldedTable("Who has the item, by report", heads, rows);

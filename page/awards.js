@@ -1,10 +1,11 @@
 // What the page shows of an auction in which winners alone pay: its prices, and at some bids who wins and pays what.
 
+import { amountCell, amountText } from "./amounts.js";
 import { foldedLater, head, make, number, table } from "./dom.js";
 import { Fraction } from "./fraction.js";
 import { barsFigure, bidsFigure } from "./pictures.js";
 import { firstWith, recordsOf, withWord } from "./records.js";
-import { foldedTable, fractionWith, multipliersPart, paragraph, valueText, verdict, view } from "./verdicts.js";
+import { foldedTable, fractionWith, multipliersPart, paragraph, verdict, view } from "./verdicts.js";
 
 const PRICE_WORDS = [
   "Winners alone pay, never more than they bid, and to bid the true value is best whatever the others bid.",
@@ -15,15 +16,22 @@ const PRICE_WORDS = [
 export function thresholdView(records, { values }) {
   const pools = withWord(records, "pool");
   const [revenue, welfare] = ["revenue", "welfare"].map((word) => fractionWith(records, word));
-  const words = [reserveWords(records), ...PRICE_WORDS, `Revenue ${revenue}, welfare ${welfare}.`].join(" ");
+  const value = fractionWith(records, "value");
+  const sums = `Value ${amountText(value)}, revenue ${amountText(revenue)}, welfare ${amountText(welfare)}.`;
+  const words = [reserveWords(records), ...PRICE_WORDS, sums].join(" ");
   const pooled = pools.filter(([least, most]) => least !== most).map(poolText);
   return view(
-    verdict(valueText(fractionWith(records, "value")), words, "good"),
+    verdict(reserveTitle(records), words, "good"),
     pooled.length > 0 && paragraph(`Treated alike: ${pooled.join("; ")}.`),
     pricesFigure(records, pools),
     pricesPart(records, pools),
     values.units !== "1" && paragraph("With several units a winner pays by the bids of the others: Award tells the prices at some bids."),
   );
+}
+
+function reserveTitle(records) {
+  const [reserve] = firstWith(records, "reserve");
+  return reserve === "none" ? "Never sold" : `Reserve ${reserve}`;
 }
 
 function reserveWords(records) {
@@ -45,7 +53,7 @@ function pricesPart(records, pools) {
   const rows = prices.map(([pool, other, count, top, bottom]) => [
     head(poolText(pools[Number(pool)])),
     other === "none" ? "nobody reaches the reserve" : `${poolText(pools[Number(other)])}: ${count} of them`,
-    number(new Fraction(top, bottom)),
+    amountCell(new Fraction(top, bottom)),
   ]);
   return rows.length > 0 && foldedTable("What a winner pays", ["Its bid", "The best of the others", "#Pays"], rows);
 }
@@ -67,10 +75,10 @@ export function awardView(records, context) {
   const winners = bidders.filter(({ wins }) => wins);
   const rows = bidders.map(({ name, bid, chance, price, wins }) => [
     head(name),
-    number(bid),
+    amountCell(bid),
     wins ? make("strong", {}, "yes") : "no",
-    wins ? number(price) : number("0"),
-    number(chance),
+    wins ? amountCell(price) : number("0"),
+    amountCell(chance),
   ]);
   return view(
     verdict(winnersText(winners), wordsFor(winners, bidders), winners.length > 0 ? "good" : ""),
@@ -89,7 +97,7 @@ function winnersText(winners) {
   if (winners.length === 0) {
     return "Nobody wins";
   }
-  return winners.length === 1 ? `${winners[0].name} wins and pays ${winners[0].price}` : `${together(winners)} win`;
+  return winners.length === 1 ? `${winners[0].name} wins and pays ${amountText(winners[0].price)}` : `${together(winners)} win`;
 }
 
 /** Several bidders in words. */
@@ -107,20 +115,24 @@ function wordsFor(winners, bidders) {
   return `${pays} ${together(shared)} share what is left for them: the draw, from 0 to ${shared.length - 1}, decides.`;
 }
 
+function valueWords(records) {
+  return `Value ${amountText(fractionWith(records, "value"))}`;
+}
+
 /** What shows that the rule is best: its prices, and an answer with multipliers that is checked. */
 async function certificate({ call, values, namesFor }) {
   const isOne = values.units === "1";
   const prices = await call(["threshold", "setting", values.units]);
   const answer = await call(isOne ? ["iron", "setting"] : ["ironunits", "setting", values.units]);
-  const check = isOne ? ["check", "setting", "second"] : ["unitcheck", "setting", values.units, "second"];
+  const check = ["check", "setting", "second", ...(isOne ? [] : ["--units", values.units])];
   const checked = answer.status === 0 ? await call(check, answer.out) : null;
   const records = recordsOf(prices.out);
-  const parts = [prices.status === 0 && paragraph(`${reserveWords(records)} ${valueText(fractionWith(records, "value"))}.`)];
+  const parts = [prices.status === 0 && paragraph(`${reserveWords(records)} ${valueWords(records)}.`)];
   if (answer.status !== 0) {
     return [...parts, paragraph("The multipliers of this setting are too long to be printed. That no rule brings more is proved of the program.")];
   }
   const found = recordsOf(answer.out);
-  const bound = valueText(fractionWith(found, "value"));
+  const bound = valueWords(found);
   const words = `The multipliers below add the conditions of the setting up to a bound on every rule: ${bound}.`;
   const judged = checked ? ` The checker says: ${checked.out.trim()}.` : "";
   return [...parts, paragraph(words, judged), multipliersPart(found, await namesFor(found))];

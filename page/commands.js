@@ -6,29 +6,28 @@ import { awardView, thresholdView } from "./awards.js";
 import { sampleConditions } from "./conditions.js";
 import { rangeOfAward, rangeOfFirst, rangeOfSecond } from "./draws.js";
 import {
-  asymCheckView,
   auditView,
   checkView,
   determCheckView,
   drillView,
-  fairCheckView,
   makeView,
   realiseView,
   replayView,
   reportView,
-  requireCheckView,
   rowsView,
   runView,
-  unitCheckView,
 } from "./views.js";
 
-/** What commands are for, in the order in which they are offered. */
-export const GROUPS = { find: "Find a best rule", judge: "Judge a rule", run: "Run a rule", study: "Study a rule" };
-
 /** What may stand beside the setting file: its name in sentences, and what a file of it is called. `of` has the other kinds whose files
- * will do as well. `sample` makes a text to begin with from the setting, where there is none. */
+ * will do as well, but for those without a mechanism where it `wantsMechanism`. `sample` makes a text to begin with from the
+ * setting, where there is none. */
 export const SECONDS = {
-  answer: { label: "Answer", file: "answer.csv", hint: "What solve, find or iron printed" },
+  answer: {
+    label: "Answer",
+    file: "answer.csv",
+    hint: "What solve, find, iron, require, fair, findfair, asym, units or ironunits printed",
+    of: ["required", "fairest", "sale", "units"],
+  },
   conditions: {
     label: "Conditions",
     file: "conditions.csv",
@@ -37,19 +36,19 @@ export const SECONDS = {
       "utility,AGENT,…; chance,OUTCOME,…; at,PROFILE,OUTCOME,…; pay,AGENT,…; pay,AGENT,TYPE,…",
     sample: sampleConditions,
   },
-  required: { label: "Answer", file: "required.csv", hint: "What require printed" },
-  fairest: { label: "Answer", file: "fairest.csv", hint: "What fair or findfair printed" },
   mechanism: {
     label: "Answer",
     file: "answer.csv",
     hint: "What solve, find, iron, require, fair or findfair printed, or a rule of your own",
     of: ["answer", "required", "fairest"],
+    wantsMechanism: true,
   },
   drawn: {
     label: "Answer",
     file: "answer.csv",
     hint: "What solve, find, iron, require, fair, findfair, asym, units or ironunits printed, or a rule of your own",
     of: ["answer", "required", "fairest", "mechanism", "sale", "units"],
+    wantsMechanism: true,
   },
   reported: {
     label: "Answer",
@@ -58,10 +57,9 @@ export const SECONDS = {
       "What solve, find, iron, require, fair, findfair, asym, units or ironunits printed, or a rule of your own; " +
       "of an auction its odds and pays will do",
     of: ["answer", "required", "fairest", "mechanism", "drawn", "sale", "units"],
+    wantsMechanism: true,
   },
   rule: { label: "Answer", file: "rule.csv", hint: "What determ printed" },
-  sale: { label: "Answer", file: "sale.csv", hint: "What asym printed" },
-  units: { label: "Answer", file: "units.csv", hint: "What units or ironunits printed for so many units" },
   pivots: { label: "Pivots", file: "pivots.csv", hint: "Records pivot,ROW,COLUMN and then end" },
   odds: { label: "Odds", file: "odds.csv", hint: "interim,DEN, then odds with a number for each value, then end" },
 };
@@ -87,7 +85,7 @@ export const FIELDS = {
   number: { label: "Number", hint: "0 to 999999", initial: "2" },
 };
 
-/** `asks` says what a command does, `button` stands on the button that carries it out, and `next` on the one that asks it of an answer.
+/** `label` is the question that a command answers, as it is offered; of one that `isExpert` it is folded away. `asks` says what it does, `button` stands on the button that carries it out, and `next` on the one that asks it of an answer.
  * `kind` is the kind of setting that it is for, where it is not for all: `general`, `auction` or `sale`. `second` names the kind of its
  * second file, and `fields` its further words in order. `makes` names the kind of file that it prints, and `saves` how such a file is
  * called behind the name of its setting. `tooWide` has the commands to go on with where there is no answer, `draws` how many draws there
@@ -95,7 +93,7 @@ export const FIELDS = {
 export const COMMANDS = [
   {
     word: "solve",
-    group: "find",
+    label: "Which rule is best?",
     asks: "Which rule is best? Finds it, with what shows that no other is better.",
     button: "Solve",
     fields: ["width"],
@@ -105,7 +103,8 @@ export const COMMANDS = [
   },
   {
     word: "find",
-    group: "find",
+    label: "The best rule, with longer numbers",
+    isExpert: true,
     asks: "Which rule is best? Also where the numbers of solve grow too wide.",
     button: "Find with longer numbers",
     kind: "general",
@@ -117,7 +116,8 @@ export const COMMANDS = [
   },
   {
     word: "iron",
-    group: "find",
+    label: "The best auction in closed form",
+    isExpert: true,
     asks: "Which auction is best, by virtual values? Also where the numbers of solve grow too wide.",
     button: "Solve in closed form",
     kind: "auction",
@@ -128,7 +128,7 @@ export const COMMANDS = [
   },
   {
     word: "threshold",
-    group: "find",
+    label: "Which prices should winners pay?",
     asks: "Which auction is best, as prices that winners alone pay? Truth is then best whatever the others bid.",
     button: "Set the prices",
     next: "Set prices that winners alone pay",
@@ -140,7 +140,7 @@ export const COMMANDS = [
   },
   {
     word: "units",
-    group: "find",
+    label: "What if there are several units?",
     asks: "Which auction is best, where several units of the item are sold?",
     button: "Sell the units",
     kind: "auction",
@@ -151,7 +151,8 @@ export const COMMANDS = [
   },
   {
     word: "ironunits",
-    group: "find",
+    label: "Several units in closed form",
+    isExpert: true,
     asks: "Which auction of several units is best, by virtual values? Also where the numbers of units grow too wide.",
     button: "Sell the units in closed form",
     kind: "auction",
@@ -162,7 +163,7 @@ export const COMMANDS = [
   },
   {
     word: "asym",
-    group: "find",
+    label: "How often should each bidder win?",
     asks: "How often should each bidder have the item, where bidders differ?",
     button: "Sell the item",
     next: "Solve by how often each bidder wins",
@@ -174,7 +175,7 @@ export const COMMANDS = [
   },
   {
     word: "determ",
-    group: "find",
+    label: "Which rule without lotteries is best?",
     asks: "Which rule without lotteries is best? This may take long.",
     button: "Solve without lotteries",
     kind: "general",
@@ -185,7 +186,7 @@ export const COMMANDS = [
   },
   {
     word: "fair",
-    group: "find",
+    label: "Which rule is the fairest?",
     asks: "Under which rule does the agent that gets least get most?",
     button: "Find the fairest",
     kind: "general",
@@ -197,7 +198,8 @@ export const COMMANDS = [
   },
   {
     word: "findfair",
-    group: "find",
+    label: "The fairest rule, with longer numbers",
+    isExpert: true,
     asks: "The same as fair, also where the numbers of fair grow too wide.",
     button: "Find the fairest with longer numbers",
     kind: "general",
@@ -208,7 +210,7 @@ export const COMMANDS = [
   },
   {
     word: "require",
-    group: "find",
+    label: "Which rule is best under my conditions?",
     asks: "Which rule is best among those that meet conditions of yours?",
     button: "Find under conditions",
     kind: "general",
@@ -220,61 +222,18 @@ export const COMMANDS = [
   },
   {
     word: "check",
-    group: "judge",
+    label: "Is this answer right?",
     asks: "Is what an answer claims so? Uses nothing of the part that searches.",
     button: "Check",
     next: "Check this answer",
     second: "answer",
-    fields: [],
+    fields: ["ofUnits"],
     view: checkView,
   },
   {
-    word: "requirecheck",
-    group: "judge",
-    asks: "Is what an answer under conditions of yours claims so?",
-    button: "Check",
-    next: "Check this answer",
-    kind: "general",
-    second: "required",
-    fields: [],
-    view: requireCheckView,
-  },
-  {
-    word: "faircheck",
-    group: "judge",
-    asks: "Is what an answer about the fairest rule claims so?",
-    button: "Check",
-    next: "Check this answer",
-    kind: "general",
-    second: "fairest",
-    fields: [],
-    view: fairCheckView,
-  },
-  {
-    word: "asymcheck",
-    group: "judge",
-    asks: "Is what an answer about bidders who differ claims so?",
-    button: "Check",
-    next: "Check this answer",
-    kind: "sale",
-    second: "sale",
-    fields: [],
-    view: asymCheckView,
-  },
-  {
-    word: "unitcheck",
-    group: "judge",
-    asks: "Is what an answer about several units claims so?",
-    button: "Check",
-    next: "Check this answer",
-    kind: "auction",
-    second: "units",
-    fields: ["units"],
-    view: unitCheckView,
-  },
-  {
     word: "determcheck",
-    group: "judge",
+    label: "Is this rule without lotteries best?",
+    isExpert: true,
     asks: "Is what an answer about rules without lotteries claims so?",
     button: "Check",
     next: "Check this answer",
@@ -285,7 +244,7 @@ export const COMMANDS = [
   },
   {
     word: "audit",
-    group: "judge",
+    label: "Is my rule truthful?",
     asks: "Does a rule meet all conditions, and if not, which one does it break first?",
     button: "Audit",
     next: "Audit its rule",
@@ -296,7 +255,7 @@ export const COMMANDS = [
   },
   {
     word: "realise",
-    group: "judge",
+    label: "Can an auction have these odds?",
     asks: "Does some auction have these odds?",
     button: "Realise",
     kind: "auction",
@@ -306,7 +265,7 @@ export const COMMANDS = [
   },
   {
     word: "run",
-    group: "run",
+    label: "Which outcome comes?",
     asks: "Which outcome do two draws give at some reports, and who pays what?",
     button: "Run",
     next: "Draw an outcome",
@@ -317,7 +276,7 @@ export const COMMANDS = [
   },
   {
     word: "award",
-    group: "run",
+    label: "Who wins with these bids?",
     asks: "Who wins at these bids, and what does each winner pay? Losers pay nothing.",
     button: "Award",
     next: "Award it to bidders",
@@ -330,7 +289,7 @@ export const COMMANDS = [
   },
   {
     word: "report",
-    group: "study",
+    label: "What does my rule do?",
     asks: "What does a rule do, and how far is it from truthful?",
     button: "Report",
     next: "Report on it",
@@ -340,7 +299,8 @@ export const COMMANDS = [
   },
   {
     word: "rows",
-    group: "study",
+    label: "The conditions as a linear program",
+    isExpert: true,
     asks: "What are the conditions, as a linear program?",
     button: "Show the rows",
     fields: [],
@@ -348,7 +308,8 @@ export const COMMANDS = [
   },
   {
     word: "replay",
-    group: "study",
+    label: "Numbers under listed pivots",
+    isExpert: true,
     asks: "How large do numbers grow under listed pivots?",
     button: "Replay",
     second: "pivots",
@@ -357,7 +318,8 @@ export const COMMANDS = [
   },
   {
     word: "make",
-    group: "study",
+    label: "A setting to try things on",
+    isExpert: true,
     asks: "A setting that a number stands for, to try things on.",
     button: "Make a setting",
     takesNoSetting: true,
@@ -367,7 +329,8 @@ export const COMMANDS = [
   },
   {
     word: "drill",
-    group: "study",
+    label: "Solve and check a made setting",
+    isExpert: true,
     asks: "Solves and checks the setting that a number stands for.",
     button: "Drill",
     takesNoSetting: true,
@@ -400,8 +363,7 @@ function follows({ word, second, follows: kind = second }, { makes, tooWide = []
     return tooWide.includes(word);
   }
   const isTaken = makes !== undefined && (kind === makes || takenAs(makes).includes(kind));
-  const wantsMechanism = SECONDS[second]?.of !== undefined;
-  return isTaken && DONE.includes(status) && !(wantsMechanism && status === NONE);
+  return isTaken && DONE.includes(status) && !(SECONDS[second]?.wantsMechanism && status === NONE);
 }
 
 /** The kinds of second files as which a file of a kind is taken. */

@@ -1,6 +1,7 @@
 // Conditions of the designer: what their records say, and what the page shows of an answer under them.
 
-import { breakable, head, make, number, table } from "./dom.js";
+import { amountCell, amountParts } from "./amounts.js";
+import { head, make, number, table } from "./dom.js";
 import { Fraction } from "./fraction.js";
 import { withWord } from "./records.js";
 import { profilesOf } from "./setting.js";
@@ -57,7 +58,7 @@ export function conditionsPart(records) {
   const isTold = shadows.size > 0;
   const rows = conditions.map((condition, place) => [
     head(conditionText(condition)),
-    number(new Fraction(...condition.slice(-2))),
+    amountCell(new Fraction(...condition.slice(-2))),
     ...(isTold ? [shadowText(shadows.get(place))] : []),
   ]);
   const heads = ["Condition", "#Bound", ...(isTold ? ["One unit more"] : [])];
@@ -73,7 +74,7 @@ function shadowText(shadow) {
     return "brings nothing";
   }
   const [words, amount] = shadow.isNegative() ? ["costs at least ", shadow.times(new Fraction(-1n))] : ["brings at most ", shadow];
-  return [words, breakable(`${amount}`)];
+  return [words, ...amountParts(amount)];
 }
 
 /** Conditions to begin with: that the first outcome comes half of the time, and where agents pay, that they pay 1 in all. */

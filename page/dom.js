@@ -52,8 +52,9 @@ export function head(text) {
   return { isHead: true, text };
 }
 
-export function number(amount) {
-  return { isNumber: true, text: breakable(String(amount)) };
+/** A cell with a number: of a fraction its elements are given. */
+export function number(shown) {
+  return { isNumber: true, text: Array.isArray(shown) ? shown : breakable(String(shown)) };
 }
 
 /** A number of many digits, which may break behind the stroke of a fraction. */

@@ -120,7 +120,8 @@ export class Editor {
     }
     this.setting = told.status === REFUSED ? null : readSetting(text, sold !== null && sold.status !== REFUSED);
     byId("remark").textContent = this.remark();
-    byId("puzzle").textContent = this.entry?.question ?? "";
+    byId("gallery").value = this.isExample() ? this.entry.name : "";
+    byId("puzzle").textContent = this.isExample() ? this.entry.question : "";
     if (told.status === REFUSED) {
       this.tellRefusal(told.err.trim().replace(/^mechdes: setting refused: /, ""));
     } else {
@@ -129,11 +130,15 @@ export class Editor {
     this.onChange();
   }
 
-  /** What the text says of itself; of an example whose text is another one by now, that it was so. */
-  remark() {
+  /** Whether the text is that of the example with which it began, or of the one that is there to be changed. */
+  isExample() {
     const { entry, text } = this;
-    const wasSo = entry && !entry.isOwn && entry.text !== text;
-    return wasSo ? `The example was: ${remarkOf(entry.text)}` : remarkOf(text);
+    return entry !== null && (entry.isOwn === true || entry.text === text);
+  }
+
+  /** What the text says of itself. What an example says of itself goes where its text is changed. */
+  remark() {
+    return this.entry !== null && !this.isExample() ? "" : remarkOf(this.text);
   }
 
   tell(kind, ...content) {

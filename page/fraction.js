@@ -1,7 +1,7 @@
 // Exact fractions, as pairs of whole numbers of any size. Nothing in the page is computed in floating point but the places of
 // things in pictures.
 
-function greatestCommonDivisor(first, second) {
+export function greatestCommonDivisor(first, second) {
   let [a, b] = [first < 0n ? -first : first, second < 0n ? -second : second];
   while (b !== 0n) {
     [a, b] = [b, a % b];
@@ -53,15 +53,21 @@ export class Fraction {
     return this.isNegative() ? `\u2212${text}` : text;
   }
 
-  /** A fraction beyond 1 as a whole number and a rest, such as `1 + 1/2`; empty where it is none. */
-  toMixed() {
+  /** A decimal: rounded to four digits, and to no fewer than two behind the point. */
+  toDecimal() {
     const size = this.numerator < 0n ? -this.numerator : this.numerator;
-    if (this.denominator === 1n || size < this.denominator) {
-      return "";
-    }
-    const text = `${size / this.denominator} + ${size % this.denominator}/${this.denominator}`;
-    return this.isNegative() ? `\u2212(${text})` : text;
+    const places = size === 0n ? 2 : Math.max(2, 3 - powerOf(size, this.denominator));
+    const digits = `${(2n * size * 10n ** BigInt(places) + this.denominator) / (2n * this.denominator)}`.padStart(places + 1, "0");
+    const text = `${digits.slice(0, -places)}.${digits.slice(-places)}`.replace(/\.?0+$/, "");
+    return this.isNegative() ? `\u2212${text}` : text;
   }
+}
+
+/** The greatest power of ten that is at most a fraction above 0, by its exponent. */
+function powerOf(top, bottom) {
+  const digits = `${top}`.length - `${bottom}`.length;
+  const isReached = top * 10n ** BigInt(Math.max(-digits, 0)) >= bottom * 10n ** BigInt(Math.max(digits, 0));
+  return isReached ? digits : digits - 1;
 }
 
 /** The sum of fractions. */

@@ -57,7 +57,7 @@ QUESTIONS = {
 }
 
 # What is asked of settings that pages speak of beside other things.
-ASKS = {"fair-split": {"ask": "fair"}}
+ASKS = {"auction-reserve": {"ask": "threshold", "units": "1"}, "fair-split": {"ask": "fair"}}
 
 # Names of the further words of commands, in their order, as the page has them.
 FIELDS = {"units": ["units"], "ironunits": ["units"], "threshold": ["units"], "award": ["units", "profile", "draw"]}

@@ -1,8 +1,9 @@
 // The page: it begins with a setting of the gallery or of a link, asks the library what the user asks, and shows what it says.
 
+import { showsExact } from "./amounts.js";
 import { fileOf, nextCommands, wordsOf } from "./commands.js";
 import { conditionRowNames, conditionsOf } from "./conditions.js";
-import { breakable, button, byId, keepsOpen, make } from "./dom.js";
+import { button, byId, keepsOpen, make } from "./dom.js";
 import { Editor } from "./editor.js";
 import { Engine, Interrupted, canRun, unpacked } from "./engine.js";
 import { useSentences } from "./faults.js";
@@ -15,7 +16,7 @@ import { asSentence, explained } from "./refusals.js";
 import { readSetting } from "./setting.js";
 import { Sliders } from "./sliders.js";
 import { readToml } from "./toml.js";
-import { conditionNames } from "./verdicts.js";
+import { conditionNames, verdict, view } from "./verdicts.js";
 import { textView } from "./views.js";
 
 const FIRST = "auction-reserve";
@@ -45,7 +46,7 @@ class Page {
       onChange: () => this.asksAnew(),
       call: (told, second) => this.engine.call(told, this.editor.text, second),
     });
-    this.sliders = new Sliders((text) => this.numbersMoved(text));
+    this.sliders = new Sliders((text) => this.numbersMoved(text), () => this.marksStale(true));
     this.printed = { text: "", file: "answer.csv" };
     this.asked = null;
     this.running = 0; // calls whose answer is not shown yet
@@ -58,6 +59,8 @@ class Page {
     byId("stop").addEventListener("click", () => this.engine.stop());
     byId("printed-save").addEventListener("click", () => save(this.printed.file, this.printed.text));
     byId("link").addEventListener("click", () => this.links());
+    byId("setting").addEventListener("input", () => this.marksStale(this.editor.text !== this.asked));
+    byId("exact").addEventListener("change", ({ target }) => this.showsAgain(target.checked));
     byId("setting").addEventListener("keydown", (event) => {
       if (event.key === "Enter" && (event.ctrlKey || event.metaKey)) {
         event.preventDefault();
@@ -114,9 +117,15 @@ class Page {
     }
   }
 
+  /** Marks the answer that stands there as one about another setting, or as one about this one. */
+  marksStale(isStale) {
+    byId("stale").hidden = !isStale;
+    byId("answer").classList.toggle("stale", isStale);
+  }
+
   settingChanged() {
     const { entry, setting, text } = this.editor;
-    byId("stale").hidden = text === this.asked;
+    this.marksStale(text !== this.asked);
     this.question.knows(entry, setting);
     this.sliders.shows(text);
   }
@@ -193,16 +202,25 @@ class Page {
     byId("progress").textContent = fault.message;
   }
 
+  /** Shows the last text again, with exact fractions alone or with decimals. */
+  async showsAgain(isExact) {
+    showsExact(isExact);
+    if (this.shown) {
+      await this.shows(...this.shown);
+    }
+  }
+
   /** Shows a text of the program: what it says in a few words, its pictures and tables, and the text itself. */
   async shows(asked, told) {
     const { command, values, settingText, name } = asked;
+    this.shown = [asked, told];
     const isRefused = told.status >= REFUSED_FROM;
     const text = isRefused ? told.err : told.out;
     this.printed = { text, file: fileOf(command, name) };
     const found = isRefused ? refusalView(asked, told) : await this.viewOf(asked, told.out);
     byId("verdict").className = `verdict ${found.kind}`;
     byId("verdict").replaceChildren(
-      make("p", { class: "large" }, ...[breakable(found.large)].flat()),
+      make("p", { class: "large" }, ...found.shown),
       make("p", {}, ...[found.words].flat()),
       ...this.further(command, told),
     );
@@ -211,21 +229,21 @@ class Page {
     byId("printed").textContent = text.length > MOST_SHOWN ? `${text.slice(0, MOST_SHOWN)}\n\u2026` : text;
     byId("shown").hidden = false;
     byId("nothing").hidden = true;
-    byId("stale").hidden = command.takesNoSetting === true || settingText === this.editor.text;
+    byId("exact-part").hidden = false;
+    this.marksStale(command.takesNoSetting !== true && settingText !== this.editor.text);
     byId("answer").dataset.status = told.status;
     byId("progress").textContent = `${found.large}. Status ${told.status}, after ${secondsText(told.seconds)}.`;
-    byId("moved").textContent = found.large;
     if (told.out.startsWith("answer,")) {
       this.question.takes(command.makes, told.out, command.makes === "units" ? values.units : "");
     }
   }
 
   /** What is shown of a text that is no refusal. */
-  async viewOf({ command, values, settingText }, text) {
+  async viewOf({ command, values, settingText, second: judged }, text) {
     const [records, setting] = [recordsOf(text), readSetting(settingText)];
     const call = (words, second) => this.engine.call(words, settingText, second);
     const namesFor = (answer) => this.namesFor(answer, setting, call);
-    return (command.view ?? textView)(records, { setting, values, call, namesFor, names: await namesFor(records) });
+    return (command.view ?? textView)(records, { setting, judged, values, call, namesFor, names: await namesFor(records) });
   }
 
   /** The names of the conditions of which an answer has multipliers. */
@@ -276,7 +294,7 @@ function comesIntoView(element) {
 function refusalView({ words, settingText, second }, { status, err }) {
   const told = explained(words, err, { setting: settingText, second }, { setting: "", second: "" });
   const says = [make("code", {}, err.trim()), told ? ` ${asSentence(told.text)}` : ""];
-  return { kind: "bad", large: STATUS_WORDS[status] ?? "Refused", words: says, content: [] };
+  return view(verdict(STATUS_WORDS[status] ?? "Refused", says, "bad"));
 }
 
 function secondsText(seconds) {

@@ -1,6 +1,7 @@
 // Pictures of lotteries and of numbers by value. Outcomes are told apart by letter and pattern, and by colour only beside these; each
 // picture says in words all that it shows. Text has one width for all letters, so that what fits can be counted.
 
+import { shortText } from "./amounts.js";
 import { draw, make, scrolling } from "./dom.js";
 import { Fraction } from "./fraction.js";
 
@@ -115,7 +116,7 @@ function stackedBar(x, y, width, chances) {
 /** The chances of a lottery as short lines. */
 function chanceLines(labels, chances) {
   return chances.flatMap((chance, outcome) => {
-    const [label, text] = [labels[outcome], String(chance)];
+    const [label, text] = [labels[outcome], shortText(chance)];
     if (chance.isZero()) {
       return [];
     }
@@ -206,11 +207,11 @@ function spokenOf({ agents, rows, columns, outcomes, chances }) {
   return cells.join(" ");
 }
 
-/** A bar for each of some numbers, with the exact number beside it. `limit` is the end of the frame of each bar, or null; bars
+/** A bar for each of some numbers, with the number beside it. `limit` is the end of the frame of each bar, or null; bars
  * of numbers below 0 go to the left and are striped. */
 export function barsFigure(heading, names, numbers, limit = null) {
   const side = longestOf(names) * LETTER + 10;
-  const texts = numbers.map(String);
+  const texts = numbers.map(shortText);
   const track = Math.max(110, WIDEST - side - longestOf(texts) * LETTER - 10);
   const ends = [new Fraction(0n), ...numbers, ...(limit ? [limit] : [])].map((each) => each.toPlace());
   const [low, span] = [Math.min(...ends), Math.max(...ends) - Math.min(...ends) || 1];
@@ -218,12 +219,12 @@ export function barsFigure(heading, names, numbers, limit = null) {
   const rows = names.map((name, row) => barRow({ name, amount: numbers[row], limit, at, y: 4 + row * (BAR + GAP), track, side }));
   const height = names.length * (BAR + GAP) + 2;
   const axis = draw("path", { class: "axis", d: `M${place(at(new Fraction(0n)))} 1V${place(height - 4)}` });
-  const words = names.map((name, row) => `${name}: ${texts[row]}.`).join(" ");
+  const words = names.map((name, row) => `${name}: ${numbers[row]}.`).join(" ");
   const width = side + track + 10 + longestOf(texts) * LETTER;
   return figure(heading, picture(heading, words, width, height, [rows, axis]));
 }
 
-function barRow({ name, amount, text = String(amount), limit, at, y, track, side }) {
+function barRow({ name, amount, text = shortText(amount), limit, at, y, track, side }) {
   const zero = at(new Fraction(0n));
   const box = (from, to, attributes) =>
     draw("rect", { x: place(Math.min(from, to)), y, width: place(Math.abs(to - from)), height: BAR, ...attributes });
@@ -238,9 +239,9 @@ function barRow({ name, amount, text = String(amount), limit, at, y, track, side
 /** What bidders bid, each as a frame, and in it what a winner pays. */
 export function bidsFigure(heading, bidders) {
   const names = bidders.map(({ name }) => name);
-  const texts = bidders.map(({ bid, wins, price }) => (wins ? `${bid}, pays ${price}` : `${bid}`));
+  const texts = bidders.map(({ bid, wins, price }) => (wins ? `${shortText(bid)}, pays ${shortText(price)}` : shortText(bid)));
   const side = longestOf(names) * LETTER + 10;
-  const words = names.map((name, row) => `${name}: ${texts[row]}.`).join(" ");
+  const words = bidders.map(({ name, bid, wins, price }) => `${name}: ${bid}${wins ? `, pays ${price}` : ""}.`).join(" ");
   const track = Math.max(110, WIDEST - side - longestOf(texts) * LETTER - 10);
   const most = Math.max(...bidders.map(({ bid }) => bid.toPlace())) || 1;
   const at = (amount) => side + (track * amount.toPlace()) / most;

@@ -1,6 +1,6 @@
 // The question: which command, its second file, and its further words.
 
-import { COMMANDS, FIELDS, GROUPS, SECONDS, commandOf, fits, takenAs, wordsOf } from "./commands.js";
+import { COMMANDS, FIELDS, SECONDS, commandOf, fits, takenAs, wordsOf } from "./commands.js";
 import { button, byId, folded, make } from "./dom.js";
 import { drawnBelow } from "./draws.js";
 import { opensFile, save } from "./files.js";
@@ -27,18 +27,20 @@ export class Question {
   }
 
   fillCommands() {
-    const groups = Object.entries(GROUPS).map(([group, title]) => {
-      const choices = this.offered.filter((command) => command.group === group).map((command) => this.choiceOf(command));
-      const id = `group-${group}`;
-      return make("div", { class: "group", role: "group", "aria-labelledby": id }, make("span", { class: "soft", id }, title), make("div", { class: "choices" }, choices));
-    });
-    byId("commands").append(...groups);
+    const [plain, expert] = [false, true].map((isExpert) => this.choicesOf(isExpert));
+    byId("commands").append(plain, folded("For experts", expert));
   }
 
-  choiceOf({ word, asks }) {
+  /** The questions for all, or those for experts. */
+  choicesOf(isExpert) {
+    const found = this.offered.filter((command) => (command.isExpert ?? false) === isExpert);
+    return make("div", { class: "choices" }, found.map((command) => this.choiceOf(command)));
+  }
+
+  choiceOf({ word, label, asks }) {
     const input = make("input", { type: "radio", name: "command", value: word, "aria-description": asks });
     input.addEventListener("change", () => this.shows(word));
-    return make("label", { class: "choice" }, input, make("span", {}, word));
+    return make("label", { class: "choice" }, input, make("span", {}, label));
   }
 
   wire() {
@@ -69,7 +71,9 @@ export class Question {
   /** Shows what a command asks for. */
   shows(word) {
     this.command = commandOf(word);
-    byId("commands").querySelector(`[value="${word}"]`).checked = true;
+    const choice = byId("commands").querySelector(`[value="${word}"]`);
+    choice.checked = true;
+    choice.closest("details")?.setAttribute("open", "");
     byId("asks").textContent = this.command.asks;
     byId("ask").textContent = this.command.button;
     byId("second-part").hidden = !this.command.second;
@@ -187,9 +191,6 @@ export class Question {
   offers() {
     for (const input of byId("commands").querySelectorAll("input")) {
       input.parentElement.hidden = !this.isOffered(input.value);
-    }
-    for (const group of byId("commands").querySelectorAll(".group")) {
-      group.hidden = ![...group.querySelectorAll(".choice")].some(({ hidden }) => !hidden);
     }
     if (!this.isOffered(this.command.word)) {
       this.shows(DEFAULT);

@@ -360,9 +360,6 @@ function kindsRead({ command, units, setting }) {
 /** What is wrong with a field of the first record of an answer. */
 function firstFieldFault(asked, { fields, at }, number) {
   const [, version, kind, word] = fields;
-  if (number === 3) {
-    return kindFault(asked, { at }, kind);
-  }
   const forms = Object.keys(TABLE.answers[kind] ?? {}).filter((name) => name.includes(" "));
   const versions = [...new Set(forms.map((name) => name.split(" ")[1]))];
   const isRead = (name) => name.endsWith(version) && (TABLE.only[`${kind} ${name}`] ?? asked.command) === asked.command;
@@ -381,14 +378,15 @@ function kindFault(asked, { at }, kind) {
   const { command, setting } = asked;
   const [reads, of] = [kindsRead(asked), TABLE.answers[kind]?.of];
   if (reads.includes(kind)) {
-    const found = kind === "asym" ? firstOf(notASale(setting)) : null;
-    return found && { ...found, isOfSetting: true };
+    const noSale = kind === "asym" ? firstOf(notASale(setting)) : null;
+    return noSale ? { ...noSale, isOfSetting: true } : fault("answer.plain", { found: quoted(kind), at });
   }
   if (of !== undefined && of !== setting.kind) {
     return fault("answer.setting", { found: of === "general" ? "a general setting" : "an auction", wanted: CALLED[setting.kind], at });
   }
   const wanted = `those of the kind ${joinedWords(reads.map(quoted))}`;
-  return fault("answer.kind", { found: quoted(kind), wanted, command, others: otherReaders(command, kind, of, reads), at });
+  const others = otherReaders(command, kind, of, reads);
+  return fault("answer.kind", { found: quoted(kind), wanted, command: asked.units ? `${command} --units` : command, others, at });
 }
 
 /** What reads an answer of a kind, in the words that end a sentence. */
@@ -397,7 +395,7 @@ function otherReaders(command, kind, of, reads) {
     return askedFor(nearest(kind, reads));
   }
   const takesUnits = kind === "units" && TABLE.commands[command].options === "--units";
-  return takesUnits ? TABLE.sentences["answer.units"] : withFields(TABLE.sentences["answer.reads"], TABLE.answers[kind]);
+  return takesUnits ? TABLE.sentences["answer.units"] : TABLE.sentences["answer.reads"];
 }
 
 /** What is wrong with the first record of an answer. */
@@ -406,6 +404,9 @@ function firstFault(asked, [first], field) {
     return fault("record.ended", { found: counted(0, "record"), wanted: "answer", at: 0 });
   }
   const { fields, at } = first;
+  if (field === 3 && fields.length > 2) {
+    return kindFault(asked, first, fields[2]);
+  }
   if (field > 0) {
     return fields.length === 4 ? firstFieldFault(asked, first, field) : null;
   }

@@ -49,8 +49,7 @@ function bare(found) {
 
 function askedOf(files) {
   const { command, units, options } = files.call;
-  const isAbout = "--units" in options || command === "unitcheck";
-  return { command, units: isAbout ? units : null, setting: new SettingFile(files.text("SETTING")) };
+  return { command, units: "--units" in options ? units : null, setting: new SettingFile(files.text("SETTING")) };
 }
 
 /** What is wrong with the setting. */

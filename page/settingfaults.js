@@ -1,10 +1,12 @@
 // Finds in a setting what it was refused for. It is asked for one cause, so that it need not look for any that comes before.
 
 import { TABLE, askedFor, between, fault, grouped, joinedWords, nearest, quoted, withFields } from "./faults.js";
-import { counted } from "./fraction.js";
+import { counted, greatestCommonDivisor } from "./fraction.js";
 import { NotToml, PLACES, clipped, readToml } from "./toml.js";
 
-const HEADS = { objective: "[objective]", agent: "[[agent]]" };
+const HEADS = { objective: "[objective]", agent: "[[agent]]", bidder: "[[bidder]]" };
+const FRONTS = { general: ["", "objective", "agent"], auction: [""], bidders: ["", "bidder"] };
+const LISTED = { agent: "agent", bidder: "group" }; // what the tables of a list are in sentences
 const STARTS = { "answer,": "an answer", "require,": "a conditions file", "pivot,": "a pivots file", "interim,": "an odds file" };
 
 /** The tables of a setting file, in which each value that is no list and no table has its kind, its place and its source. */
@@ -34,10 +36,10 @@ export class SettingFile {
 
   /** The tables whose keys have a front, each with what stands in front of a sentence on it. */
   tables(front) {
-    if (front === "agent") {
-      return this.agents.map((agent, place) => {
-        const name = agent.name?.kind === "text" ? ` ${quoted(agent.name.value)}` : "";
-        return [agent, `agent ${place + 1}${name}: `];
+    if (front in LISTED) {
+      return this.top[front].map((table, place) => {
+        const name = table.name?.kind === "text" ? ` ${quoted(table.name.value)}` : "";
+        return [table, `${LISTED[front]} ${place + 1}${name}: `];
       });
     }
     if (front === "objective") {
@@ -52,7 +54,12 @@ export class SettingFile {
   }
 
   get fronts() {
-    return this.kind === "general" ? ["", "objective", "agent"] : [""];
+    return FRONTS[this.kind];
+  }
+
+  /** The tables with values and weights, of an auction the top one, each with what stands in front of a sentence on it. */
+  get groups() {
+    return this.tables(this.kind === "bidders" ? "bidder" : "");
   }
 
   /** All keys with their tables: the front, the table, what stands in front of a sentence, the key, and what is known of it. */
@@ -75,7 +82,7 @@ export class SettingFile {
 
   /** How many elements a list has that there is one of for each of these. */
   countOf(noun, table) {
-    const lists = { type: table.types, outcome: this.top.outcomes, value: this.top.values };
+    const lists = { type: table.types, outcome: this.top.outcomes, value: table.values };
     return noun === "profile" ? this.profileCount : lists[noun].length;
   }
 
@@ -174,7 +181,7 @@ function* missingKey(setting, whole) {
       }
     }
     yield* front ? [] : strayedKey(setting, key);
-    const at = front === "agent" ? placeOf(table) : null;
+    const at = front in LISTED ? placeOf(table) : null;
     yield fault("key.missing", { key: shownKey(front, key), wanted: wantedAt(known[key]), place, at });
   }
 }
@@ -227,6 +234,9 @@ function* unknownWord(setting, whole) {
   const words = spec.words.map(String);
   for (const [table, place] of setting.tables(front)) {
     const found = table[key];
+    if (found && key === "kind" && found.value === "bidders") {
+      yield fault("kind.version", { found: quoted("bidders"), wanted: 3, of: setting.top.version.source, at: found.at });
+    }
     if (found && !words.includes(String(found.value))) {
       const meant = askedFor(nearest(String(found.value), words));
       const fields = { key: shownKey(front, key), found: clipped(found.source), wanted: wantedAt(spec), meant };
@@ -253,7 +263,7 @@ function* unknownKey(setting) {
 /** What a key is that is not known where it stands: one of another table, or perhaps another one. */
 function strangeKey(setting, front, key, where) {
   const meant = nearest(key, Object.keys(setting.known(front)));
-  const other = ["", "objective", "agent"].find((each) => meant === null && setting.kind === "general" && key in setting.known(each));
+  const other = setting.fronts.find((each) => meant === null && key in setting.known(each));
   if (other === undefined) {
     return fault("key.unknown", { found: quoted(key), meant: askedFor(meant), ...where });
   }
@@ -278,6 +288,9 @@ function* besideKey(setting, key, table, where) {
 
 /** The lists of names: of what, what stands in front of a sentence, and the names. */
 function namesOf(setting) {
+  if (setting.kind === "bidders") {
+    return [["group", "", setting.groups.map(([{ name }]) => name)]];
+  }
   const types = setting.tables("agent").map(([agent, place]) => ["type", place, agent.types]);
   return [["agent", "", setting.agents.map(({ name }) => name)], ["outcome", "", setting.top.outcomes], ...types];
 }
@@ -286,7 +299,7 @@ function* badName(setting) {
   for (const [noun, place, names] of namesOf(setting)) {
     const wrong = names.find(({ value }) => !/^[A-Za-z0-9_]{1,32}$/.test(value));
     if (wrong) {
-      const of = noun === "type" ? "a type" : `an ${noun}`;
+      const of = ["type", "group"].includes(noun) ? `a ${noun}` : `an ${noun}`;
       yield fault("name.bad", { found: clipped(wrong.source), wanted: TABLE.sentences["name.letters"], of, place, at: wrong.at });
     }
   }
@@ -302,7 +315,7 @@ function* doubleName(setting) {
 }
 
 function* wrongSizes(setting) {
-  for (const { spec, value, place, table, key } of setting.entries().filter(({ spec }) => spec.noun)) {
+  for (const { spec, value, place, table, key } of setting.entries().filter((each) => each.spec.noun && each.value)) {
     const count = Array.isArray(value) ? value.length : Number(value.value);
     if (count < spec.least || count > spec.most) {
       const wanted = `${between(spec.least, spec.most)} are`;
@@ -312,6 +325,11 @@ function* wrongSizes(setting) {
   if (setting.kind === "general" && setting.profileCount > TABLE.limits.profiles) {
     const wanted = `at most ${grouped(TABLE.limits.profiles)} are`;
     yield fault("size.wrong", { found: thereAre(setting.profileCount, "profile"), wanted });
+  }
+  const bidders = setting.kind === "bidders" ? sumOf(setting.groups.map(([{ count }]) => count?.value ?? 1n)) : 0n;
+  if (bidders > TABLE.limits.bidders) {
+    const wanted = `at most ${grouped(TABLE.limits.bidders)} are`;
+    yield fault("size.wrong", { found: `${thereAre(bidders, "bidder")} in all`, wanted });
   }
 }
 
@@ -373,21 +391,25 @@ function* greatWorths(setting) {
 
 /** The values of an auction that welfare makes too great. */
 function* greatProducts(setting) {
-  const { welfare, values } = setting.top;
+  const { welfare } = setting.top;
   const most = BigInt(TABLE.limits.worth);
-  for (const value of welfare ? values : []) {
-    const product = welfare.value * value.value;
-    if (product > most || product < -most) {
-      yield fault("range.product", { of: value.source, found: grouped(product), wanted: between(-most, most), at: welfare.at });
+  for (const [{ values }, place] of welfare ? setting.groups : []) {
+    for (const value of values) {
+      const product = welfare.value * value.value;
+      if (product > most || product < -most) {
+        const [found, wanted] = [grouped(product), between(-most, most)];
+        yield fault("range.product", { of: value.source, found, wanted, place, at: welfare.at });
+      }
     }
   }
 }
 
 function* zeroWeight(setting) {
-  if (setting.kind === "auction") {
-    const { values, weights } = setting.top;
-    const place = weights.findIndex(({ value }) => value === 0n);
-    yield* place < 0 ? [] : [fault("weight.value", { found: values[place].source, at: weights[place].at })];
+  for (const [{ values, weights }, place] of setting.kind === "general" ? [] : setting.groups) {
+    const number = weights.findIndex(({ value }) => value === 0n);
+    yield* number < 0 ? [] : [fault("weight.value", { found: values[number].source, place, at: weights[number].at })];
+  }
+  if (setting.kind !== "general") {
     return;
   }
   const { prior } = setting.top;
@@ -407,6 +429,10 @@ function sumOf(numbers) {
 }
 
 function* weightTotal(setting) {
+  if (setting.kind === "bidders") {
+    yield* groupTotals(setting);
+    return;
+  }
   const isOfAuction = setting.kind === "auction";
   const { weights, prior } = setting.top;
   const total = sumOf(isOfAuction ? weights.map(({ value }) => value) : setting.profiles.map((profile) => setting.weight(profile)));
@@ -417,10 +443,35 @@ function* weightTotal(setting) {
   }
 }
 
+/** By how much the weights of a group are too great together, where they are divided by their greatest common divisor. */
+function* groupTotals(setting) {
+  for (const [{ weights }, place] of setting.groups) {
+    const total = sumOf(weights.map(({ value }) => value));
+    const divisor = weights.map(({ value }) => value).reduce(greatestCommonDivisor);
+    if (total > BigInt(TABLE.limits.weight) * divisor) {
+      const of = divisor > 1n ? withFields(TABLE.sentences["weight.divided"], { divisor: grouped(divisor) }) : "";
+      const found = grouped(total / divisor);
+      yield fault("weight.total", { of, found, wanted: grouped(TABLE.limits.weight), place, at: placeOf(weights) });
+    }
+  }
+}
+
+/** The first number behind one that it may not follow. */
+function outOfOrder(numbers, isWrong) {
+  const place = numbers.findIndex(({ value }, number) => number > 0 && isWrong(numbers[number - 1].value, value));
+  return place < 0 ? null : { found: numbers[place].source, of: numbers[place - 1].source, at: numbers[place].at };
+}
+
 function* valuesOrder(setting) {
-  const { values } = setting.top;
-  const place = values.findIndex(({ value }, number) => number > 0 && value <= values[number - 1].value);
-  yield* place < 0 ? [] : [fault("values.order", { found: values[place].source, of: values[place - 1].source, at: values[place].at })];
+  for (const [{ values }, place] of setting.groups) {
+    const wrong = outOfOrder(values, (before, value) => value <= before);
+    yield* wrong ? [fault("values.order", { ...wrong, place })] : [];
+  }
+}
+
+function* slotsOrder(setting) {
+  const wrong = outOfOrder(setting.top.slots, (before, amount) => amount > before);
+  yield* wrong ? [fault("slots.order", wrong)] : [];
 }
 
 function* tooManyRows(setting) {
@@ -457,20 +508,22 @@ function* tooManyCounts(setting) {
 // --- the command ----------------------------------------------------------------------------------------------------------------
 
 /** What a setting of a kind is called behind a verb. */
-export const CALLED = { general: "a general one", auction: "an auction" };
+export const CALLED = { general: "a general one", auction: "an auction", bidders: "an auction with groups of bidders" };
+const SERVED = { general: "general settings", auction: "auctions" };
 
 function* otherKind(setting, command, hasUnits) {
-  const { serves = setting.kind, others = "" } = TABLE.commands[command];
-  const wantedKind = hasUnits ? "auction" : serves;
-  if (wantedKind === setting.kind) {
+  const { serves = "general auction", others = "" } = TABLE.commands[command];
+  const kinds = hasUnits ? ["auction"] : serves.split(" ");
+  if (kinds.includes(setting.kind)) {
     return;
   }
-  const names = others.split(/, | and /).filter(Boolean).map((name) => `\`${name}\``);
+  // No command serves groups of bidders.
+  const names = setting.kind === "bidders" ? [] : others.split(/, | and /).filter(Boolean).map((name) => `\`${name}\``);
   const serve = TABLE.sentences[names.length === 1 ? "kind.serves" : "kind.serve"];
   yield fault("kind.other", {
     found: CALLED[setting.kind],
     command: hasUnits ? `${command} --units` : command,
-    wanted: wantedKind === "general" ? "general settings" : "auctions",
+    wanted: joinedWords(kinds.map((kind) => SERVED[kind]), "and"),
     others: names.length > 0 ? `: ${withFields(serve, { names: joinedWords(names, "and") })}` : "",
     at: setting.top.kind.at,
   });
@@ -565,6 +618,7 @@ const OF_CONTENTS = {
   "zero weight": zeroWeight,
   "weight total": weightTotal,
   "values order": valuesOrder,
+  "slots order": slotsOrder,
   "too many rows": tooManyRows,
   "too many counts": tooManyCounts,
   "not a sale": notASale,

@@ -6,10 +6,12 @@ import { cellsOf, numberTables, shapeOf, withNumber, withValueAdded, withoutLast
 const MOST_CELLS = 240;
 const NARROWEST_CELL = 7; // letters
 
-/** The fields of a setting's numbers. `onMove` is given the text of the setting after each change. */
+/** The fields of a setting's numbers. `onMove` is given the text of the setting after each change, and `onWrong` is called where what is
+ * written in a field is no whole number. */
 export class Sliders {
-  constructor(onMove) {
+  constructor(onMove, onWrong) {
     this.onMove = onMove;
+    this.onWrong = onWrong;
     this.text = "";
     this.shape = "";
     this.cells = [];
@@ -86,6 +88,8 @@ export class Sliders {
   moves(place, written) {
     if (/^-?\d+$/.test(written)) {
       this.changes(withNumber(this.text, this.cells[place], BigInt(written)));
+    } else {
+      this.onWrong();
     }
   }
 

@@ -1,15 +1,22 @@
 // The parts that views are made of: what an answer says in a few words, and tables of its records.
 
-import { folded, make, number, table } from "./dom.js";
+import { amountCell, amountParts, shortText } from "./amounts.js";
+import { breakable, folded, make, number, table } from "./dom.js";
 import { Fraction } from "./fraction.js";
 import { firstWith, withWord } from "./records.js";
 
 export const MOST_ROWS = 200;
 const PLAIN_ROWS = 12; // a longer table is folded away where it is no part of the answer itself
 
-/** What stands above a view: the word of the answer in large letters, and what that says. */
-export function verdict(large, words, kind = "") {
-  return { kind, large, words };
+/** What stands above a view: the answer in a few words in large letters, and what that says. `shown` has the elements of the large
+ * letters where they are more than their text. */
+export function verdict(large, words, kind = "", shown = [breakable(large)].flat()) {
+  return { kind, large, words, shown };
+}
+
+/** The same, where an amount is what was asked for. */
+export function amountVerdict(title, amount, words, kind = "") {
+  return verdict(`${title} ${shortText(amount)}`, words, kind, [`${title} `, ...amountParts(amount)]);
 }
 
 export function view(found, ...content) {
@@ -30,11 +37,6 @@ export function foldedTable(caption, heads, rows) {
   const short = shortened(rows);
   const made = table(caption, heads, short.rows, short.note);
   return rows.length <= PLAIN_ROWS ? made : folded(`${caption} (${rows.length.toLocaleString("en")} rows)`, made);
-}
-
-export function valueText(value) {
-  const mixed = value.toMixed();
-  return mixed ? `Value ${value} = ${mixed}` : `Value ${value}`;
 }
 
 /** The fraction of a record with a word, of its two fields. */
@@ -66,7 +68,7 @@ export function multipliersPart(records, names) {
     number(index),
     make("code", {}, brokenName(names[Number(index)] ?? "")),
     ...(hasFace ? [number(face.replace("-", "\u2212"))] : []),
-    ...(bound ? [number(new Fraction(main, bound))] : []),
+    ...(bound ? [amountCell(new Fraction(main, bound))] : []),
   ]);
   const caption = bound ? "What shows that nothing is better" : "What shows that there is none";
   return folded(`${caption}: ${rows.length} multipliers`, table(caption, heads, body.slice(0, MOST_ROWS)));

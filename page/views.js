@@ -1,10 +1,11 @@
 // What the page shows of the texts of commands that judge, run or study a rule: first in a few words, then as tables.
 
+import { amountCell, amountParts, amountText } from "./amounts.js";
 import { massesPart } from "./answers.js";
-import { breakable, folded, head, make, number, table } from "./dom.js";
+import { folded, head, make, number, table } from "./dom.js";
 import { Fraction } from "./fraction.js";
 import { firstWith, fractionsOf, withWord } from "./records.js";
-import { MOST_ROWS, brokenName, fractionWith, overText, paragraph, shortened, valueText, verdict, view } from "./verdicts.js";
+import { MOST_ROWS, amountVerdict, brokenName, fractionWith, overText, paragraph, shortened, verdict, view } from "./verdicts.js";
 
 /** What `realise` prints. */
 export function realiseView(records, { setting }) {
@@ -20,7 +21,7 @@ export function realiseView(records, { setting }) {
 function violatedView(records, setting) {
   const [set, excess, denominator] = firstWith(records, "violated");
   const words = `No auction has these odds: bidders with ${setWords(set, setting)} ask for more than there is, by `;
-  return view(verdict("Violated", [words, breakable(`${new Fraction(excess, denominator)}`), " in profiles, by weight."], "bad"));
+  return view(verdict("Violated", [words, ...amountParts(new Fraction(excess, denominator)), " in profiles, by weight."], "bad"));
 }
 
 /** The members of a set: values of an auction, or types of agents of a sale. */
@@ -46,11 +47,11 @@ const REJECTED = {
   6: "the bound of the multipliers is not the value",
   7: "the added payments break a condition",
   8: "the added payments gain nothing",
-  9: "the masses of a value do not make its odds",
+  9: "the masses of a value or a type do not make its odds",
   10: "the odds and pays break a condition",
 };
 
-/** A view of what a checker prints, which has reasons of its own beside those of all. */
+/** A view of what a checker prints, which has reasons of its own beside those of both. */
 function checking(own) {
   const reasons = { ...REJECTED, ...own };
   return (records) => {
@@ -65,23 +66,11 @@ function checking(own) {
   };
 }
 
-/** What `check` prints. */
-export const checkView = checking({});
-
-/** What `requirecheck` prints. */
-export const requireCheckView = checking({
+const checkedView = checking({
+  11: "the level of the mechanism has more than 62 bits",
   17: "the mechanism does not meet one of your conditions",
   18: "the shadow of one of your conditions is told otherwise than the multipliers say",
 });
-
-/** What `faircheck` prints. */
-export const fairCheckView = checking({ 11: "the level of the mechanism has more than 62 bits" });
-
-/** What `asymcheck` prints. */
-export const asymCheckView = checking({ 9: "the masses of a type do not make its odds" });
-
-/** What `unitcheck` prints. */
-export const unitCheckView = checking({});
 
 /** What `determcheck` prints. */
 export const determCheckView = checking({
@@ -92,6 +81,11 @@ export const determCheckView = checking({
   15: "a leaf is worth more than the mechanism",
   16: "the ray is not certified",
 });
+
+/** What `check` prints of the answer that is judged. */
+export function checkView(records, { judged }) {
+  return (judged.startsWith("answer,1,determ,") ? determCheckView : checkedView)(records);
+}
 
 /** What `audit` prints. */
 export function auditView(records) {
@@ -160,7 +154,7 @@ export function runView(records, { setting }) {
   }
   const amounts = fractionsOf(pays.slice(1), pays[0]);
   const names = setting?.agents?.map(({ name }) => name) ?? amounts.map((_, place) => `bidder ${place + 1}`);
-  const rows = amounts.map((amount, place) => [head(names[place]), number(amount)]);
+  const rows = amounts.map((amount, place) => [head(names[place]), amountCell(amount)]);
   return view(found, table("Payments", ["Agent", "#Pays"], rows));
 }
 
@@ -186,14 +180,14 @@ export function reportView(records, { setting }) {
   }
   const [value, revenue, welfare] = ["value", "revenue", "welfare"].map((word) => fractionWith(records, word));
   const types = withWord(records, "type").map((fields) => {
-    const [gets, pays] = [fields.slice(-4, -2), fields.slice(-2)].map((pair) => number(new Fraction(...pair)));
+    const [gets, pays] = [fields.slice(-4, -2), fields.slice(-2)].map((pair) => amountCell(new Fraction(...pair)));
     return [head(fields.slice(0, -4).join(": ")), gets, pays];
   });
   const worst = ["gain", "loss", "deficit"].flatMap((word) => withWord(records, word).map((fields) => worstRow(word, fields)));
   const stands = withWord(records, "condition").map(standingRow);
   const tight = withWord(records, "tight").map(([name]) => make("li", {}, make("code", {}, brokenName(name)), cutWords(name, setting)));
   return view(
-    verdict(valueText(value), `Revenue ${revenue}, welfare ${welfare}.`),
+    amountVerdict("Value", value, `Revenue ${amountText(revenue)}, welfare ${amountText(welfare)}.`),
     table("What each type gets and pays on average", ["Type", "#Gets", "#Pays"], types),
     worst.length > 0 && table("The worst of each condition", ["What", "Where", "#By", ""], worst),
     stands.length > 0 && table("Your conditions", ["Condition", "#Amount", ""], stands.slice(0, MOST_ROWS)),
@@ -213,13 +207,13 @@ function worstRow(word, fields) {
   const amount = new Fraction(...fields.slice(-2));
   const isBroken = word === "deficit" ? amount.isNegative() : !amount.isNegative() && !amount.isZero();
   const where = make("code", {}, brokenName(fields.slice(0, -2).join("/")));
-  return [head(WORST[word]), where, number(amount), isBroken ? make("strong", {}, "broken") : "met"];
+  return [head(WORST[word]), where, amountCell(amount), isBroken ? make("strong", {}, "broken") : "met"];
 }
 
 /** How the mechanism stands against a condition of the designer, which is named as `audit` names it. */
 function standingRow([index, word, ...amount]) {
   const name = make("code", {}, brokenName(`condition/${index}`));
-  return [name, number(new Fraction(...amount)), word === "met" ? word : make("strong", {}, word)];
+  return [name, amountCell(new Fraction(...amount)), word === "met" ? word : make("strong", {}, word)];
 }
 
 /** A text of which the page knows no more. */
@@ -236,6 +230,6 @@ export function makeView() {
 export function drillView(records) {
   const [, kind, word, ...value] = firstWith(records, "drill");
   const [checked] = firstWith(records, "check");
-  const large = value.length > 0 ? valueText(new Fraction(...value)) : word;
-  return view(verdict(large, `The setting is ${kind === "auction" ? "an auction" : "general"}, its answer ${word}, and ${checked}.`, "good"));
+  const words = `The setting is ${kind === "auction" ? "an auction" : "general"}, its answer ${word}, and ${checked}.`;
+  return view(value.length > 0 ? amountVerdict("Value", new Fraction(...value), words, "good") : verdict(word, words, "good"));
 }

@@ -38,13 +38,13 @@ int main(int count, char **words)
     static char text[1 << 12];
     struct bytes files[2] = {{(uint8_t *)"", 0}, {(uint8_t *)"", 0}};
     struct mechdes_counts counts;
-    /* The setting comes behind the command's word, but for `make` and `drill`. Then comes the second file: behind a number of units for
-       `unitcheck`, and none where such a number ends the names of files. */
+    /* The setting comes behind the command's word, but for `make` and `drill`. Then comes the second file, if no number of units
+       stands in its place. */
     const char *command = count > 1 ? words[1] : "";
     int with_files = strcmp(command, "make") != 0 && strcmp(command, "drill") != 0;
     int with_units = strcmp(command, "units") == 0 || strcmp(command, "ironunits") == 0 || strcmp(command, "threshold") == 0 ||
                      strcmp(command, "award") == 0;
-    int second = with_units ? 0 : strcmp(command, "unitcheck") == 0 ? 4 : 3;
+    int second = with_units ? 0 : 3;
     for (int k = 1; k < count; k++) {
         int is_file = with_files && (k == 2 || k == second) && words[k][0] != '-';
         if (is_file)

@@ -2,7 +2,7 @@ import assert from "node:assert/strict";
 import { readFileSync } from "node:fs";
 import { test } from "node:test";
 
-import { COMMANDS, FIELDS, GROUPS, SECONDS, commandOf, fileOf, fits, nextCommands, takenAs, wordsOf } from "../commands.js";
+import { COMMANDS, FIELDS, SECONDS, commandOf, fileOf, fits, nextCommands, takenAs, wordsOf } from "../commands.js";
 
 const repository = (name) => readFileSync(new URL(`../../${name}`, import.meta.url), "utf8");
 const general = { kind: "general", kinds: ["general"] };
@@ -13,8 +13,8 @@ test("each command of the program has an entry, whose parts are known", () => {
   const words = [...repository("crates/md_cli_words/src/command.rt").matchAll(/"(\w+)" => Some/g)].map(([, word]) => word);
   assert.ok(words.includes("solve"));
   assert.deepEqual(words.filter((word) => commandOf(word) === undefined), []);
-  for (const { word, group, second, fields, tooWide = [], draws = {} } of COMMANDS) {
-    assert.ok(group in GROUPS, word);
+  for (const { word, label, second, fields, tooWide = [], draws = {} } of COMMANDS) {
+    assert.ok(label.length > 0 && label !== word, word);
     assert.ok(second === undefined || second in SECONDS, word);
     assert.ok(fields.every((field) => field in FIELDS), word);
     assert.ok(Object.keys(draws).every((field) => fields.includes(field)), word);
@@ -48,27 +48,16 @@ test("how many units an answer is about is said of auctions alone", () => {
   for (const setting of [auction, null]) {
     assert.equal(wordsOf(commandOf("run"), values, setting).join(" "), "run setting second a,b 5 0 --units 3");
     assert.equal(wordsOf(commandOf("report"), values, setting).join(" "), "report setting second --units 3");
+    assert.equal(wordsOf(commandOf("check"), values, setting).join(" "), "check setting second --units 3");
   }
   assert.equal(wordsOf(commandOf("run"), values, sale).join(" "), "run setting second a,b 5 0");
 });
 
 test("commands that do not fit a setting are not offered", () => {
   const left = (setting) => COMMANDS.filter((command) => !fits(command, setting)).map(({ word }) => word);
-  assert.deepEqual(left(general), ["iron", "threshold", "units", "ironunits", "asym", "asymcheck", "unitcheck", "realise", "award"]);
-  assert.deepEqual(left(sale), ["iron", "threshold", "units", "ironunits", "unitcheck", "realise", "award"]);
-  assert.deepEqual(left(auction), [
-    "find",
-    "asym",
-    "determ",
-    "fair",
-    "findfair",
-    "require",
-    "requirecheck",
-    "faircheck",
-    "asymcheck",
-    "determcheck",
-    "audit",
-  ]);
+  assert.deepEqual(left(general), ["iron", "threshold", "units", "ironunits", "asym", "realise", "award"]);
+  assert.deepEqual(left(sale), ["iron", "threshold", "units", "ironunits", "realise", "award"]);
+  assert.deepEqual(left(auction), ["find", "asym", "determ", "fair", "findfair", "require", "determcheck", "audit"]);
   assert.deepEqual(left(null), []);
 });
 
@@ -89,18 +78,18 @@ test("what may follow an answer, and where numbers grow too wide", () => {
     ["find", 10, general, "check"],
     ["solve", 11, general, "check audit run report"],
     ["solve", 0, auction, "check run report"],
-    ["fair", 0, general, "faircheck audit run report"],
-    ["fair", 11, general, "faircheck audit run report"],
-    ["fair", 10, general, "faircheck"],
-    ["findfair", 0, sale, "faircheck audit run report"],
-    ["findfair", 10, general, "faircheck"],
-    ["require", 0, general, "requirecheck audit run report"],
-    ["require", 11, general, "requirecheck audit run report"],
-    ["require", 10, general, "requirecheck"],
+    ["fair", 0, general, "check audit run report"],
+    ["fair", 11, general, "check audit run report"],
+    ["fair", 10, general, "check"],
+    ["findfair", 0, sale, "check audit run report"],
+    ["findfair", 10, general, "check"],
+    ["require", 0, general, "check audit run report"],
+    ["require", 11, general, "check audit run report"],
+    ["require", 10, general, "check"],
     ["require", 22, general, ""],
-    ["asym", 0, sale, "asymcheck run report"],
-    ["units", 0, auction, "unitcheck run report"],
-    ["ironunits", 0, auction, "unitcheck run report"],
+    ["asym", 0, sale, "check run report"],
+    ["units", 0, auction, "check run report"],
+    ["ironunits", 0, auction, "check run report"],
     ["determ", 0, general, "determcheck"],
     ["threshold", 0, auction, "award"],
     ["solve", 65, general, ""],
@@ -113,16 +102,16 @@ test("what may follow an answer, and where numbers grow too wide", () => {
 
 test("a text is there for each command that reads it", () => {
   assert.deepEqual(takenAs("answer"), ["answer", "mechanism", "drawn", "reported"]);
-  assert.deepEqual(takenAs("fairest"), ["fairest", "mechanism", "drawn", "reported"]);
+  assert.deepEqual(takenAs("fairest"), ["answer", "mechanism", "drawn", "reported"]);
   for (const kind of ["reported", "rule", "pivots", "odds"]) {
     assert.deepEqual(takenAs(kind), [kind]);
   }
   const readers = (kind) => COMMANDS.filter(({ second }) => takenAs(kind).includes(second)).map(({ word }) => word);
   assert.deepEqual(readers("answer"), ["check", "audit", "run", "report"]);
-  assert.deepEqual(readers("fairest"), ["faircheck", "audit", "run", "report"]);
+  assert.deepEqual(readers("fairest"), ["check", "audit", "run", "report"]);
   assert.deepEqual(readers("mechanism"), ["audit", "run", "report"]);
-  assert.deepEqual(readers("sale"), ["asymcheck", "run", "report"]);
-  assert.deepEqual(readers("units"), ["unitcheck", "run", "report"]);
+  assert.deepEqual(readers("sale"), ["check", "run", "report"]);
+  assert.deepEqual(readers("units"), ["check", "run", "report"]);
   assert.deepEqual(readers("drawn"), ["run", "report"]);
   assert.deepEqual(readers("reported"), ["report"]);
 });

@@ -8,7 +8,7 @@ import { SECONDS } from "../commands.js";
 import { conditionRowNames, conditionText, conditionsOf, sampleConditions, withoutConditions } from "../conditions.js";
 import { recordsOf } from "../records.js";
 import { readSetting } from "../setting.js";
-import { requireCheckView } from "../views.js";
+import { checkView } from "../views.js";
 
 const example = (name) => readFileSync(new URL(`../../examples/${name}`, import.meta.url), "utf8");
 const SETTING = readSetting(example("budget.toml"));
@@ -23,12 +23,12 @@ test("the conditions of an answer are told from its payments", () => {
 test("an answer under conditions shows them and the rule", () => {
   const names = [...Array.from({ length: 6 }, (_, row) => `row ${row}`), ...conditionRowNames(conditionsOf(ANSWER), SETTING)];
   const view = requireView(ANSWER, { setting: SETTING, names });
-  assert.equal(view.large, "Value 5/2 = 2 + 1/2");
+  assert.equal(view.large, "Value 2.5");
   assert.ok(view.words.includes("yours among them"));
   const [conditions, payments, multipliers] = cellsOfTables(view);
-  assert.deepEqual(conditions, [["What bidder pays everywhere is at most", "4", "brings at most 1/4"]]);
+  assert.deepEqual(conditions, [["What bidder pays everywhere is at most", "4", "brings at most 0.25 1/4"]]);
   assert.deepEqual(payments, [["low", "1"], ["high", "4"]]);
-  assert.deepEqual(multipliers.at(-1), ["7", "pay/bidder/most/high", "1/2"]);
+  assert.deepEqual(multipliers.at(-1), ["7", "pay/bidder/most/high", "0.5 1/2"]);
   assert.deepEqual(picturesOf(view), ["bidder low: keep 1/2, sell 1/2. bidder high: sell 1."]);
 });
 
@@ -37,13 +37,13 @@ test("beside each condition stands what one unit more does, where it is told", (
   const answer = (shadows) => recordsOf(`answer,1,required,optimal\n${conditions}value,5,2\n${shadows}end\n`);
   const cellsOf = (shadows) => cellsOfTables(requireView(answer(shadows), { setting: null }))[0];
   const told = cellsOf("shadow,0,-1,3\nshadow,1,1,4\nshadow,3,0,1\n").map((cells) => cells.at(-1));
-  assert.deepEqual(told, ["costs at least 1/3", "brings at most 1/4", "", "brings nothing"]);
+  assert.deepEqual(told, ["costs at least 0.3333 1/3", "brings at most 0.25 1/4", "", "brings nothing"]);
   assert.deepEqual(cellsOf("").map((cells) => cells.length), [2, 2, 2, 2]);
 });
 
 test("where no rule meets the conditions, or none was found, the view says so", () => {
   const view = requireView(recordsOf(example("revenue-floor-6-required.csv")), { setting: readSetting(example("revenue-floor.toml")) });
-  assert.deepEqual([view.large, view.words], ["No rule", "No rule meets the conditions of this setting and yours."]);
+  assert.deepEqual([view.large, view.words], ["No rule meets these conditions", "What the setting demands and your conditions cannot hold together."]);
   assert.deepEqual(cellsOfTables(view)[0], [["Revenue is at least", "2"]]);
   assert.equal(requireView(recordsOf("undecided\n"), { setting: SETTING }).large, "Undecided");
   assert.equal(requireView(ANSWER, { setting: null }).kind, "good");
@@ -73,10 +73,11 @@ test("the field begins with a sample for the setting", () => {
   assert.equal(sampleConditions(null), "require,1\nend\n");
 });
 
-test("a checker of such answers has its own reasons", () => {
-  assert.ok(requireCheckView(recordsOf("rejected,17,0,15,16\n")).words.includes("does not meet one of your conditions"));
+test("a check of such an answer has its own reasons", () => {
+  const checked = (text) => checkView(recordsOf(text), { judged: "answer,1,required,optimal\n" });
+  assert.ok(checked("rejected,17,0,15,16\n").words.includes("does not meet one of your conditions"));
   for (const line of ["rejected,18,0,-1,3\n", "rejected,18,2\n"]) {
-    assert.ok(requireCheckView(recordsOf(line)).words.includes("the shadow of one of your conditions"));
+    assert.ok(checked(line).words.includes("the shadow of one of your conditions"));
   }
-  assert.equal(requireCheckView(recordsOf("valid\n")).kind, "good");
+  assert.equal(checked("valid\n").kind, "good");
 });

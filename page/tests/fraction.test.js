@@ -28,11 +28,24 @@ test("fractions are added, multiplied and divided", () => {
   assert.ok(third.plus(new Fraction(-1, 3)).isZero() && half.isNegative() && !third.isNegative());
 });
 
-test("a fraction beyond 1 is a whole number and a rest", () => {
-  assert.equal(new Fraction(9652, 275).toMixed(), "35 + 27/275");
-  assert.equal(new Fraction(-5, 3).toMixed(), "\u2212(1 + 2/3)");
-  assert.equal(new Fraction(1, 2).toMixed(), "");
-  assert.equal(new Fraction(4, 2).toMixed(), "");
+test("a decimal has four digits, and no fewer than two behind the point", () => {
+  for (const [top, bottom, text] of [
+    [71, 25, "2.84"],
+    [1, 2, "0.5"],
+    [1, 3, "0.3333"],
+    [8, 3, "2.667"],
+    [-8, 3, "\u22122.667"],
+    [6656936079, 250000000, "26.63"],
+    [1, 7000, "0.0001429"],
+    [19999, 2000000, "0.01"],
+    [9999999, 10000000, "1"],
+    [123456, 7, "17636.57"],
+    [2469135, 200, "12345.68"],
+    [0, 5, "0"],
+    [600, 2, "300"],
+  ]) {
+    assert.equal(new Fraction(top, bottom).toDecimal(), text);
+  }
 });
 
 test("a place is right for numbers of any length", () => {

@@ -5,7 +5,7 @@ import { fileURLToPath } from "node:url";
 import { test } from "node:test";
 import { Script } from "node:vm";
 
-import { COMMANDS, FIELDS, SECONDS } from "../commands.js";
+import { COMMANDS, FIELDS, takenAs } from "../commands.js";
 import { unpacked } from "../engine.js";
 
 const folder = fileURLToPath(new URL("../", import.meta.url));
@@ -61,7 +61,7 @@ test("each setting of the menu has a title and a question, and asks a command", 
 test("each file beside a setting is one that a command reads", { skip: page === null }, () => {
   const { gallery } = JSON.parse(contentOf("contents"));
   const seconds = gallery.flatMap((entry) => entry.seconds.map((second) => ({ ...second, of: entry.name })));
-  assert.deepEqual(seconds.filter(({ kind }) => !(kind in SECONDS)), []);
+  assert.deepEqual(seconds.filter(({ kind }) => takenAs(kind).length === 0), []);
   const own = seconds.filter(({ kind }) => kind === "reported").map(({ of, name }) => `${of} ${name}`);
   assert.deepEqual(own, ["auction-reserve own-first-price.csv", "auction-reserve own-too-often.csv"]);
 });

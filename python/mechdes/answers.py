@@ -541,8 +541,7 @@ class Undecided(WithoutBest):
 
 @dataclasses.dataclass(frozen=True)
 class Verdict(Printed):
-    """What `check`, `requirecheck`, `faircheck`, `asymcheck`, `unitcheck` or `determcheck` says. It is true exactly where the word is
-    `valid`.
+    """What `check` or `determcheck` says. It is true exactly where the word is `valid`.
 
     word       `valid`, `undecided` (the answer claims nothing) or `rejected`
     condition  where rejected, the number of the first condition that fails, as docs/FORMATS.md counts them

@@ -5,35 +5,16 @@ from __future__ import annotations
 import dataclasses
 import functools
 import itertools
-from collections.abc import Callable, Iterator
+from collections.abc import Iterator
 from fractions import Fraction
 
 from .answers import Answer, AuctionOptimal, Report, SaleOptimal, Verdict, cut_records, elements
-from .commands import (
-    AnswerLike,
-    answer_bytes,
-    asymcheck,
-    check,
-    determcheck,
-    faircheck,
-    read,
-    report,
-    requirecheck,
-    rows,
-    unitcheck,
-)
+from .commands import AnswerLike, answer_bytes, check, determcheck, read, report, rows
 from .conditions import Condition, Payment
 from .errors import AnswerNotRead
 from .records import Records
 from .settings import AnySetting, Auction, Setting, SettingLike, read_setting, setting_bytes
 from .wording import AuctionWords, GeneralWords, Words
-
-_CHECKERS: dict[str, Callable[[SettingLike, AnswerLike], Verdict]] = {
-    "required": requirecheck,
-    "fair": faircheck,
-    "asym": asymcheck,
-    "determ": determcheck,
-}
 
 
 @dataclasses.dataclass(frozen=True)
@@ -122,10 +103,10 @@ class Case:
         return self.words
 
     def verdict(self) -> Verdict:
-        """What the checker of the answer's kind says. An answer that no checker takes is refused by `check`."""
-        if self.kind == "units" and self.units is not None:
-            return unitcheck(self.source, self.data, self.units)
-        return _CHECKERS.get(self.kind, check)(self.source, self.data)
+        """What the checker of the answer says. How many units it is about is said of answers of `units` alone."""
+        if self.kind == "determ":
+            return determcheck(self.source, self.data)
+        return check(self.source, self.data, self.units if self.kind == "units" else None)
 
     @functools.cached_property
     def row_names(self) -> list[str]:

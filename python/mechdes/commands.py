@@ -325,42 +325,16 @@ def read(setting: SettingLike, answer: AnswerLike, units: int | None = None) -> 
     return read_answer(read_setting(setting), text, units)
 
 
-def check(setting: SettingLike, answer: AnswerLike) -> Verdict:
-    """Whether what an answer of `solve`, `find` or `iron` claims is so. It uses nothing of the part that searches."""
-    words = ["check", "setting", "answer"]
-    return read_verdict(_printed({0, 20, 22}, words, setting_bytes(setting), answer_bytes(setting, answer)))
+def check(setting: SettingLike, answer: AnswerLike, units: int | None = None) -> Verdict:
+    """Whether what an answer claims is so. It uses nothing of the part that searches.
 
+    units  how many units the answer is about, where it is a text of `units` or `ironunits`; a `UnitsOptimal` says it itself
 
-def requirecheck(setting: SettingLike, answer: AnswerLike) -> Verdict:
-    """Whether what an answer of `require` claims is so. It uses nothing of the part that searches."""
-    words = ["requirecheck", "setting", "answer"]
-    return read_verdict(_printed({0, 20}, words, setting_bytes(setting), answer_bytes(setting, answer)))
-
-
-def faircheck(setting: SettingLike, answer: AnswerLike) -> Verdict:
-    """Whether what an answer of `fair` or `find_fair` claims is so. It uses nothing of the part that searches."""
-    words = ["faircheck", "setting", "answer"]
-    return read_verdict(_printed({0, 20, 22}, words, setting_bytes(setting), answer_bytes(setting, answer)))
-
-
-def asymcheck(setting: SettingLike, answer: AnswerLike) -> Verdict:
-    """Whether what an answer of `asym` claims is so. It uses nothing of the part that searches."""
-    words = ["asymcheck", "setting", "answer"]
-    return read_verdict(_printed({0, 20, 22}, words, setting_bytes(setting), answer_bytes(setting, answer)))
-
-
-def unitcheck(setting: SettingLike, answer: AnswerLike, units: int | None = None) -> Verdict:
-    """Whether what an answer of `units` or `iron_units` claims is so. It uses nothing of the part that searches.
-
-    units  how many units the answer is about; a `UnitsOptimal` says it itself
-
-    Another number than 1 to 12 raises `WordRefused`. Raises `ValueError` where the answer is about another number of units, and
-    where nothing says how many they are.
+    It takes the answers of all commands. Another number of units than 1 to 12 raises `WordRefused`. Raises `ValueError` where the
+    answer is about another number of units.
     """
-    _, number = _units_option(answer, units)
-    if number is None:
-        raise ValueError("nothing says how many units the answer is about: give units=")
-    words = ["unitcheck", "--", "setting", str(number), "answer"]
+    option, _ = _units_option(answer, units)
+    words = ["check", *option, "setting", "answer"]
     return read_verdict(_printed({0, 20, 22}, words, setting_bytes(setting), answer_bytes(setting, answer)))
 
 
@@ -552,10 +526,6 @@ _COMMANDS: tuple[Command, ...] = (
     iron,
     iron_units,
     check,
-    requirecheck,
-    faircheck,
-    asymcheck,
-    unitcheck,
     determcheck,
     audit,
     rows,

@@ -403,7 +403,7 @@ def read_answer(setting: AnySetting, text: str, units: int | None = None) -> Ans
 
 
 def read_verdict(text: str) -> Verdict:
-    """What `check`, `requirecheck`, `faircheck`, `asymcheck`, `unitcheck` or `determcheck` prints."""
+    """What `check` or `determcheck` prints."""
     records = Records(text)
     word = records.word()
     if word not in ("valid", "undecided", "rejected"):
@@ -649,10 +649,6 @@ _ANSWERS = ("solve", "find", "require", "fair", "findfair", "asym", "units", "de
 _OF_SETTINGS: dict[str, Callable[[Any, str], Printed]] = {"realise": read_realised, "report": read_report}
 _ALONE: dict[str, Callable[[str], Printed]] = {
     "check": read_verdict,
-    "requirecheck": read_verdict,
-    "faircheck": read_verdict,
-    "asymcheck": read_verdict,
-    "unitcheck": read_verdict,
     "determcheck": read_verdict,
     "audit": read_audit,
     "rows": read_program,

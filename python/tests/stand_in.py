@@ -18,18 +18,15 @@ from second_opinion import (  # noqa: E402
     auction,
     auction_answer,
     auditing,
-    checking,
     command,
-    fair_checking,
     fairness,
     finding,
+    judging,
     listing,
     mechanisms,
     reporting,
-    require_checking,
     requiring,
     sale_answer,
-    sale_checking,
     selling,
     setting,
     threshold,
@@ -44,6 +41,16 @@ def _read(names: Sequence[str]) -> tuple[setting.Setting, bytes]:
     """A setting, and the bytes of an answer to it, from their files."""
     its = setting.read_setting(command.read_file(names[0], setting.FILE_LIMIT))
     return its, command.read_file(names[1], answer.FILE_LIMIT)
+
+
+def check(words: Sequence[str]) -> Told:
+    """The command `check SETTING ANSWER [--units NUMBER]`, where the answer is judged there."""
+    try:
+        return judging.check(list(words))
+    except Refused as refused:
+        if refused.status == command.BEYOND:
+            raise NotImplementedError(refused.line) from None
+        raise
 
 
 def run(words: Sequence[str]) -> Told:
@@ -94,7 +101,7 @@ def _or_undecided(search: Callable[[Sequence[str]], Told], words: Sequence[str])
     try:
         return search(words)
     except Refused as refused:
-        if refused.status != 1:
+        if refused.status != command.BEYOND:
             raise
         return 22, "undecided\n"
 
@@ -172,11 +179,7 @@ class SecondOpinion:
         "find": find,
         "require": require,
         "findfair": find_fair,
-        "check": checking.check,
-        "requirecheck": require_checking.requirecheck,
-        "faircheck": fair_checking.faircheck,
-        "asymcheck": sale_checking.asymcheck,
-        "unitcheck": unit_checking.unitcheck,
+        "check": check,
         "rows": listing.rows,
         "report": reporting.report,
         "audit": auditing.audit,
@@ -186,7 +189,8 @@ class SecondOpinion:
     }
 
     def call(self, words: Sequence[str], setting: bytes = b"", second: bytes = b"") -> Reply:
-        """Carries out a command. Raises `NotImplementedError` for one that second-opinion/ does not have, another width, or a basis."""
+        """Carries out a command. Raises `NotImplementedError` for one that second-opinion/ does not have, another width, a basis, or a
+        kind of setting that it does not read."""
         name, *rest = words
         if "--width" in rest:
             at = rest.index("--width")

@@ -119,28 +119,28 @@ class Checking(unittest.TestCase):
 
     def test_the_fairest_mechanism_is_checked(self) -> None:
         setting, answer = example("fair-split"), text("fair-split-fairest.csv")
-        self.assertTrue(mechdes.faircheck(setting, answer))
-        rejected = mechdes.faircheck(setting, answer.replace("value,4,5", "value,1,1"))
+        self.assertTrue(mechdes.check(setting, answer))
+        rejected = mechdes.check(setting, answer.replace("value,4,5", "value,1,1"))
         self.assertEqual((bool(rejected), rejected.condition, rejected.numbers), (False, 2, (4, 5)))
 
     def test_the_best_mechanism_of_a_sale_is_checked(self) -> None:
         setting, answer = example("strong-and-weak"), text("strong-and-weak-by-hand.csv")
-        self.assertTrue(mechdes.asymcheck(setting, answer))
-        rejected = mechdes.asymcheck(setting, answer.replace("mass,v3,v4,2,0", "mass,v3,v4,1,1"))
+        self.assertTrue(mechdes.check(setting, answer))
+        rejected = mechdes.check(setting, answer.replace("mass,v3,v4,2,0", "mass,v3,v4,1,1"))
         self.assertEqual((bool(rejected), rejected.condition, rejected.numbers), (False, 9, (1, 1, 2)))
 
     def test_an_answer_about_several_units_is_checked(self) -> None:
         setting, answer = example("seats"), text("seats-three.csv")
-        self.assertTrue(mechdes.unitcheck(setting, answer, units=3))
-        rejected = mechdes.unitcheck(setting, answer.replace("value,484,81", "value,6,1"), units=3)
+        self.assertTrue(mechdes.check(setting, answer, units=3))
+        rejected = mechdes.check(setting, answer.replace("value,484,81", "value,6,1"), units=3)
         self.assertEqual((bool(rejected), rejected.condition, rejected.numbers), (False, 2, (484, 81)))
 
-        with self.assertRaisesRegex(ValueError, "units="):
-            mechdes.unitcheck(setting, answer)
+        with self.assertRaisesRegex(mechdes.AnswerRefused, "line 1: field 3"):
+            mechdes.check(setting, answer)
         read = mechdes.read(setting, answer, units=3)
-        self.assertTrue(mechdes.unitcheck(setting, read))
+        self.assertTrue(mechdes.check(setting, read))
         with self.assertRaisesRegex(ValueError, "about 3 units, not 2"):
-            mechdes.unitcheck(setting, read, units=2)
+            mechdes.check(setting, read, units=2)
 
     @needs_library
     def test_the_tree_of_determ_is_checked(self) -> None:
@@ -476,7 +476,7 @@ class Refused(unittest.TestCase):
             mechdes.AnswerRefused,
             66,
             "answer refused: line 1: field 3",
-            lambda: mechdes.check(example("fair-split"), stored("fair-split-fairest")),
+            lambda: mechdes.check(example("fair-split"), stored("auction-reserve-answer")),
         )
         fair, line = example("fair-split"), "answer refused: no table"
         for command in (mechdes.audit, mechdes.report):
@@ -523,7 +523,7 @@ class Refused(unittest.TestCase):
         self.refuses(mechdes.WordRefused, 67, "number refused", lambda: mechdes.make(-1))
         self.refuses(mechdes.WordRefused, 67, "number refused", lambda: mechdes.units(example("seats"), 13))
         seats, three = example("seats"), stored("seats-three")
-        self.refuses(mechdes.WordRefused, 67, "number refused", lambda: mechdes.unitcheck(seats, three, 0))
+        self.refuses(mechdes.WordRefused, 67, "number refused", lambda: mechdes.check(seats, three, 0))
         self.refuses(mechdes.WordRefused, 67, "pivot 1 refused", lambda: mechdes.replay(setting, [(0, 99)]))
         self.refuses(mechdes.UsageRefused, 64, "usage", lambda: mechdes.solve(setting, width=63))
 
@@ -606,26 +606,26 @@ class Wiring(unittest.TestCase):
             (
                 20,
                 "rejected,2,4,5\n",
-                mechdes.faircheck,
+                mechdes.check,
                 [split, fairest],
                 mechdes.Verdict,
-                (["faircheck", "setting", "answer"], split, fairest.encode()),
+                (["check", "setting", "answer"], split, fairest.encode()),
             ),
             (
                 20,
                 "rejected,9,1,1,2\n",
-                mechdes.asymcheck,
+                mechdes.check,
                 [sale, by_hand],
                 mechdes.Verdict,
-                (["asymcheck", "setting", "answer"], sale, by_hand.encode()),
+                (["check", "setting", "answer"], sale, by_hand.encode()),
             ),
             (
                 20,
                 "rejected,9,1,3,4\n",
-                mechdes.unitcheck,
+                mechdes.check,
                 [auction, "answer,1,units,toowide\n", 2],
                 mechdes.Verdict,
-                (["unitcheck", "--", "setting", "2", "answer"], auction, b"answer,1,units,toowide\n"),
+                (["check", "--units=2", "setting", "answer"], auction, b"answer,1,units,toowide\n"),
             ),
             (
                 20,

@@ -1,4 +1,4 @@
-"""Conditions of the designer: as values, as texts, and what `require` and `requirecheck` give. The commands are those of
+"""Conditions of the designer: as values, as texts, and what `require` and `check` give. The commands are those of
 second-opinion/; the expected numbers are those of the pages of examples/."""
 
 import dataclasses
@@ -36,9 +36,9 @@ class Requiring(unittest.TestCase):
             self.assertIs(type(found), mechdes.Required)
             self.assertEqual((found.value, found.conditions), (value, (Revenue("least", floor, floor.denominator),)))
             self.assertEqual(found.shadows, (shadow,))
-            self.assertTrue(mechdes.requirecheck(setting, found))
+            self.assertTrue(mechdes.check(setting, found))
             kept = stored(f"revenue-floor-{number}-required")
-            self.assertTrue(mechdes.requirecheck(setting, kept))
+            self.assertTrue(mechdes.check(setting, kept))
             read = mechdes.read(setting, kept)
             self.assertEqual((read.value, read.shadows), (value, (shadow,)))
             # What another floor leaves is never more than the shadow says.
@@ -46,7 +46,7 @@ class Requiring(unittest.TestCase):
         found = mechdes.require(setting, [Revenue("least", 2)])
         self.assertEqual((type(found), found.kind, found.conditions), (mechdes.Infeasible, "required", (Revenue("least", 2, 1),)))
         self.assertEqual(found.shadows, ())
-        self.assertTrue(mechdes.requirecheck(setting, found))
+        self.assertTrue(mechdes.check(setting, found))
 
     def test_conditions_may_be_a_path_or_a_text(self) -> None:
         setting, path = example("budget"), stored("budget-4")
@@ -77,7 +77,7 @@ class Requiring(unittest.TestCase):
         self.assertEqual(type(mechdes.require(setting, [Chance(outcome, "most", 1)])), mechdes.Unbounded)
         unbounded = mechdes.require(setting, [Chance(outcome, "most", 1)])
         self.assertEqual((unbounded.conditions, unbounded.shadows), ((Chance(outcome, "most", 1, 1),), ()))
-        self.assertTrue(mechdes.requirecheck(setting, unbounded))
+        self.assertTrue(mechdes.check(setting, unbounded))
         self.assertEqual(mechdes.read(setting, unbounded.text()), unbounded)
 
     def test_the_mechanism_can_be_audited_and_reported(self) -> None:
@@ -99,11 +99,11 @@ class Requiring(unittest.TestCase):
             ("shadow,0,1,4", "shadow,0,2,8", 18, (0, 1, 4)),
             ("shadow,0,1,4\n", "", 18, (0, 1, 4)),
         ):
-            verdict = mechdes.requirecheck(setting, printed.replace(old, new))
+            verdict = mechdes.check(setting, printed.replace(old, new))
             self.assertFalse(verdict)
             self.assertEqual((verdict.condition, verdict.name, verdict.numbers), (condition, None, numbers))
-            self.assertEqual(mechdes.parse("requirecheck", verdict.text()), verdict)
-        verdict = mechdes.requirecheck(setting, printed.replace("pay,low,2", "pay,low,4"))
+            self.assertEqual(mechdes.parse("check", verdict.text()), verdict)
+        verdict = mechdes.check(setting, printed.replace("pay,low,2", "pay,low,4"))
         self.assertEqual((verdict.condition, verdict.name, verdict.numbers), (1, "rational/bidder/low", (-2, 0)))
 
     def test_shadows_that_are_not_told(self) -> None:
@@ -115,16 +115,16 @@ class Requiring(unittest.TestCase):
         printed = printed.replace(back, "row,8,1,0\nrow,9,1,0\n" + back)
         found = mechdes.read(setting, printed)
         self.assertEqual((found.shadows, found.text()), ((Fraction(1, 4), None, None), printed))
-        self.assertTrue(mechdes.requirecheck(setting, found))
+        self.assertTrue(mechdes.check(setting, found))
         for place in (1, 2):
             told = tuple(Fraction(0) if place == other else shadow for other, shadow in enumerate(found.shadows))
-            verdict = mechdes.requirecheck(setting, dataclasses.replace(found, shadows=told))
+            verdict = mechdes.check(setting, dataclasses.replace(found, shadows=told))
             self.assertEqual((verdict.condition, verdict.name, verdict.numbers), (18, None, (place,)))
-            self.assertEqual(mechdes.parse("requirecheck", verdict.text()), verdict)
+            self.assertEqual(mechdes.parse("check", verdict.text()), verdict)
         # The last shadow alone.
         between = printed.replace("row,8,1,0\nrow,9,1,0\n", "").replace(back, "shadow,2,0,1\n")
         self.assertEqual(mechdes.read(setting, between).shadows, (None, None, 0))
-        self.assertEqual(mechdes.requirecheck(setting, between).numbers, (0, 1, 4))
+        self.assertEqual(mechdes.check(setting, between).numbers, (0, 1, 4))
 
     def test_refusals(self) -> None:
         setting = example("budget")

@@ -472,7 +472,7 @@ class Rejections(unittest.TestCase):
                 self.assertEqual(facts(explained("two-goods-rule"), "rejection")[0], expected)
 
     def test_a_rejected_level(self) -> None:
-        with calling(Changed(faircheck=replying(20, "rejected,11,4611686018427387904\n"))):
+        with calling(Changed(check=replying(20, "rejected,11,4611686018427387904\n"))):
             (told,) = facts(explained("fair-split-fairest"), "rejection")
         self.assertEqual(told, "What the agent that gets least gets is a number of more than 62 bits, which is not checked.")
 

@@ -129,7 +129,7 @@ class Scales(unittest.TestCase):
         auction = mechdes.Auction(bidders=seats.bidders, values=half, weights=seats.weights)
         several = mechdes.read(auction, stored("seats-three"), units=3)
         self.assertEqual((several.value, list(several.odds)), (Fraction(242, 81), half))
-        self.assertTrue(mechdes.unitcheck(auction, several))
+        self.assertTrue(mechdes.check(auction, several))
         drawn = mechdes.draw(auction, several, [half[0]] * auction.bidders)
         self.assertEqual(set(drawn.payments.values()), {several.pays[half[0]]})
 
@@ -151,7 +151,7 @@ class Scales(unittest.TestCase):
             found = mechdes.require(setting, conditions).best()
             self.assertEqual((found.value, found.shadows), (value, (Fraction(1, 4), 0)))
             self.assertEqual([condition.bound for condition in found.conditions], [Fraction(budget), Fraction(1, 10)])
-            self.assertTrue(mechdes.requirecheck(setting, found))
+            self.assertTrue(mechdes.check(setting, found))
             self.assertEqual(mechdes.read(setting, found.text()), found)
             told = mechdes.report(setting, found)
             self.assertEqual([(standing.met, standing.scale) for standing in told.conditions], [(True, 4), (True, 1)])

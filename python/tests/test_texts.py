@@ -296,7 +296,7 @@ class Made(Texts):
             ("rejected,18,2", False),
         ):
             with self.subTest(printed):
-                for command in ("check", "requirecheck", "faircheck", "asymcheck", "unitcheck", "determcheck"):
+                for command in ("check", "determcheck"):
                     found = self.again(command, printed + "\n")
                     self.assertEqual((bool(found), str(found)), (truth, printed))
         self.assertFalse(self.again("audit", "broken,deficit/low+low,-2,0\n"))

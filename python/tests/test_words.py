@@ -57,7 +57,7 @@ class Words(unittest.TestCase):
             (["units", setting, "--width=30", "3"], (["units", "setting", "--width=30", "3"], first, b"")),
             (["find", "--from", answer, setting], (["find", "--from", "basis", "setting"], first, second)),
             (["find", setting, f"--from={answer}"], (["find", "setting", "--from=basis"], first, second)),
-            (["unitcheck", "--", setting, "3", answer], (["unitcheck", "--", "setting", "3", "answer"], first, second)),
+            (["check", "--units=3", "--", setting, answer], (["check", "--units=3", "--", "setting", "answer"], first, second)),
             (
                 ["run", setting, answer, "3,2,2,1,2", "0", "0", "--units", "3"],
                 (["run", "setting", "answer", "3,2,2,1,2", "0", "0", "--units", "3"], first, second),

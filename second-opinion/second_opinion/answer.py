@@ -172,6 +172,11 @@ class Records:
             self.refuse("record")
 
 
+def kind_of(data: bytes) -> str:
+    """The third field of the first line, as it stands there, which tells what answer it is; nothing where there is none."""
+    return b"".join(data.split(b"\n", 1)[0].split(b",")[2:3]).decode("utf-8", "replace")
+
+
 def begun(data: bytes, kind: str, words: Mapping[str, Iterable[str]]) -> tuple[Records, str, str]:
     """The records of an answer about a setting of a kind, of which the first is read: the records, its word, which is one
     of those that `words` has for the version, and the version."""

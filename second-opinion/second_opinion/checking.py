@@ -6,7 +6,7 @@ the multipliers weigh the rows of the linear program, and their sums bound the v
 
 from fractions import Fraction
 
-from second_opinion import answer, auction, auction_answer, command, setting
+from second_opinion import auction
 from second_opinion.answer import Answer, InfeasibleAnswer, Mechanism, OptimalAnswer, Pair, UnboundedAnswer
 from second_opinion.auction_answer import AuctionAnswer
 from second_opinion.program import Program, broken, point_of, program_of, sum_over, value_of
@@ -15,16 +15,6 @@ from second_opinion.setting import AuctionSetting, GeneralSetting, Setting
 
 Failed = tuple[int | str, ...]  # the number of a condition, with what is printed
 UNDECIDED = (22, "undecided")
-
-
-def check(words: list[str]) -> tuple[int, str]:
-    """The command `check SETTING ANSWER`. The setting is read and refused before the answer is opened."""
-    setting_name, answer_name = command.file_names(words, 2)
-    its = setting.read_setting(command.read_file(setting_name, setting.FILE_LIMIT))
-    data = command.read_file(answer_name, answer.FILE_LIMIT)
-    said = auction_answer.read_answer(data, its) if isinstance(its, AuctionSetting) else answer.read_answer(data, its)
-    status, line = verdict(its, said)
-    return status, line + "\n"
 
 
 def verdict(its: Setting, said: Answer | AuctionAnswer) -> tuple[int, str]:

@@ -1,17 +1,19 @@
 """What the commands of this folder share: their words, the files they read, and how they end.
 
 The statuses are those of mechdes: 64 for words that are no command, 65 and 66 for a refused file, 70 for one that cannot
-be read, 71 where the answer cannot be written, 72 for want of memory.
+be read, 71 where the answer cannot be written, 72 for want of memory. One is not: 1 for what cannot be done here.
 """
 
 import os
 import re
 import sys
 from collections.abc import Callable
+from pathlib import Path
 from typing import NoReturn
 
 from second_opinion.setting import Refused
 
+BEYOND = 1  # the status for what cannot be done here
 Command = Callable[[list[str]], tuple[int, str]]  # from words to a status and a text
 
 
@@ -84,13 +86,13 @@ def outcome(command: Command, words: list[str]) -> tuple[int, str, str | None]:
 
 def run(command: Command, name: str = "mechdes") -> NoReturn:
     """Runs a command as a program, by the words of the call. The name begins the line on standard error: that of mechdes
-    where the two are alike."""
+    where the two are alike, and that of the command where mechdes does what cannot be done here."""
     status, text, line = outcome(command, sys.argv[1:])
     try:
         sys.stdout.buffer.write(text.encode("utf-8", "replace"))
         sys.stdout.flush()
         if line is not None:
-            sys.stderr.write(f"{name}: {line}\n")
+            sys.stderr.write(f"{Path(sys.argv[0]).name if status == BEYOND else name}: {line}\n")
     except OSError:
         os.dup2(os.open(os.devnull, os.O_WRONLY), sys.stdout.fileno())  # Python writes the rest once more at its end
         status = 71

@@ -4,21 +4,11 @@ checked", by the fair program.
 
 from fractions import Fraction
 
-from second_opinion import answer, checking, command, setting
+from second_opinion import checking
 from second_opinion.answer import GREATEST, Answer, InfeasibleAnswer, Mechanism, OptimalAnswer, UnboundedAnswer
 from second_opinion.checking import Failed
 from second_opinion.program import Program, add_gain, broken, divided, gain, point_of, program_of
-from second_opinion.setting import AuctionSetting, GeneralSetting, Refused
-
-
-def faircheck(words: list[str]) -> tuple[int, str]:
-    """The command `faircheck SETTING ANSWER`. The setting is read and refused before the answer is opened."""
-    setting_name, answer_name = command.file_names(words, 2)
-    its = setting.read_setting(command.read_file(setting_name, setting.FILE_LIMIT))
-    if isinstance(its, AuctionSetting):
-        raise Refused(65, "setting refused: other kind")
-    status, line = verdict(its, answer.read_fair_answer(command.read_file(answer_name, answer.FILE_LIMIT), its))
-    return status, line + "\n"
+from second_opinion.setting import GeneralSetting
 
 
 def verdict(its: GeneralSetting, said: Answer) -> tuple[int, str]:

@@ -2,7 +2,7 @@
 
 The settings are the general ones of examples/ and bench/settings, twelve sorts of twenty each, and small ones of all kinds. The
 seeds are fixed, so that they are the same at each call. Each answer of `find` has to be valid to `check` of mechdes and of this
-folder, and each of `findfair` to both `faircheck`. Where the other command has an answer, kind and value have to be the same.
+folder, and so has each of `findfair`. Where the other command has an answer, kind and value have to be the same.
 
 For each sort a line tells how many settings there are, how many of them the search answers and how many the walk (`solve` or
 `fair`), and the median and the greatest seconds of the processor that the search took. Settings of which something is wrong are
@@ -18,7 +18,7 @@ from collections.abc import Callable, Iterable, Iterator
 from pathlib import Path
 from typing import NamedTuple, NoReturn
 
-from second_opinion import checking, command, fair_checking, finding, generate, setting
+from second_opinion import command, finding, generate, judging, setting
 from second_opinion.measure import processor_seconds, run
 from second_opinion.places import TOP, needed_program
 from second_opinion.setting import GeneralSetting
@@ -34,16 +34,14 @@ Faults = Callable[[Path, Path], Iterator[str]]  # from a setting and an answer t
 
 
 class Words(NamedTuple):
-    """A command that searches, the one that walks, and the checker of both, as the program and as this folder has it."""
+    """A command that searches, and the one that walks."""
 
     search: str
     walk: str
-    check: str
-    checked: command.Command
 
 
-BEST = Words("find", "solve", "check", checking.check)
-FAIREST = Words("findfair", "fair", "faircheck", fair_checking.faircheck)
+BEST = Words("find", "solve")
+FAIREST = Words("findfair", "fair")
 
 
 class Sort(NamedTuple):
@@ -133,11 +131,11 @@ class Comparison:
         settings."""
 
         def faults(toml: Path, csv: Path) -> Iterator[str]:
-            status, printed = run(self.path, words.check, toml, csv)
+            status, printed = run(self.path, "check", toml, csv)
             theirs = status, printed.decode(), None
-            for who, verdict in [("mechdes", theirs), ("here", command.outcome(words.checked, [str(toml), str(csv)]))]:
+            for who, verdict in [("mechdes", theirs), ("here", command.outcome(judging.check, [str(toml), str(csv)]))]:
                 if verdict != (0, "valid\n", None):
-                    yield f"{words.check} {who}: {verdict}"
+                    yield f"check {who}: {verdict}"
             for other in others:
                 yield from other(toml, csv)
 

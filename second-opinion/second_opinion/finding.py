@@ -39,7 +39,7 @@ def written_answer(its: GeneralSetting, found: FoundAnswer, kind: str) -> tuple[
 def written(status: int, is_wide: bool, text: str) -> tuple[int, str]:
     """The status and the text, where a file can hold the answer."""
     if is_wide:
-        raise setting.Refused(1, "a number of the answer has more than 62 bits")
+        raise setting.Refused(command.BEYOND, "a number of the answer has more than 62 bits")
     return status, text
 
 

@@ -2,11 +2,11 @@
 
 Answers of examples/, and of small auctions made at random, are taken and changed: a number, a record, a byte, or the
 mechanism as a whole. `mechdes check` and `check` get the same two files, and what they print, their lines on standard
-error and their statuses must be the same; of answers about the fairest mechanism, found here for the settings of examples/,
-the same of `faircheck`; of answers about several units, found here for the small auctions, of `unitcheck`; and of answers about
-sales, made at random, of `asymcheck`. So with settings that were changed, with those at the limits of size, and with all
-settings and answers of examples/ and bench/settings as they are; of the settings, what `rows` prints is compared too. The
-changes are the same at each call.
+error and their statuses must be the same. So with answers about the fairest mechanism, found here for the settings of
+examples/, about several units, found here for the small auctions, and about sales, made at random; with settings that were
+changed, with those at the limits of size, and with all settings and answers of examples/ and bench/settings as they are,
+but for answers of `determ`, which are not judged here. Of the settings, what `rows` prints is compared too. The changes are
+the same at each call.
 PROGRAM is mechdes's program: this word, the variable MECHDES, or the one that the repository's tests build. The commands
 of this folder run inside this process, and each hundredth time as a process of their own too. Pairs on which the two
 differ are kept in a folder, which is named. A run that was broken off is taken up again with FROM, the number of files that
@@ -25,18 +25,16 @@ from typing import NoReturn
 
 from second_opinion import (
     answer,
-    checking,
     command,
     fair_checking,
     fairness,
     finding,
+    judging,
     listing,
     mutate_auctions,
     mutate_sales,
     program,
-    sale_checking,
     setting,
-    unit_checking,
 )
 from second_opinion.places import FOLDER, TOP, needed_program
 
@@ -47,6 +45,7 @@ UNITS = 1000
 SETTINGS = 1000
 AUCTIONS = 30
 SALES = 40
+GROUPED = 500
 TOKENS = ["0", "1", "-1", "2", "-0", "+1", "01", "", " ", "x", "1.0", "end", "row", "lottery", "mass", "cut", "again",
           '"1"', '"', "1000", str(2**62 - 1), str(2**62), str(-(2**62)), str(1 - 2**62), str(2**126 - 1),
           str(2**126), str(2**32), "9" * 60]
@@ -91,6 +90,8 @@ def main() -> None:
         units, toml, csv = numbers.choice(sold)
         changed = changed_answer(numbers, toml, csv, units)
         comparison.compare_units("answer about units", units + numbers.choice([0, 0, 0, 0, 1, -1]), toml, changed)
+    for _ in range(GROUPED):
+        comparison.compare_rows("setting with groups of bidders", changed_setting(numbers, mutate_auctions.GROUPED))
     comparison.report()
 
 
@@ -158,26 +159,19 @@ class Comparison:
         self.differ = 0
 
     def compare(self, sort: str, toml: bytes, csv: bytes) -> None:
-        """Compares `check` on two files, `faircheck` where the second one is about the fairest mechanism, or `asymcheck` where
-        it is about a sale."""
-        if is_fairest(csv):
-            self.compare_command(sort, "faircheck", fair_checking.faircheck, [toml, csv])
-        elif is_sold(csv):
-            self.compare_command(sort, "asymcheck", sale_checking.asymcheck, [toml, csv])
-        else:
-            self.compare_command(sort, "check", checking.check, [toml, csv])
+        """Compares `check` on two files."""
+        self.compare_command(sort, "check", judging.check, [toml, csv])
 
     def compare_units(self, sort: str, units: int, toml: bytes, csv: bytes) -> None:
-        """Compares `unitcheck` of so many units on two files."""
-        self.compare_command(sort, "unitcheck", unit_checking.unitcheck, [toml, csv], str(units))
+        """Compares `check` of so many units on two files."""
+        self.compare_command(sort, "check", judging.check, [toml, csv], "--units", str(units))
 
     def compare_rows(self, sort: str, toml: bytes) -> None:
         """Compares `rows` on a setting."""
         self.compare_command(sort, "rows", listing.rows, [toml])
 
     def compare_command(self, sort: str, word: str, function: command.Command, contents: list[bytes], *others: str) -> None:
-        """Compares a command on files with these contents, and keeps them where it differs. Other words stand behind the name of the
-        first one."""
+        """Compares a command on files with these contents, and keeps them where it differs. Other words stand behind their names."""
         self.number += 1
         if self.number <= self.passed:
             return
@@ -186,9 +180,11 @@ class Comparison:
         names = [str(self.folder / f"{self.differ}.{end}") for end in ["toml", "csv"][: len(contents)]]
         for name, content in zip(names, contents):
             pathlib.Path(name).write_bytes(content)
-        words = [names[0], *others, *names[1:]]
-        theirs = run([self.path, word, *words])
+        words = [*names, *others]
         status, text, line = command.outcome(function, words)
+        if status == command.BEYOND:
+            return
+        theirs = run([self.path, word, *words])
         ours = status, text, "" if line is None else f"mechdes: {line}\n"
         if self.number % 100 == 0 and ours != run([FOLDER / word, *words]):
             sys.exit(f"mutate: {word} {words}: another outcome as a process of its own")

@@ -7,6 +7,24 @@ from second_opinion import auction, auction_answer, auction_finding
 from second_opinion.auction_answer import AuctionAnswer
 from second_opinion.setting import AuctionSetting
 
+GROUPED = b"""format = "mechanism-setting"
+version = 3
+kind = "bidders"
+slots = [10, 4, 4]
+revenue = 1
+welfare = 1
+keep = 0
+[[bidder]]
+name = "shoes"
+count = 2
+values = [-4, 6]
+weights = [1, 3]
+worth = 0
+[[bidder]]
+name = "books"
+values = [2, 5, 7]
+weights = [2, 1, 1]
+"""
 UNITS_TOO_WIDE = b"answer,1,units,toowide\ncut,1\npivot,0,1\nwide,1,2,5,3\nagain\nwide,0,0,7,1\nend\n"
 TOO_WIDE = [b"answer,1,auction,toowide\ncut,1\npivot,0,1\nwide,1,2,-9223372036854775808,3\nend\n",
             b"answer,2,auction,toowide\ncut,1\npivot,0,1\npivot,1,0\nwide,1,2,5,3\nagain\nwide,0,0,7,1\nend\n"]

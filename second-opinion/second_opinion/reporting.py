@@ -7,19 +7,7 @@ and so of an auction, of an answer, also of one about several units, or of an au
 from collections.abc import Callable, Iterable, Iterator, Sequence
 from fractions import Fraction
 
-from second_opinion import (
-    answer,
-    auction,
-    auction_answer,
-    command,
-    mechanisms,
-    program,
-    sale_answer,
-    sale_checking,
-    selling,
-    setting,
-    unit_checking,
-)
+from second_opinion import answer, auction, auction_answer, mechanisms, program, sale_answer, sale_checking, selling, unit_checking
 from second_opinion.answer import Mechanism
 from second_opinion.auction import Interim
 from second_opinion.auction_answer import AuctionAnswer
@@ -32,21 +20,14 @@ DONE, VIOLATED = 0, 21
 
 
 def report(words: list[str]) -> tuple[int, str]:
-    """The command `report SETTING ANSWER [--units NUMBER]`. The number is refused first; the setting is read and refused before the
-    answer is opened."""
-    names, number = command.taken_option(words, "--units")
-    setting_name, answer_name = command.file_names(names, 2)
-    units = None if number is None else unit_checking.units_of(number)
-    its = setting.read_setting(command.read_file(setting_name, setting.FILE_LIMIT))
-    if units is not None and not isinstance(its, AuctionSetting):
-        raise Refused(65, "setting refused: other kind")
-    data = command.read_file(answer_name, answer.FILE_LIMIT)
-    if units is not None and isinstance(its, AuctionSetting):
-        status, records = DONE, unit_records(its, units, data)
-    elif isinstance(its, AuctionSetting):
+    """The command `report SETTING ANSWER [--units NUMBER]`."""
+    its, units, data = unit_checking.files_of(words)
+    if isinstance(its, GeneralSetting):
+        status, records = DONE, general_report(its, data)
+    elif units is None:
         status, records = auction_report(its, data)
     else:
-        status, records = DONE, general_report(its, data)
+        status, records = DONE, unit_records(its, units, data)
     return status, "".join(",".join(map(str, record)) + "\n" for record in records)
 
 

@@ -5,7 +5,7 @@ checked", by the rows of the setting and then those of the designer's conditions
 from collections.abc import Sequence
 from fractions import Fraction
 
-from second_opinion import answer, checking, command, required_answer, setting
+from second_opinion import checking, command, setting
 from second_opinion.answer import GREATEST, InfeasibleAnswer, Mechanism, OptimalAnswer, Pair, UnboundedAnswer
 from second_opinion.checking import Failed
 from second_opinion.conditions import (
@@ -19,15 +19,6 @@ from second_opinion.conditions import (
 from second_opinion.program import broken, objective_of, point_of, sum_over, value_of
 from second_opinion.required_answer import RequiredAnswer
 from second_opinion.setting import AuctionSetting, GeneralSetting, Refused
-
-
-def requirecheck(words: list[str]) -> tuple[int, str]:
-    """The command `requirecheck SETTING ANSWER`. The setting is read and refused before the answer is opened."""
-    setting_name, answer_name = command.file_names(words, 2)
-    its = general_setting(setting_name)
-    said = required_answer.read_required(command.read_file(answer_name, answer.FILE_LIMIT), its)
-    status, line = verdict(its, said)
-    return status, line + "\n"
 
 
 def general_setting(name: str) -> GeneralSetting:

@@ -1,11 +1,11 @@
-"""Compares `require` and `requirecheck` of mechdes with those of this folder, and has the answers of both checked by both.
+"""Compares `require` and `check` of mechdes with those of this folder, and has the answers of both checked by both.
 
     second-opinion/require --compare [PROGRAM [COUNT]]
 
 The settings are small ones of all kinds, each with up to four conditions whose bounds lie near what the best mechanism does
 without them. The seed is fixed, so that they are the same at each call. The statuses and the values have to be the same, and each
-answer of the two has to be valid to `requirecheck` of mechdes and of this folder. Where mechdes finds nothing, that is counted.
-Then answers and conditions are changed: of an answer `requirecheck` of both has to say the same, to the byte, and of conditions
+answer of the two has to be valid to `check` of mechdes and of this folder. Where mechdes finds nothing, that is counted.
+Then answers and conditions are changed: of an answer `check` of both has to say the same, to the byte, and of conditions
 `require`, where they are refused. Settings of which something is wrong are kept in a folder, which is named, and the status is 1.
 The program is that of the variable MECHDES, or the one that the repository's tests build.
 """
@@ -20,7 +20,7 @@ from fractions import Fraction
 from pathlib import Path
 from typing import NoReturn
 
-from second_opinion import command, conditions, finding, generate, mutate, require_checking, required_answer, requiring
+from second_opinion import command, conditions, finding, generate, judging, mutate, required_answer, requiring
 from second_opinion.answer import InfeasibleAnswer, OptimalAnswer, UnboundedAnswer
 from second_opinion.conditions import DesignerCondition
 from second_opinion.find_compare import UNDECIDED, Told, claim
@@ -107,12 +107,12 @@ def tells_conditions(answer: bytes, asked: bytes) -> bool:
 
 def unchecked(path: str, files: Files) -> Iterator[str]:
     """What one of the two checkers has against an answer."""
-    told: Told = run(path, "requirecheck", files.toml, files.answer)
+    told: Told = run(path, "check", files.toml, files.answer)
     if told != (0, b"valid\n"):
-        yield f"requirecheck of mechdes: {told}"
-    said = command.outcome(require_checking.requirecheck, [str(files.toml), str(files.answer)])
+        yield f"check of mechdes: {told}"
+    said = command.outcome(judging.check, [str(files.toml), str(files.answer)])
     if said != (0, "valid\n", None):
-        yield f"requirecheck here: {said}"
+        yield f"check here: {said}"
 
 
 def compared_changes(
@@ -124,10 +124,10 @@ def compared_changes(
     found = requiring.found_under(its, conditions.read_conditions(asked.encode(), its))
     for _ in range(CHANGES):
         files.answer.write_bytes(changed_answer(numbers, its, found))
-        theirs, ours = both(path, "requirecheck", require_checking.requirecheck, [files.toml, files.answer])
-        counts[f"requirecheck of a changed answer: {ours[0]} {mutate.short(ours[1] + ours[2])}"] += 1
+        theirs, ours = both(path, "check", judging.check, [files.toml, files.answer])
+        counts[f"check of a changed answer: {ours[0]} {mutate.short(ours[1] + ours[2])}"] += 1
         if theirs != ours:
-            yield f"requirecheck {files.answer}: mechdes {theirs}, here {ours}"
+            yield f"check {files.answer}: mechdes {theirs}, here {ours}"
             return
     for _ in range(CHANGES):
         files.conditions.write_bytes(changed_text(numbers, asked))

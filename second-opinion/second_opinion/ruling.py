@@ -20,7 +20,7 @@ def rule(words: list[str]) -> tuple[int, str]:
     if isinstance(its, AuctionSetting):
         raise Refused(65, "setting refused: other kind")
     if len(its.outcomes) ** its.profile_count() > MOST_RULES:
-        raise Refused(1, "there are too many rules to try")
+        raise Refused(command.BEYOND, "there are too many rules to try")
     try:
         value = best_value(its)
     except Unbounded:

@@ -4,25 +4,13 @@ answer is checked", by the program of the sale with the answer's cuts.
 
 from fractions import Fraction
 
-from second_opinion import answer, auction, checking, command, sale_answer, selling, setting
+from second_opinion import auction, checking
 from second_opinion.answer import Pair, TooWideAnswer
 from second_opinion.auction import Interim
 from second_opinion.checking import Failed
 from second_opinion.program import Program, divided, sum_over
 from second_opinion.sale_answer import SaleAnswer, pairs_of
-from second_opinion.setting import AuctionSetting, GeneralSetting, Refused
-
-
-def asymcheck(words: list[str]) -> tuple[int, str]:
-    """The command `asymcheck SETTING ANSWER`. The setting is read and refused before the answer is opened."""
-    setting_name, answer_name = command.file_names(words, 2)
-    its = setting.read_setting(command.read_file(setting_name, setting.FILE_LIMIT))
-    if isinstance(its, AuctionSetting):
-        raise Refused(65, "setting refused: other kind")
-    if next(selling.failing(its), None) is not None:
-        raise Refused(65, "setting refused: not a sale")
-    status, line = verdict(its, sale_answer.read_answer(command.read_file(answer_name, answer.FILE_LIMIT), its))
-    return status, line + "\n"
+from second_opinion.setting import GeneralSetting
 
 
 def verdict(its: GeneralSetting, said: SaleAnswer | TooWideAnswer) -> tuple[int, str]:

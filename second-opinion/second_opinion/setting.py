@@ -133,6 +133,28 @@ class AuctionSetting:
 Setting = GeneralSetting | AuctionSetting
 
 
+@dataclass
+class Group:
+    """So many bidders who each have one of `values` by the same `weights`."""
+
+    name: str
+    count: int
+    values: list[int]
+    weights: list[int]
+    worth: int
+
+
+@dataclass
+class GroupedSetting:
+    """An auction of slots, each with an amount, among groups of bidders."""
+
+    slots: list[int]
+    revenue: int
+    welfare: int
+    keep: int
+    groups: list[Group]
+
+
 def is_text(value: object) -> bool:
     return isinstance(value, str)
 
@@ -186,15 +208,20 @@ class Table:
 
 
 def read_setting(data: bytes) -> Setting:
-    """The setting that the bytes of a file state, or `Refused`."""
+    """The setting that the bytes of a file state, or `Refused`. No command serves an auction with groups of bidders."""
     if len(data) > FILE_LIMIT:
         refuse("too long")
     top = Table(read_toml(data))
     top.take("format", is_text, required=True, words=["mechanism-setting"])
-    version = top.take("version", is_integer, required=True, words=[1, 2])
-    if top.take("kind", is_text, required=True, words=["general", "auction"]) == "general":
+    versions = [1, 2, 3] if top.entries.get("kind") == "bidders" else [1, 2]
+    version = top.take("version", is_integer, required=True, words=versions)
+    kind = top.take("kind", is_text, required=True, words=["bidders"] if version == 3 else ["general", "auction"])
+    if kind == "general":
         return read_general(top, version)
-    return read_auction(top)
+    if kind == "auction":
+        return read_auction(top)
+    read_grouped(top)
+    refuse("other kind")
 
 
 def read_toml(data: bytes) -> dict[str, Any]:
@@ -360,3 +387,75 @@ def read_auction(top: Table) -> AuctionSetting:
     if sum(weights) ** bidders > 10**12 or math.comb(bidders + len(values) - 1, bidders) > 20_000:
         refuse("too many counts")
     return AuctionSetting(bidders, values, weights, revenue, welfare, keep)
+
+
+def read_grouped(top: Table) -> GroupedSetting:
+    """An auction with groups of bidders, from its top table."""
+    slots = top.take("slots", list_of(is_integer), default=[1])
+    revenue = top.take("revenue", is_integer, default=1)
+    welfare = top.take("welfare", is_integer, default=0)
+    keep = top.take("keep", is_integer, default=0)
+    tables = [Table(entries, "bidder.") for entries in top.take("bidder", list_of(is_table), required=True)]
+    groups = [read_group(table) for table in tables]
+    if any(table.has_unknown_key() for table in [top, *tables]):
+        refuse("unknown key")
+    setting = GroupedSetting(slots, revenue, welfare, keep, groups)
+    check_grouped(setting)
+    return setting
+
+
+def read_group(table: Table) -> Group:
+    """One group of bidders."""
+    name = table.take("name", is_text, required=True)
+    count = table.take("count", is_integer, default=1)
+    values = table.take("values", list_of(is_integer), required=True)
+    weights = table.take("weights", list_of(is_integer), required=True)
+    return Group(name, count, values, weights, table.take("worth", is_integer, default=0))
+
+
+def check_grouped(setting: GroupedSetting) -> None:
+    """Refuses an auction with groups whose contents break a condition: the first of them, in the order of the format."""
+    groups, slots = setting.groups, setting.slots
+    if not all(is_name(group.name) for group in groups):
+        refuse("bad name")
+    if len({group.name for group in groups}) < len(groups):
+        refuse("double name")
+    if not has_sizes(setting):
+        refuse("sizes")
+    if any(len(group.weights) != len(group.values) for group in groups):
+        refuse("shape")
+    if not is_grouped_in_range(setting):
+        refuse("out of range")
+    if any(0 in group.weights for group in groups):
+        refuse("zero weight")
+    if any(sum(group.weights) > MILLION * math.gcd(*group.weights) for group in groups):
+        refuse("weight total")
+    if any(first >= second for group in groups for first, second in itertools.pairwise(group.values)):
+        refuse("values order")
+    if any(first < second for first, second in itertools.pairwise(slots)):
+        refuse("slots order")
+
+
+def has_sizes(setting: GroupedSetting) -> bool:
+    """Whether there are as many groups, bidders, values and slots as there may be."""
+    groups = setting.groups
+    return (
+        1 <= len(groups) <= 64
+        and all(1 <= group.count <= 1000 and 1 <= len(group.values) <= 64 for group in groups)
+        and sum(group.count for group in groups) <= 1000
+        and 1 <= len(setting.slots) <= 1000
+    )
+
+
+def is_grouped_in_range(setting: GroupedSetting) -> bool:
+    """Whether each number of an auction with groups is within its limit."""
+    values = [value for group in setting.groups for value in group.values]
+    return (
+        all(1 <= amount <= 1000 for amount in setting.slots)
+        and 0 <= setting.revenue <= 1000
+        and abs(setting.welfare) <= 1000
+        and abs(setting.keep) <= MILLION
+        and all(abs(value) <= MILLION and abs(setting.welfare * value) <= 10 * MILLION for value in values)
+        and all(0 <= weight <= MILLION for group in setting.groups for weight in group.weights)
+        and all(abs(group.worth) <= MILLION for group in setting.groups)
+    )

@@ -2,24 +2,24 @@
 the reduced program of so many units.
 """
 
-from second_opinion import answer, auction_answer, checking, command, setting
+from second_opinion import answer, checking, command, setting
 from second_opinion.answer import TooWideAnswer
 from second_opinion.auction_answer import AuctionAnswer
-from second_opinion.setting import AuctionSetting, Refused
+from second_opinion.setting import AuctionSetting, Refused, Setting
 
 MOST_UNITS = 12
 
 
-def unitcheck(words: list[str]) -> tuple[int, str]:
-    """The command `unitcheck SETTING NUMBER ANSWER`. The number is refused first, then the setting, then the answer."""
-    setting_name, number, answer_name = command.file_names(words, 3)
-    units = units_of(number)
+def files_of(words: list[str]) -> tuple[Setting, int | None, bytes]:
+    """What the words `SETTING ANSWER [--units NUMBER]` name: a setting, the number of units or None, and the bytes of an answer. The
+    number is refused first, and the setting before the answer is opened."""
+    names, number = command.taken_option(words, "--units")
+    setting_name, answer_name = command.file_names(names, 2)
+    units = None if number is None else units_of(number)
     its = setting.read_setting(command.read_file(setting_name, setting.FILE_LIMIT))
-    if not isinstance(its, AuctionSetting):
+    if units is not None and not isinstance(its, AuctionSetting):
         raise Refused(65, "setting refused: other kind")
-    said = auction_answer.read_unit_answer(command.read_file(answer_name, answer.FILE_LIMIT), its, units)
-    status, line = verdict(its, units, said)
-    return status, line + "\n"
+    return its, units, command.read_file(answer_name, answer.FILE_LIMIT)
 
 
 def units_of(text: str) -> int:

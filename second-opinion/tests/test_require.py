@@ -13,7 +13,7 @@ import unittest.mock
 from fractions import Fraction
 from pathlib import Path
 
-from second_opinion import command, conditions, generate, require_checking, require_compare, required_answer, requiring
+from second_opinion import command, conditions, generate, judging, require_checking, require_compare, required_answer, requiring
 from second_opinion.answer import OptimalAnswer
 from second_opinion.finding import found_answer
 from second_opinion.places import EXAMPLES, FOLDER
@@ -565,16 +565,18 @@ class Commands(unittest.TestCase):
         self.assertEqual((status, line), (0, None))
         self.assertEqual(text, "\n".join([*OPTIMAL, "end"]) + "\n")
         answered = self.write("answered", text)
-        self.assertEqual(command.outcome(require_checking.requirecheck, [setting, answered]), (0, "valid\n", None))
+        self.assertEqual(command.outcome(judging.check, [setting, answered]), (0, "valid\n", None))
         beyond = self.write("beyond", "require,1", "revenue,least,2,1", "end")
         self.assertEqual(command.outcome(requiring.require, [setting, beyond])[0], 10)
+        said = command.outcome(requiring.require, [auction, "no-such-file"])
+        self.assertEqual(said, (65, "", "setting refused: other kind"))
+        self.assertEqual(command.outcome(judging.check, [auction, answered]), (66, "", "answer refused: line 1: field 3"))
         for words, status, line in (
-            ([auction, "no-such-file"], 65, "setting refused: other kind"),
             ([setting, "no-such-file"], 70, "read fault"),
             ([setting, setting], 66, "answer refused: line 1: record"),
             ([setting], 64, "usage"),
         ):
-            for of in (requiring.require, require_checking.requirecheck):
+            for of in (requiring.require, judging.check):
                 self.assertEqual(command.outcome(of, words), (status, "", line))
 
     def test_each_stored_answer_is_valid_and_found_anew(self):
@@ -583,7 +585,7 @@ class Commands(unittest.TestCase):
         for name in names:
             setting, asked = str(EXAMPLES / f"{name.rpartition('-')[0]}.toml"), str(EXAMPLES / f"{name}.csv")
             stored = EXAMPLES / f"{name}-required.csv"
-            said = command.outcome(require_checking.requirecheck, [setting, str(stored)])
+            said = command.outcome(judging.check, [setting, str(stored)])
             self.assertEqual(said, (0, "valid\n", None), name)
             _, text, _ = command.outcome(requiring.require, [setting, asked])
             # The mechanism and the multipliers may be others.
@@ -598,8 +600,8 @@ class Commands(unittest.TestCase):
             program.write_text(f"""#!/usr/bin/env python3
 import sys
 sys.path.insert(0, {str(FOLDER)!r})
-from second_opinion import command, require_checking, requiring
-of = {{"require": requiring.require, "requirecheck": require_checking.requirecheck}}[sys.argv[1]]
+from second_opinion import command, judging, requiring
+of = {{"require": requiring.require, "check": judging.check}}[sys.argv[1]]
 status, told, line = command.outcome(of, sys.argv[2:])
 print(told{text}, end="")
 print("" if line is None else f"mechdes: {{line}}\\n", end="", file=sys.stderr)

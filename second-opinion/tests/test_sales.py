@@ -1,9 +1,9 @@
-"""Tries `asymcheck` and `report` on an answer that was worked out by hand, with one thing changed at a time."""
+"""Tries `check` and `report` on an answer about a sale that was worked out by hand, with one thing changed at a time."""
 
 import tempfile
 import unittest
 
-from second_opinion import command, reporting, sale_checking
+from second_opinion import command, judging, reporting
 from second_opinion.places import EXAMPLES
 
 SETTING = EXAMPLES / "strong-and-weak.toml"
@@ -49,8 +49,8 @@ REFUSED = [
 ]
 
 
-def told(text, setting=SETTING, function=sale_checking.asymcheck):
-    """What `asymcheck`, or another command, comes to of an answer."""
+def told(text, setting=SETTING, function=judging.check):
+    """What `check`, or another command, comes to of an answer."""
     with tempfile.NamedTemporaryFile("w", suffix=".csv") as file:
         file.write(text)
         file.flush()
@@ -116,8 +116,8 @@ class Sales(unittest.TestCase):
             self.assertEqual(told(text), (22, "undecided\n", None))
 
     def test_settings_that_are_no_sale(self):
-        self.assertEqual(told(BY_HAND, EXAMPLES / "divorce.toml"), (65, "", "setting refused: not a sale"))
-        self.assertEqual(told(BY_HAND, EXAMPLES / "two-bidders.toml"), (65, "", "setting refused: other kind"))
+        for name in ("divorce", "two-bidders"):
+            self.assertEqual(told(BY_HAND, EXAMPLES / f"{name}.toml"), (66, "", "answer refused: line 1: field 3"))
 
 
 if __name__ == "__main__":

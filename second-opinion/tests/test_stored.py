@@ -3,7 +3,7 @@
 import unittest
 from fractions import Fraction
 
-from second_opinion import answer, checking, command, fair_checking, fairness, finding
+from second_opinion import answer, command, fair_checking, fairness, finding, judging
 from second_opinion.answer import OptimalAnswer
 from second_opinion.places import ENDING, EXAMPLES, stored_names
 from second_opinion.program import broken
@@ -23,7 +23,7 @@ def names_with(ending):
 class Stored(unittest.TestCase):
     def check(self, setting, answer):
         """What `check` comes to."""
-        return command.outcome(checking.check, [str(EXAMPLES / setting), str(EXAMPLES / answer)])
+        return command.outcome(judging.check, [str(EXAMPLES / setting), str(EXAMPLES / answer)])
 
     def test_each_stored_answer_is_valid(self):
         for name in stored_names():
@@ -73,8 +73,7 @@ class Stored(unittest.TestCase):
         names = names_with("-fairest.csv")
         self.assertTrue(names)
         for name in names:
-            words = [str(EXAMPLES / f"{name}.toml"), str(EXAMPLES / f"{name}-fairest.csv")]
-            self.assertEqual(command.outcome(fair_checking.faircheck, words), (0, "valid\n", None), name)
+            self.assertEqual(self.check(f"{name}.toml", f"{name}-fairest.csv"), (0, "valid\n", None), name)
 
 
 def setting_of(agents, *lines):

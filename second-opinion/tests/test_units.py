@@ -2,7 +2,7 @@
 
 import unittest
 
-from second_opinion import auction_answer, command, reporting, unit_checking
+from second_opinion import auction_answer, command, judging, reporting, unit_checking
 from second_opinion.places import EXAMPLES
 from second_opinion.setting import AuctionSetting, Refused
 
@@ -87,5 +87,5 @@ class Units(unittest.TestCase):
         self.assertEqual(unit_checking.units_of("12"), 12)
 
     def test_the_stored_answer_is_valid(self):
-        words = [str(EXAMPLES / "seats.toml"), "3", str(EXAMPLES / "seats-three.csv")]
-        self.assertEqual(command.outcome(unit_checking.unitcheck, words), (0, "valid\n", None))
+        words = [str(EXAMPLES / "seats.toml"), str(EXAMPLES / "seats-three.csv"), "--units", "3"]
+        self.assertEqual(command.outcome(judging.check, words), (0, "valid\n", None))

@@ -1,3 +1,4 @@
 pub mod Products
 pub mod Assignments
 pub mod Setting
+pub mod AsGroups

@@ -1,4 +1,3 @@
 pub mod Files
 pub mod Limits
 pub mod Works
-pub mod SaleWorks

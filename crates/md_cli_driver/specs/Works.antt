@@ -6,18 +6,16 @@ use Rattle.md_setting.specs.declared.file.SettingFile.{SettingFile}
 use Rattle.md_cli_driver.specs.declared.answered.Answered.{Answered}
 use Rattle.md_cli_driver.specs.declared.refusal.Refusal.{Refusal}
 use Rattle.md_cli_driver.specs.declared.refusal.Refusal.TheVariants as refusal
-use Rattle.md_cli_driver.specs.Reading.{is_general, setting_in, second_in}
+use Rattle.md_cli_driver.specs.Reading.{setting_in, second_in}
 use Rattle.md_cli_driver.specs.Refused.{refused, status_of}
 use Rattle.md_cli_driver.specs.Saying.{Saying, said}
 
 -- A command of no file says something, and has statuses of its own. One of one file serves some settings, and says something
--- of each. One of two files reads the second by the setting that the first one says, and says something of both; one about a sale
--- does so of general settings that are sales.
+-- of each. One of two files reads the second by the setting that the first one says, and says something of both.
 pub data Work : Type 1 where
   no_file : (Saying → Type 0) → (ℕ → Type 0) → Work
   one_file : (SettingFile → Bool) → (SettingFile → Saying → Type 0) → (ℕ → Type 0) → Work
   two_files : (T : Type 0) → (SettingFile → Bool) → (SettingFile → List ℕ → Result T Refusal) → (SettingFile → T → Saying → Type 0) → (ℕ → Type 0) → Work
-  sale_files : (T : Type 0) → (SettingFile → Type 0) → (SettingFile → List ℕ → Result T Refusal) → (SettingFile → T → Saying → Type 0) → (ℕ → Type 0) → Work
 
 -- a command whose number is refused, before any file is read
 abbrev pub number_refused : Work
@@ -37,12 +35,6 @@ IsSaidOfBoth reading P (Err e) second saying = saying ≡ refused e
 IsSaidOfBoth reading P (Ok file) second saying =
     (saying.status ≢ 65) × ForSome second (λ bytes. IsSaidOf (P file) (second_in (reading file) bytes) saying)
 
--- The same about a sale. A general setting that is none is refused, whatever the second file holds.
-abbrev pub IsSaidOfSale : {T : Type 0} → (SettingFile → Type 0) → (SettingFile → List ℕ → Result T Refusal) → (SettingFile → T → Saying → Type 0) → Result SettingFile Refusal → Option (List ℕ) → Saying → Type 0
-IsSaidOfSale IsSale reading P (Err e) second saying = saying ≡ refused e
-IsSaidOfSale IsSale reading P (Ok file) second saying =
-    ((¬ IsSale file) × (saying ≡ refused refusal.NotASale)) ⊎ (IsSale file × IsSaidOfBoth reading P (Ok file) second saying)
-
 -- a reply of a command that reads no file
 pub record IsReplyToNone (P : Saying → Type 0) (IsOwn : ℕ → Type 0) (saying : Saying) : Type 0 where
   pub status : IsOwn saying.status
@@ -58,22 +50,11 @@ pub record IsReplyToTwo {T : Type 0} (serves : SettingFile → Bool) (reading : 
   pub status : IsOwn saying.status ⊎ ((saying.status ≡ 65) ⊎ (saying.status ≡ 66))
   pub said_of : ForSome (content setting) (λ bytes. IsSaidOfBoth reading P (setting_in serves bytes) (content second) saying)
 
--- the same about a sale
-pub record IsReplyToSale {T : Type 0} (IsSale : SettingFile → Type 0) (reading : SettingFile → List ℕ → Result T Refusal) (P : SettingFile → T → Saying → Type 0) (IsOwn : ℕ → Type 0) (setting second : List ℕ) (content : List ℕ → Option (List ℕ)) (saying : Saying) : Type 0 where
-  pub status : IsOwn saying.status ⊎ ((saying.status ≡ 65) ⊎ (saying.status ≡ 66))
-  pub said_of : ForSome (content setting) (λ bytes. IsSaidOfSale IsSale reading P (setting_in is_general bytes) (content second) saying)
-
 -- what a command says of the files of these names, by what the shelf tells under each
 abbrev pub IsReplyTo : Work → List ℕ → List ℕ → (List ℕ → Option (List ℕ)) → Saying → Type 0
 IsReplyTo (no_file P IsOwn) setting second content saying = IsReplyToNone P IsOwn saying
 IsReplyTo (one_file serves P IsOwn) setting second content saying = IsReplyToOne serves P IsOwn setting content saying
 IsReplyTo (two_files T serves reading P IsOwn) setting second content saying = IsReplyToTwo serves reading P IsOwn setting second content saying
-IsReplyTo (sale_files T IsSale reading P IsOwn) setting second content saying = IsReplyToSale IsSale reading P IsOwn setting second content saying
-
--- a setting was read, of which P holds
-abbrev pub WhereRead : (SettingFile → Type 0) → Result SettingFile Refusal → Type 0
-WhereRead P (Ok file) = P file
-WhereRead P (Err e) = ⊥
 
 -- The count of one of the command's files rose; of a command of no file none ever does. The second file is looked at only where the first one says a setting that
 -- the command serves, as far as the shelf tells.
@@ -83,9 +64,6 @@ HasFaultedIn (one_file serves P IsOwn) setting second content before after = Ros
 HasFaultedIn (two_files T serves reading P IsOwn) setting second content before after =
     Rose (before setting) (after setting)
     ⊎ (Rose (before second) (after second) × ForSome (content setting) (λ bytes. IsOk (setting_in serves bytes)))
-HasFaultedIn (sale_files T IsSale reading P IsOwn) setting second content before after =
-    Rose (before setting) (after setting)
-    ⊎ (Rose (before second) (after second) × ForSome (content setting) (λ bytes. WhereRead IsSale (setting_in is_general bytes)))
 
 -- ---- what the work gives
 

@@ -8,7 +8,6 @@ mod no_file;
 mod one_file;
 mod read;
 mod refusal;
-mod sale_files;
 mod setting_file;
 mod status;
 mod two_files;
@@ -18,7 +17,6 @@ pub use answered::Answered;
 pub use no_file::{NoFile, NumberRefused, of_none};
 pub use one_file::{OneFile, of_one};
 pub use refusal::{Refusal, want_of_memory};
-pub use sale_files::{SaleFiles, of_sale};
 pub use setting_file::{auction, general, has_no_groups, is_auction, is_general};
 pub use status::{
     ANSWER_REFUSED, ARGUMENT_REFUSED, DONE, INFEASIBLE, NO_MEMORY, READ_FAULT, REJECTED,

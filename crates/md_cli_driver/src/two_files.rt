@@ -18,8 +18,8 @@ use md_ports::Shelf;
 use md_setting::SettingFile;
 use std::alloc::Global;
 
-/// The greatest length of a second file, in bytes.
-pub(crate) const ANSWER_LIMIT: usize = 67_108_864;
+// The greatest length of a second file, in bytes.
+const ANSWER_LIMIT: usize = 67_108_864;
 
 /// A command of two files.
 pub trait TwoFiles {

@@ -1,4 +1,4 @@
--- What `check` says of a setting and of the answer that a second file says.
+-- What `check` says of a setting and of the answer about its best mechanism that a second file says.
 use Rattle.std.specs.Prelude.{◌≡◌, ◌↔◌}
 use Rattle.md_setting.specs.declared.file.SettingFile.{SettingFile}
 use Rattle.md_setting.specs.declared.file.SettingFile.TheVariants.{General, Auction, Bidders}

@@ -1,6 +1,6 @@
--- What `determcheck` says of a general setting and of the answer about its deterministic mechanisms that a second file says. The
+-- What `check` and `determcheck` say of a general setting and of the answer about its deterministic mechanisms that a second file says. The
 -- answer may be much larger than its text, so that it is the text that is kept of the second file.
-use Rattle.std.specs.Prelude.{◌≡◌, ◌⊎◌, ◌↔◌, ℕ, List, Result, Ok, Err}
+use Rattle.std.specs.Prelude.{◌≡◌, ◌↔◌, ℕ, List, Result, Ok, Err}
 use Rattle.md_setting.specs.Setting.{GeneralSetting}
 use Rattle.md_setting.specs.ByKind.{WhereGeneral}
 use Rattle.md_setting.specs.declared.file.SettingFile.{SettingFile}
@@ -45,7 +45,3 @@ pub record IsDetermCheckedText (s : GeneralSetting) (bytes : List ℕ) (saying :
 
 abbrev pub IsDetermCheck : SettingFile → List ℕ → Saying → Type 0
 IsDetermCheck file bytes saying = WhereGeneral (λ s. IsDetermCheckedText s bytes saying) file
-
--- the statuses of what is answered
-abbrev pub IsDetermCheckStatus : ℕ → Type 0
-IsDetermCheckStatus status = (status ≡ 0) ⊎ ((status ≡ 20) ⊎ (status ≡ 22))

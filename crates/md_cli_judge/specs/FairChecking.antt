@@ -1,29 +1,15 @@
--- What `faircheck` says of a general setting and of the answer about its fairest mechanism that a second file says.
-use Rattle.std.specs.Prelude.{◌≡◌, ◌↔◌, ℕ, List, Result, Ok, Err}
+-- What `check` says of a general setting and of the answer about its fairest mechanism that a second file says.
+use Rattle.std.specs.Prelude.{◌≡◌, ◌↔◌}
 use Rattle.md_setting.specs.Setting.{GeneralSetting}
 use Rattle.md_setting.specs.ByKind.{WhereGeneral}
 use Rattle.md_setting.specs.declared.file.SettingFile.{SettingFile}
-use Rattle.md_setting.specs.declared.file.SettingFile.TheVariants.{General, Auction, Bidders}
-use Rattle.md_parts.specs.declared.refusal.AnswerRefusal.{AnswerRefusal}
+use Rattle.md_setting.specs.declared.file.SettingFile.TheVariants.{General}
 use Rattle.md_question_check.specs.declared.verdict.Verdict.{Verdict}
 use Rattle.md_question_check.specs.declared.verdict.Verdict.TheVariants.{Valid, Undecided}
 use Rattle.md_fair.specs.declared.answer.FairAnswer.{FairAnswer}
-use Rattle.md_fair.specs.FairText.{fair_answer_of}
 use Rattle.md_fair.specs.FairVerdicts.{ClaimHolds, ClaimsNothing, IsFairVerdict}
-use Rattle.md_cli_driver.specs.declared.refusal.Refusal.{Refusal}
-use Rattle.md_cli_driver.specs.declared.refusal.Refusal.TheVariants as refusal
 use Rattle.md_cli_driver.specs.Saying.{Saying}
 use Rattle.md_cli_judge.specs.Verdicts.{TellsVerdict}
-
-abbrev pub answer_or_refusal : Result FairAnswer AnswerRefusal → Result FairAnswer Refusal
-answer_or_refusal (Ok answer) = Ok answer
-answer_or_refusal (Err e) = Err (refusal.Answer e)
-
--- the answer that the second file says of a general setting
-abbrev pub fair_answer_in : SettingFile → List ℕ → Result FairAnswer Refusal
-fair_answer_in (General s) bytes = answer_or_refusal (fair_answer_of s bytes)
-fair_answer_in (Auction a) bytes = Err refusal.OtherKind
-fair_answer_in (Bidders a) bytes = Err refusal.OtherKind
 
 -- The one verdict on an answer, and what is said of it. Where the answer is valid, what it claims is so, over mechanisms of any
 -- denominator, with numbers of any size; it stays undecided exactly where it claims nothing.

@@ -6,4 +6,6 @@ pub mod FairChecking
 pub mod RequireChecking
 pub mod AsymChecking
 pub mod UnitChecking
+pub mod Forms
+pub mod Checked
 pub mod Auditing

@@ -1,33 +1,19 @@
--- What `requirecheck` says of a general setting and of the answer about its best mechanism under conditions that a second file says.
-use Rattle.std.specs.Prelude.{◌≡◌, ℕ, pos, List, [], ◌∷◌, codes, Option, None, Some, Result, Ok, Err}
+-- What `check` says of a general setting and of the answer about its best mechanism under conditions that a second file says.
+use Rattle.std.specs.Prelude.{◌≡◌, ℕ, pos, List, [], ◌∷◌, codes, Option, None, Some}
 use Rattle.md_num.specs.WholeText.{text_of}
 use Rattle.md_num.specs.declared.frac.Frac.{Frac}
 use Rattle.md_records.specs.Written.{record_text}
 use Rattle.md_setting.specs.Setting.{GeneralSetting}
 use Rattle.md_setting.specs.ByKind.{WhereGeneral}
 use Rattle.md_setting.specs.declared.file.SettingFile.{SettingFile}
-use Rattle.md_setting.specs.declared.file.SettingFile.TheVariants.{General, Auction, Bidders}
-use Rattle.md_parts.specs.declared.refusal.AnswerRefusal.{AnswerRefusal}
+use Rattle.md_setting.specs.declared.file.SettingFile.TheVariants.{General}
 use Rattle.md_question_check.specs.declared.verdict.Verdict.TheVariants as verdicts
 use Rattle.md_require.specs.declared.required_verdict.RequiredVerdict.{RequiredVerdict}
 use Rattle.md_require.specs.declared.required_verdict.RequiredVerdict.TheVariants.{Valid, Rejected, Shadow}
 use Rattle.md_require.specs.RequireVerdicts.{AnswerHolds, IsRequiredVerdict}
-use Rattle.md_require_text.specs.RequiredText.{required_answer_of}
 use Rattle.md_require_text.specs.Told.{Told}
-use Rattle.md_cli_driver.specs.declared.refusal.Refusal.{Refusal}
-use Rattle.md_cli_driver.specs.declared.refusal.Refusal.TheVariants as refusal
 use Rattle.md_cli_driver.specs.Saying.{Saying}
 use Rattle.md_cli_judge.specs.Verdicts.{TellsVerdict, rejected}
-
-abbrev pub answer_or_refusal : Result Told AnswerRefusal → Result Told Refusal
-answer_or_refusal (Ok answer) = Ok answer
-answer_or_refusal (Err e) = Err (refusal.Answer e)
-
--- the answer that the second file says of a general setting
-abbrev pub required_answer_in : SettingFile → List ℕ → Result Told Refusal
-required_answer_in (General s) bytes = answer_or_refusal (required_answer_of s bytes)
-required_answer_in (Auction a) bytes = Err refusal.OtherKind
-required_answer_in (Bidders a) bytes = Err refusal.OtherKind
 
 -- the record of a shadow that is told otherwise than it is right: the number of its condition, and the right one, unless none is to be
 -- told

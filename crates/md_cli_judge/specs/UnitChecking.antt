@@ -1,4 +1,4 @@
--- What `unitcheck` says of an auction, a number of units, and the answer about their sale that a second file says.
+-- What `check` with a number of units says of an auction, and of the answer about their sale that a second file says.
 use Rattle.std.specs.Prelude.{◌≡◌, ◌↔◌, ℕ, List, Result, Err}
 use Rattle.md_setting.specs.Auction.{SymmetricAuction}
 use Rattle.md_setting.specs.ByKind.{WhereAuction}

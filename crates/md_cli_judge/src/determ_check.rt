@@ -8,9 +8,9 @@ ghost use Rattle.md_tree.specs.declared.verdict.DetReject.TheVariants as rejects
 ghost use Rattle.md_tree.specs.Texts.{IsCheckedText, IsReadText};
 ghost use Rattle.md_cli_driver.specs.Reading.{is_general};
 ghost use Rattle.md_cli_driver.specs.Saying.{said};
-ghost use Rattle.md_cli_judge.specs.DetermChecking.{IsDetermCheck, IsDetermCheckStatus, IsDetermCheckedText, determ_text_in};
+ghost use Rattle.md_cli_judge.specs.DetermChecking.{IsDetermCheck, IsDetermCheckedText, determ_text_in};
 ghost use Rattle.md_cli_judge.specs.DetermVerdicts.{IsRejected};
-ghost use Rattle.md_cli_judge.specs.Verdicts.{rejected};
+ghost use Rattle.md_cli_judge.specs.Verdicts.{IsCheckStatus, rejected};
 
 use crate::records::{record_text, rejected_by};
 use md_cli_driver::{
@@ -38,7 +38,7 @@ impl TwoFiles for DetermCheck {
 
     ghost says = { λ _. IsDetermCheck };
 
-    ghost own = { IsDetermCheckStatus };
+    ghost own = { IsCheckStatus };
 
     fn serves(&self, file: &SettingFile) -> bool {
         is_general(file)
@@ -64,12 +64,12 @@ impl TwoFiles for DetermCheck {
     }
 }
 
-// The verdict on the answer that a text says.
+/// The verdict on the answer that a text says.
 #[tactic(auto, using(crate::proofs::CheckedTexts::told_text))]
-fn checked(alloc: Global, setting: &Setting, bytes: &[u8]) -> Result<Answered, NoMemory>
+pub(crate) fn checked(alloc: Global, setting: &Setting, bytes: &[u8]) -> Result<Answered, NoMemory>
     requires { IsReadText setting.now bytes.now }
     ensures checked { IfOk result (λ answered. IsDetermCheckedText setting.now bytes.now (said answered)) }
-    ensures status { IfOk result (λ answered. IsDetermCheckStatus answered.status) }
+    ensures status { IfOk result (λ answered. IsCheckStatus answered.status) }
 {
     match verdict(alloc, setting, bytes)? {
         DetVerdict::Valid => Ok(Answered {

@@ -1,68 +1,31 @@
-//! The command `requirecheck`: whether what an answer claims of the best mechanism under conditions of the designer is so.
+//! Whether what an answer claims of the best mechanism under conditions of the designer is so.
 ghost use Rattle.std.specs.Prelude.{◌≡◌, IfOk};
 ghost use Rattle.md_setting.specs.ByKind.{IsGeneral, WhereGeneral};
 ghost use Rattle.md_mech.specs.declared.broken.Broken.{Broken};
 ghost use Rattle.md_question_check.specs.declared.verdict.Reject.TheVariants.{Audit};
 ghost use Rattle.md_require.specs.declared.required_verdict.RequiredVerdict.TheVariants.{Rejected};
 ghost use Rattle.md_require_text.specs.Told.{IsRequiredAnswer};
-ghost use Rattle.md_cli_driver.specs.Reading.{is_general};
 ghost use Rattle.md_cli_driver.specs.Saying.{said};
-ghost use Rattle.md_cli_judge.specs.RequireChecking.{IsRequireCheck, TellsRequiredVerdict, required_answer_in, shadow_record};
+ghost use Rattle.md_cli_judge.specs.RequireChecking.{IsRequireCheck, TellsRequiredVerdict, shadow_record};
 ghost use Rattle.md_cli_judge.specs.Verdicts.{IsBrokenRow, IsCheckStatus};
 
 use crate::records::{record_text, rejected_by};
 use crate::verdict_text::tell_verdict;
-use md_cli_driver::{Answered, REJECTED, Refusal, TwoFiles, general, is_general};
+use md_cli_driver::{Answered, REJECTED, general};
 use md_num::{Frac, NoMemory};
 use md_question_check::Verdict;
 use md_records::Row;
 use md_require::{RequiredVerdict, check_told};
-use md_require_text::{RequiredAnswer, read_required};
+use md_require_text::RequiredAnswer;
 use md_setting::SettingFile;
 use std::alloc::Global;
 
-/// `requirecheck SETTING ANSWER`
-#[derive(Drop)]
-pub struct RequireCheck;
-
-impl TwoFiles for RequireCheck {
-    type Second = RequiredAnswer;
-
-    ghost is_served = { is_general };
-
-    ghost reading = { λ _. required_answer_in };
-
-    ghost fits = { λ _ file answer. WhereGeneral (λ s. IsRequiredAnswer s answer) file };
-
-    ghost says = { λ _. IsRequireCheck };
-
-    ghost own = { IsCheckStatus };
-
-    fn serves(&self, file: &SettingFile) -> bool {
-        is_general(file)
-    }
-
-    fn second(
-        &self,
-        alloc: Global,
-        file: &SettingFile,
-        bytes: &[u8],
-    ) -> Result<RequiredAnswer, Refusal> {
-        Ok(read_required(alloc, bytes, general(file))?)
-    }
-
-    fn answer(
-        &self,
-        alloc: Global,
-        file: &SettingFile,
-        answer: &RequiredAnswer,
-    ) -> Result<Answered, Refusal> {
-        Ok(checked(alloc, file, answer)?)
-    }
-}
-
-// The verdict on an answer.
-fn checked(alloc: Global, file: &SettingFile, answer: &RequiredAnswer) -> Result<Answered, NoMemory>
+/// The verdict on an answer about the best mechanism under conditions of the designer.
+pub(crate) fn checked(
+    alloc: Global,
+    file: &SettingFile,
+    answer: &RequiredAnswer,
+) -> Result<Answered, NoMemory>
     requires general { IsGeneral file.now }
     requires answer { WhereGeneral (λ s. IsRequiredAnswer s answer.now) file.now }
     ensures checked { IfOk result (λ answered. IsRequireCheck file.now answer.now (said answered)) }

@@ -1,4 +1,4 @@
-//! The command `unitcheck`: whether what an answer claims of a sale of some identical units is so.
+//! The command `check` with a number of units: whether what an answer claims of a sale of some identical units is so.
 ghost use Rattle.std.specs.Prelude.{◌≡◌, true, IfOk};
 ghost use Rattle.md_setting.specs.ByKind.{WhereAuction};
 ghost use Rattle.md_answer.specs.AuctionAnswerTo.{IsAnswerFor};
@@ -17,14 +17,14 @@ use md_setting::SettingFile;
 use md_unit_tables::UnitNumber;
 use std::alloc::Global;
 
-/// `unitcheck SETTING NUMBER ANSWER`
+/// `check SETTING ANSWER --units NUMBER`
 #[derive(Drop)]
-pub struct UnitCheck {
+pub struct CheckUnits {
     /// How many units are sold.
     pub units: UnitNumber,
 }
 
-impl TwoFiles for UnitCheck {
+impl TwoFiles for CheckUnits {
     type Second = Answer;
 
     ghost is_served = { is_auction };

@@ -7,7 +7,7 @@ use Rattle.clap.specs.Faults.{is_free_app}
 use Rattle.clap.specs.Simple.{built}
 use Rattle.md_cli_words.specs.Forms.{arguments_of, app_of_form}
 use Rattle.md_cli_words.specs.declared.form.Form.{Form}
-use Rattle.md_cli_words.specs.declared.form.Form.TheVariants.{One, OneWidth, OneBasis, Two, TwoWidth, TwoUnits, NumberWidth, OneNumber, TwoNumber, NumberDraw, Draws, Number}
+use Rattle.md_cli_words.specs.declared.form.Form.TheVariants.{One, OneWidth, OneBasis, Two, TwoWidth, TwoUnits, NumberWidth, OneNumber, NumberDraw, Draws, Number}
 
 -- each form's command is one of which clap states the matches and the faults
 pub app_of_form-simple : (form : Form) → is_simple_and_free (app_of_form form) ≡ true
@@ -19,7 +19,6 @@ app_of_form-simple TwoWidth = refl
 app_of_form-simple TwoUnits = refl
 app_of_form-simple NumberWidth = refl
 app_of_form-simple OneNumber = refl
-app_of_form-simple TwoNumber = refl
 app_of_form-simple NumberDraw = refl
 app_of_form-simple Draws = refl
 app_of_form-simple Number = refl

@@ -5,7 +5,7 @@ use Rattle.clap.specs.Words.{Text}
 use Rattle.clap.proofs.OnLiterals.{clap_on_literals}
 use Rattle.md_cli_words.specs.Words.{Order, command_of}
 use Rattle.md_cli_words.specs.declared.command.Command.{Command}
-use Rattle.md_cli_words.specs.declared.command.Command.TheVariants.{Audit, Rows, Solve, Find, Replay, Units, UnitCheck, Threshold, Award, Run, Report, Make}
+use Rattle.md_cli_words.specs.declared.command.Command.TheVariants.{Audit, Rows, Check, Solve, Find, Replay, Units, Threshold, Award, Run, Report, Make}
 
 -- a command of two files or one, within a width
 abbrev of_files : Command → Text → Text → Bool → ℕ → Order
@@ -106,13 +106,20 @@ drill_of_zeros : command_of (codes "drill" ∷ codes "01" ∷ []) ≡ None
 unfolding clap_on_literals
 drill_of_zeros = refl
 
-unitcheck_of_two : command_of (codes "unitcheck" ∷ codes "x" ∷ codes "2" ∷ codes "y" ∷ []) ≡ Some (record { command = UnitCheck; setting = codes "x"; second = codes "y"; has_second = true; width = 62; profile = []; first_draw = pos 0; second_draw = pos 0; number = pos 2; units = None })
+check_of_an_answer : command_of (codes "check" ∷ codes "x" ∷ codes "y" ∷ []) ≡ Some (of_files Check (codes "x") (codes "y") true 62)
 unfolding clap_on_literals
-unitcheck_of_two = refl
+check_of_an_answer = refl
 
-unitcheck_without_an_answer : command_of (codes "unitcheck" ∷ codes "x" ∷ codes "2" ∷ []) ≡ None
+check_of_two_units : command_of (codes "check" ∷ codes "x" ∷ codes "y" ∷ codes "--units" ∷ codes "2" ∷ []) ≡ Some (record (of_files Check (codes "x") (codes "y") true 62) { units = Some (pos 2) })
 unfolding clap_on_literals
-unitcheck_without_an_answer = refl
+check_of_two_units = refl
+
+check_without_an_answer : command_of (codes "check" ∷ codes "x" ∷ codes "--units" ∷ codes "2" ∷ []) ≡ None
+unfolding clap_on_literals
+check_without_an_answer = refl
+
+faircheck_is_no_word : command_of (codes "faircheck" ∷ codes "x" ∷ codes "y" ∷ []) ≡ None
+faircheck_is_no_word = refl
 
 threshold_of_two : command_of (codes "threshold" ∷ codes "x" ∷ codes "2" ∷ []) ≡ Some (record { command = Threshold; setting = codes "x"; second = []; has_second = false; width = 62; profile = []; first_draw = pos 0; second_draw = pos 0; number = pos 2; units = None })
 unfolding clap_on_literals

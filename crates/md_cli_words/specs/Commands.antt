@@ -2,20 +2,16 @@
 --
 --   audit SETTING ANSWER
 --   rows SETTING
---   check SETTING ANSWER
+--   check SETTING ANSWER [--units NUMBER]
 --   solve SETTING [--width W]
 --   replay SETTING PIVOTS [--width W]
 --   realise SETTING ODDS
 --   fair SETTING [--width W]
 --   find SETTING [--from BASIS]
 --   findfair SETTING
---   faircheck SETTING ANSWER
 --   require SETTING CONDITIONS
---   requirecheck SETTING ANSWER
 --   asym SETTING [--width W]
---   asymcheck SETTING ANSWER
 --   units SETTING NUMBER [--width W]
---   unitcheck SETTING NUMBER ANSWER
 --   threshold SETTING NUMBER
 --   award SETTING NUMBER PROFILE DRAW
 --   determ SETTING [--width W]
@@ -30,9 +26,9 @@ use Rattle.std.specs.Prelude.{List, [], ◌∷◌, Option, Some, None, codes, if
 use Rattle.std.specs.Str.{bytes_eq}
 use Rattle.clap.specs.Words.{Text}
 use Rattle.md_cli_words.specs.declared.command.Command.{Command}
-use Rattle.md_cli_words.specs.declared.command.Command.TheVariants.{Audit, Rows, Check, Solve, Replay, Realise, Fair, Find, FindFair, FairCheck, Require, RequireCheck, Asym, AsymCheck, Units, UnitCheck, Threshold, Award, Determ, DetermCheck, Run, Report, Iron, IronUnits, Make, Drill}
+use Rattle.md_cli_words.specs.declared.command.Command.TheVariants.{Audit, Rows, Check, Solve, Replay, Realise, Fair, Find, FindFair, Require, Asym, Units, Threshold, Award, Determ, DetermCheck, Run, Report, Iron, IronUnits, Make, Drill}
 use Rattle.md_cli_words.specs.declared.form.Form.{Form}
-use Rattle.md_cli_words.specs.declared.form.Form.TheVariants.{One, OneWidth, OneBasis, Two, TwoWidth, TwoUnits, NumberWidth, OneNumber, TwoNumber, NumberDraw, Draws, Number}
+use Rattle.md_cli_words.specs.declared.form.Form.TheVariants.{One, OneWidth, OneBasis, Two, TwoWidth, TwoUnits, NumberWidth, OneNumber, NumberDraw, Draws, Number}
 
 -- The command of a name. A text is a list of bytes, and the name is compared byte by byte: a part of a name, or one in
 -- other letters, is none.
@@ -47,13 +43,9 @@ command_named word =
     else (if bytes_eq word (codes "fair") then Some Fair
     else (if bytes_eq word (codes "find") then Some Find
     else (if bytes_eq word (codes "findfair") then Some FindFair
-    else (if bytes_eq word (codes "faircheck") then Some FairCheck
     else (if bytes_eq word (codes "require") then Some Require
-    else (if bytes_eq word (codes "requirecheck") then Some RequireCheck
     else (if bytes_eq word (codes "asym") then Some Asym
-    else (if bytes_eq word (codes "asymcheck") then Some AsymCheck
     else (if bytes_eq word (codes "units") then Some Units
-    else (if bytes_eq word (codes "unitcheck") then Some UnitCheck
     else (if bytes_eq word (codes "threshold") then Some Threshold
     else (if bytes_eq word (codes "award") then Some Award
     else (if bytes_eq word (codes "determ") then Some Determ
@@ -64,7 +56,7 @@ command_named word =
     else (if bytes_eq word (codes "ironunits") then Some IronUnits
     else (if bytes_eq word (codes "make") then Some Make
     else (if bytes_eq word (codes "drill") then Some Drill
-    else None)))))))))))))))))))))))))
+    else None)))))))))))))))))))))
 
 -- the command that the first word names; none where there is no word, or it is no name
 abbrev pub command_in : List Text → Option Command
@@ -76,19 +68,15 @@ abbrev pub form_of : Command → Form
 form_of Rows = One
 form_of Solve = OneWidth
 form_of Audit = Two
-form_of Check = Two
+form_of Check = TwoUnits
 form_of Replay = TwoWidth
 form_of Realise = Two
 form_of Fair = OneWidth
 form_of Find = OneBasis
 form_of FindFair = One
-form_of FairCheck = Two
 form_of Require = Two
-form_of RequireCheck = Two
 form_of Asym = OneWidth
-form_of AsymCheck = Two
 form_of Units = NumberWidth
-form_of UnitCheck = TwoNumber
 form_of Threshold = OneNumber
 form_of Award = NumberDraw
 form_of Determ = OneWidth

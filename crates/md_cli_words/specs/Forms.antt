@@ -6,7 +6,7 @@
 use Rattle.std.specs.Prelude.{◌==◌, List, length, Option, Some, None, true, codes, if◌then◌else◌}
 use Rattle.clap.specs.Words.{App, Row, Rule, Text, fault_of, matches_of, new_app, new_rule, with_rule}
 use Rattle.md_cli_words.specs.declared.form.Form.{Form}
-use Rattle.md_cli_words.specs.declared.form.Form.TheVariants.{One, OneWidth, OneBasis, Two, TwoWidth, TwoUnits, NumberWidth, OneNumber, TwoNumber, NumberDraw, Draws, Number}
+use Rattle.md_cli_words.specs.declared.form.Form.TheVariants.{One, OneWidth, OneBasis, Two, TwoWidth, TwoUnits, NumberWidth, OneNumber, NumberDraw, Draws, Number}
 
 -- an argument known by its place, which has to be there
 abbrev pub place_rule : Text → Rule
@@ -55,7 +55,6 @@ app_of_form TwoWidth = with_rule (with_files no_place) width_rule
 app_of_form TwoUnits = with_rule (with_files no_place) units_rule
 app_of_form NumberWidth = with_rule (with_number no_place) width_rule
 app_of_form OneNumber = with_number no_place
-app_of_form TwoNumber = with_place (with_number no_place) (codes "second")
 app_of_form NumberDraw = with_draw (with_number no_place)
 app_of_form Draws = with_rule (with_draws (with_files no_place)) units_rule
 app_of_form Number = with_place no_place (codes "number")

@@ -11,7 +11,7 @@ pub enum Command {
     Audit,
     /// `rows SETTING` prints the linear program of a setting.
     Rows,
-    /// `check SETTING ANSWER` checks an answer about a setting.
+    /// `check SETTING ANSWER [--units NUMBER]` checks an answer about a setting, or one about a sale of so many units.
     Check,
     /// `solve SETTING [--width W]` solves a setting within a width.
     Solve,
@@ -25,20 +25,12 @@ pub enum Command {
     Find,
     /// `findfair SETTING` finds the fairest mechanism of a setting, off the stated paths too.
     FindFair,
-    /// `faircheck SETTING ANSWER` checks an answer about the fairest mechanism of a setting.
-    FairCheck,
     /// `require SETTING CONDITIONS` finds the best mechanism of a setting that meets conditions of the designer.
     Require,
-    /// `requirecheck SETTING ANSWER` checks an answer about the best mechanism under such conditions.
-    RequireCheck,
     /// `asym SETTING [--width W]` solves the sale of one item to bidders who differ within a width.
     Asym,
-    /// `asymcheck SETTING ANSWER` checks an answer about the best mechanism of such a sale.
-    AsymCheck,
     /// `units SETTING NUMBER [--width W]` sells so many units to the bidders of an auction within a width.
     Units,
-    /// `unitcheck SETTING NUMBER ANSWER` checks an answer about a sale of so many units.
-    UnitCheck,
     /// `threshold SETTING NUMBER` tells the best auction of so many units in which only winners pay.
     Threshold,
     /// `award SETTING NUMBER PROFILE DRAW` tells what each bidder has in it at a profile of reports and a draw.
@@ -84,13 +76,9 @@ fn named(word: &str) -> Option<Command>
         "fair" => Some(Command::Fair),
         "find" => Some(Command::Find),
         "findfair" => Some(Command::FindFair),
-        "faircheck" => Some(Command::FairCheck),
         "require" => Some(Command::Require),
-        "requirecheck" => Some(Command::RequireCheck),
         "asym" => Some(Command::Asym),
-        "asymcheck" => Some(Command::AsymCheck),
         "units" => Some(Command::Units),
-        "unitcheck" => Some(Command::UnitCheck),
         "threshold" => Some(Command::Threshold),
         "award" => Some(Command::Award),
         "determ" => Some(Command::Determ),
@@ -113,18 +101,10 @@ pub(crate) fn form(command: Command) -> Form
         Command::Rows | Command::FindFair | Command::Iron => Form::One,
         Command::Find => Form::OneBasis,
         Command::Solve | Command::Fair | Command::Asym | Command::Determ => Form::OneWidth,
-        Command::Audit
-        | Command::Check
-        | Command::Realise
-        | Command::FairCheck
-        | Command::Require
-        | Command::RequireCheck
-        | Command::AsymCheck
-        | Command::DetermCheck => Form::Two,
-        Command::Report => Form::TwoUnits,
+        Command::Audit | Command::Realise | Command::Require | Command::DetermCheck => Form::Two,
+        Command::Check | Command::Report => Form::TwoUnits,
         Command::Replay => Form::TwoWidth,
         Command::Units => Form::NumberWidth,
-        Command::UnitCheck => Form::TwoNumber,
         Command::Threshold | Command::IronUnits => Form::OneNumber,
         Command::Award => Form::NumberDraw,
         Command::Run => Form::Draws,

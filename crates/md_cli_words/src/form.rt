@@ -25,8 +25,6 @@ pub(crate) enum Form {
     NumberWidth,
     /// One argument and a number.
     OneNumber,
-    /// Two arguments, and a number between them.
-    TwoNumber,
     /// One argument, a number, a profile and a draw.
     NumberDraw,
     /// Two arguments, a profile, two draws, and a number of units or none.
@@ -132,10 +130,6 @@ pub(crate) fn reader_of<'a>(alloc: Global, form: Form) -> Result<Command<'a>, Al
             with_width(alloc, two)
         }
         Form::OneNumber => with_number(alloc, bare),
-        Form::TwoNumber => {
-            let two = with_number(alloc, bare)?;
-            with_place(alloc, two, "second")
-        }
         Form::NumberDraw => {
             let two = with_number(alloc, bare)?;
             with_draw(alloc, two)

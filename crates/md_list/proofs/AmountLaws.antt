@@ -69,7 +69,7 @@ first-later q j p r i l e = (first-decides q j r i).1 (later ((first-decides q j
 
 -- ---- slots by the place of a value and the number of bidders before
 
-abbrev slot_by : ℕ → ℕ → ℕ → ℕ → ℕ
+abbrev pub slot_by : ℕ → ℕ → ℕ → ℕ → ℕ
 slot_by ranks slots place ahead = if nat_lt place ranks && nat_lt ahead slots then suc ahead else 0
 
 -- a slot that is given
@@ -147,7 +147,7 @@ pub slots-differ : (a : GroupedAuction) (ranks : List Rank) → SlotsDiffer a ra
 slots-differ a ranks t i j b c d e =
     slot-apart (length ranks) (length a.slots) (place_at a ranks t i) (before a ranks t i) (place_at a ranks t j) (before a ranks t j) (before-apart a ranks t i j b c d) e
 
-assigned-at : (a : GroupedAuction) (ranks : List Rank) (t : List ℕ) (i : ℕ) → i < bidder_count a → slice_index (assigned a ranks t) i ≡ slot_at a ranks t i
+pub assigned-at : (a : GroupedAuction) (ranks : List Rank) (t : List ℕ) (i : ℕ) → i < bidder_count a → slice_index (assigned a ranks t) i ≡ slot_at a ranks t i
 assigned-at a ranks t i b = get_or-list_to (bidder_count a) (slot_at a ranks t) i 0 b
 
 assigned-past : (a : GroupedAuction) (ranks : List Rank) (t : List ℕ) (i : ℕ) → bidder_count a ≤ i → slice_index (assigned a ranks t) i ≡ 0
@@ -180,7 +180,7 @@ amount-assigned a ranks t i b = ap (amount_of a.slots) (assigned-at a ranks t i 
 
 module _ (a : GroupedAuction) (ranks : List Rank) (t : List ℕ) (i : ℕ) where
   -- how many of the others go before bidder i where its value has the place p
-  abbrev before_at : ℕ → ℕ
+  abbrev pub before_at : ℕ → ℕ
   before_at p = count_to (bidder_count a) (λ j. if j == i then false else goes_first (place_at a ranks t j) j p i)
 
   -- what it gets where its value has the place p
@@ -214,19 +214,27 @@ module _ (a : GroupedAuction) (ranks : List Rank) (t : List ℕ) (i : ℕ) where
             ∙ sym (ap (λ here. if here then false else goes_first (place_at a ranks t j) j (place_of ranks (group_of a i) v) i) (ne_eqb j i d))
       ]
 
+  pub slot-by_place : (v : ℕ) → i < length t → slot_at a ranks (replaced t i v) i ≡ slot_by (length ranks) (length a.slots) (place_of ranks (group_of a i) v) (before_at (place_of ranks (group_of a i) v))
+  slot-by_place v b = ap₂ (λ p h. slot_by (length ranks) (length a.slots) p h) (place-replaced v b) (before-replaced v b)
+
+  -- values at one place get one slot
+  pub slot-alike : (v w : ℕ) → i < length t → place_of ranks (group_of a i) v ≡ place_of ranks (group_of a i) w → slot_at a ranks (replaced t i v) i ≡ slot_at a ranks (replaced t i w) i
+  slot-alike v w b e = slot-by_place v b ∙ ap (λ p. slot_by (length ranks) (length a.slots) p (before_at p)) e ∙ sym (slot-by_place w b)
+
+  -- a value behind all records gets none
+  pub slot-none : (v : ℕ) → i < length t → length ranks ≤ place_of ranks (group_of a i) v → slot_at a ranks (replaced t i v) i ≡ 0
+  slot-none v b l = slot-by_place v b ∙ not-given (length ranks) (length a.slots) (place_of ranks (group_of a i) v) (before_at (place_of ranks (group_of a i) v)) l
+
   pub amount-by_place : (v : ℕ) → i < length t → amount_with a ranks t i v ≡ amount_by_place (place_of ranks (group_of a i) v)
-  amount-by_place v b =
-      ap₂ (λ p h. amount_of a.slots (slot_by (length ranks) (length a.slots) p h)) (place-replaced v b) (before-replaced v b)
+  amount-by_place v b = ap (amount_of a.slots) (slot-by_place v b)
 
   -- values at one place get one amount
   pub amount-alike : (v w : ℕ) → i < length t → place_of ranks (group_of a i) v ≡ place_of ranks (group_of a i) w → amount_with a ranks t i v ≡ amount_with a ranks t i w
-  amount-alike v w b e = amount-by_place v b ∙ ap amount_by_place e ∙ sym (amount-by_place w b)
+  amount-alike v w b e = ap (amount_of a.slots) (slot-alike v w b e)
 
   -- a value behind all records gets nothing
   pub amount-none : (v : ℕ) → i < length t → length ranks ≤ place_of ranks (group_of a i) v → amount_with a ranks t i v ≡ 0
-  amount-none v b l =
-      amount-by_place v b
-      ∙ ap (amount_of a.slots) (not-given (length ranks) (length a.slots) (place_of ranks (group_of a i) v) (before_at (place_of ranks (group_of a i) v)) l)
+  amount-none v b l = ap (amount_of a.slots) (slot-none v b l)
 
   amount-later : IsOrdered a → (p q : ℕ) → p ≤ q → amount_by_place q ≤ amount_by_place p
   amount-later ordered p q l = amount-more a.slots ordered.falling (length ranks) p q (before_at p) (before_at q) l (before-later p q l)

@@ -4,3 +4,9 @@ pub mod Mechanisms
 pub mod Gains
 pub mod Valid
 pub mod Best
+pub mod Averages
+pub mod Closed
+pub mod Reduced
+pub mod ByRule
+pub mod Lists
+pub mod Told

@@ -36,7 +36,7 @@ use Rattle.md_list_laws.proofs.Serving.{slot_amount, served-first, most-first, l
 use Rattle.md_list_laws.proofs.Tails.{IsTail, place-bounded, tails}
 
 -- what bidder i gets under the rule of a list
-abbrev rule_gets : GroupedAuction → List Rank → ℕ → List ℕ → ℤ
+abbrev pub rule_gets : GroupedAuction → List Rank → ℕ → List ℕ → ℤ
 rule_gets a ranks i t = pos (amount_at a ranks t i)
 
 -- ---- one profile
@@ -71,11 +71,21 @@ module _ (a : GroupedAuction) (ranks : List Rank) (ordered : IsOrdered a) (m : M
 -- ---- both aims at once
 
 -- what all bidders contribute to an objective under a mechanism, and under the rule of a list
-abbrev mechanism_score : GroupedAuction → Mechanism → (ℕ → ℕ → ℤ) → ℤ → ℤ
+abbrev pub mechanism_score : GroupedAuction → Mechanism → (ℕ → ℕ → ℤ) → ℤ → ℤ
 mechanism_score a m c r = score (sizes_of (setting_of a)) (weight_of (setting_of a)) (group_of a) c r (gets_in a m) (pay_of (setting_of a) m)
 
-abbrev rule_score : GroupedAuction → List Rank → (ℕ → ℕ → ℤ) → ℤ → ℤ
+abbrev pub rule_score : GroupedAuction → List Rank → (ℕ → ℕ → ℤ) → ℤ → ℤ
 rule_score a ranks c r = score (sizes_of (setting_of a)) (weight_of (setting_of a)) (group_of a) c r (rule_gets a ranks) (payment a ranks)
+
+-- the mechanism of a list contributes what its rule does
+pub list-score : (a : GroupedAuction) (ranks : List Rank) (c : ℕ → ℕ → ℤ) (r : ℤ) → mechanism_score a (list_mechanism a ranks) c r ≡ rule_score a ranks c r
+list-score a ranks c r =
+    let s = setting_of a in
+    total-same (sizes_of s) _ _
+    (λ t p.
+    ap₂ (λ x y. weight_of s t *ℤ (x +ℤ r *ℤ y))
+    (sum_to-same (length (sizes_of s)) _ _ (λ i b. ap (λ z. c (group_of a i) (slice_index t i) *ℤ z) (amount-sum a ranks t i p (bidder-inside a i b))))
+    (sum_to-same (length (sizes_of s)) _ _ (λ i b. pays-are a ranks t i p (bidder-inside a i b))))
 
 module _ (a : GroupedAuction) (ranks : List Rank) (levels : List Frac) (ordered : IsOrdered a) (valid : IsValid a ranks levels) where
   has-tails : (often : ℕ) (has : HasLevels a ranks (pos often)) (i v : ℕ) → i < length (sizes_of (setting_of a)) → v < slice_index (sizes_of (setting_of a)) i
@@ -120,22 +130,13 @@ module _ (a : GroupedAuction) (ranks : List Rank) (levels : List Frac) (ordered 
 
   -- ---- the mechanism of the list
 
-  list-score : (c : ℕ → ℕ → ℤ) (r : ℤ) → mechanism_score a (list_mechanism a ranks) c r ≡ rule_score a ranks c r
-  list-score c r =
-      let s = setting_of a in
-      total-same (sizes_of s) _ _
-      (λ t p.
-      ap₂ (λ x y. weight_of s t *ℤ (x +ℤ r *ℤ y))
-      (sum_to-same (length (sizes_of s)) _ _ (λ i b. ap (λ z. c (group_of a i) (slice_index t i) *ℤ z) (amount-sum a ranks t i p (bidder-inside a i b))))
-      (sum_to-same (length (sizes_of s)) _ _ (λ i b. pays-are a ranks t i p (bidder-inside a i b))))
-
   abbrev base : ℤ
   base = (a.keep *ℤ all_units a) *ℤ total_of (setting_of a)
 
   worth-difference : (m : Mechanism) → IsAdmissible (setting_of a) m → IsAdmissible (setting_of a) (list_mechanism a ranks)
       → worth_of (setting_of a) (list_mechanism a ranks) *ℤ m.den -ℤ worth_of (setting_of a) m *ℤ pos 1 ≡ more_worth m
   worth-difference m admissible own =
-      ap₂ (λ x y. x *ℤ m.den -ℤ y *ℤ pos 1) (worth-by_score a (list_mechanism a ranks) own.mechanism ∙ ap (λ z. base *ℤ pos 1 +ℤ z) (list-score (surplus_in a) a.revenue)) (worth-by_score a m admissible.mechanism)
+      ap₂ (λ x y. x *ℤ m.den -ℤ y *ℤ pos 1) (worth-by_score a (list_mechanism a ranks) own.mechanism ∙ ap (λ z. base *ℤ pos 1 +ℤ z) (list-score a ranks (surplus_in a) a.revenue)) (worth-by_score a m admissible.mechanism)
       ∙ parts base m.den (rule_score a ranks (surplus_in a) a.revenue) (mechanism_score a m (surplus_in a) a.revenue)
     where
       parts : (b d x y : ℤ) → (b *ℤ pos 1 +ℤ x) *ℤ d -ℤ (b *ℤ d +ℤ y) *ℤ pos 1 ≡ d *ℤ x -ℤ y
@@ -143,7 +144,7 @@ module _ (a : GroupedAuction) (ranks : List Rank) (levels : List Frac) (ordered 
 
   welfare-difference : (m : Mechanism) → welfare_in (setting_of a) (list_mechanism a ranks) *ℤ m.den -ℤ welfare_in (setting_of a) m *ℤ pos 1 ≡ more_welfare m
   welfare-difference m =
-      ap₂ (λ x y. x *ℤ m.den -ℤ y *ℤ pos 1) (welfare-by_score a (list_mechanism a ranks) ∙ list-score (values_in a) (pos 0)) (welfare-by_score a m)
+      ap₂ (λ x y. x *ℤ m.den -ℤ y *ℤ pos 1) (welfare-by_score a (list_mechanism a ranks) ∙ list-score a ranks (values_in a) (pos 0)) (welfare-by_score a m)
       ∙ parts m.den (rule_score a ranks (values_in a) (pos 0)) (mechanism_score a m (values_in a) (pos 0))
     where
       parts : (d x y : ℤ) → x *ℤ d -ℤ y *ℤ pos 1 ≡ d *ℤ x -ℤ y

@@ -32,10 +32,10 @@ pub record IsListed (sizes : List ℕ) (i : ℕ) (value : ℕ → ℤ) (places :
   pub none : (t : List ℕ) (v : ℕ) → IsProfile sizes t → place v ≡ places → x (replaced t i v) ≡ pos 0
   pub pays : (t : List ℕ) (v : ℕ) → IsProfile sizes t → v < slice_index sizes i → p (replaced t i v) ≡ pay_by value (λ u. x (replaced t i u)) v
 
-interim-same : (sizes : List ℕ) (weight : List ℕ → ℤ) (i : ℕ) (x : List ℕ → ℤ) (v u : ℕ) → ((t : List ℕ) → IsProfile sizes t → x (replaced t i v) ≡ x (replaced t i u)) → interim sizes weight i x v ≡ interim sizes weight i x u
+pub interim-same : (sizes : List ℕ) (weight : List ℕ → ℤ) (i : ℕ) (x : List ℕ → ℤ) (v u : ℕ) → ((t : List ℕ) → IsProfile sizes t → x (replaced t i v) ≡ x (replaced t i u)) → interim sizes weight i x v ≡ interim sizes weight i x u
 interim-same sizes weight i x v u h = total_given-same sizes i 0 (λ t. weight t *ℤ x (replaced t i v)) (λ t. weight t *ℤ x (replaced t i u)) (λ t p e. ap (λ z. weight t *ℤ z) (h t p))
 
-interim-none : (sizes : List ℕ) (weight : List ℕ → ℤ) (i : ℕ) (x : List ℕ → ℤ) (v : ℕ) → ((t : List ℕ) → IsProfile sizes t → x (replaced t i v) ≡ pos 0) → interim sizes weight i x v ≡ pos 0
+pub interim-none : (sizes : List ℕ) (weight : List ℕ → ℤ) (i : ℕ) (x : List ℕ → ℤ) (v : ℕ) → ((t : List ℕ) → IsProfile sizes t → x (replaced t i v) ≡ pos 0) → interim sizes weight i x v ≡ pos 0
 interim-none sizes weight i x v h =
     total_given-same sizes i 0 (λ t. weight t *ℤ x (replaced t i v)) (λ t. pos 0) (λ t p e. ap (λ z. weight t *ℤ z) (h t p) ∙ *ℤ-zero (weight t))
     ∙ total_by-zero (where_type i 0 (λ t. pos 0)) (profiles_of sizes) (λ k d l. either (slice_index (get_or (profiles_of sizes) k d) i == 0))
@@ -95,7 +95,7 @@ module _ (sizes : List ℕ) (weight : List ℕ → ℤ) (own : ℕ → ℕ → �
       scaled : (z : ℤ) → pos 0 ≤ℤ z → pos 0 ≤ℤ (own i 0 *ℤ z)
       scaled z h = (let e : own i 0 *ℤ pos 0 ≡ pos 0 = *ℤ-zero (own i 0) in let l = *ℤ-le (own i 0) (pos 0) z (le_from_lt (pos 0) (own i 0) first-positive) h in omega (arith, linear, l, e))
 
-  adds-interim : (c : ℕ → ℤ) (r : ℤ) → own i 0 *ℤ adds sizes weight i x p c r ≡ sum_to (slice_index sizes i) (λ v. own i v *ℤ (c v *ℤ gets v +ℤ r *ℤ paid v))
+  pub adds-interim : (c : ℕ → ℤ) (r : ℤ) → own i 0 *ℤ adds sizes weight i x p c r ≡ sum_to (slice_index sizes i) (λ v. own i v *ℤ (c v *ℤ gets v +ℤ r *ℤ paid v))
   adds-interim c r =
       ap (λ z. own i 0 *ℤ z)
       (total-same sizes _ (λ t. weight t *ℤ (c (slice_index t i) *ℤ x t) +ℤ weight t *ℤ (r *ℤ p t)) (λ t q. *ℤ-+ℤ (weight t) (c (slice_index t i) *ℤ x t) (r *ℤ p t))

@@ -28,7 +28,7 @@ use Rattle.md_list_laws.proofs.Scores.{IsMarket}
 -- ---- weights
 
 -- two products that differ in one factor
-product-turned : (n i : ℕ) (f g : ℕ → ℤ) → i < n → ((j : ℕ) → j < n → j ≢ i → f j ≡ g j) → g i *ℤ product_below n f ≡ f i *ℤ product_below n g
+pub product-turned : (n i : ℕ) (f g : ℕ → ℤ) → i < n → ((j : ℕ) → j < n → j ≢ i → f j ≡ g j) → g i *ℤ product_below n f ≡ f i *ℤ product_below n g
 product-turned zero i f g b h = absurd (omega (arith, b))
 product-turned (suc n) i f g b h = elim (cases_lt i n) [
   | inl l ↦

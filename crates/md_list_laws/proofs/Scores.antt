@@ -28,7 +28,7 @@ abbrev pub score : List ℕ → (List ℕ → ℤ) → (ℕ → ℕ) → (ℕ �
 score sizes weight member c r x p =
     total_by (λ t. weight t *ℤ (sum_to (length sizes) (λ i. c (member i) (slice_index t i) *ℤ x i t) +ℤ r *ℤ sum_to (length sizes) (λ i. p i t))) (profiles_of sizes)
 
-score-by_bidders : (sizes : List ℕ) (weight : List ℕ → ℤ) (member : ℕ → ℕ) (c : ℕ → ℕ → ℤ) (r : ℤ) (x p : ℕ → List ℕ → ℤ)
+pub score-by_bidders : (sizes : List ℕ) (weight : List ℕ → ℤ) (member : ℕ → ℕ) (c : ℕ → ℕ → ℤ) (r : ℤ) (x p : ℕ → List ℕ → ℤ)
     → score sizes weight member c r x p ≡ sum_to (length sizes) (λ i. adds sizes weight i (x i) (p i) (c (member i)) r)
 score-by_bidders sizes weight member c r x p =
     let n = length sizes in

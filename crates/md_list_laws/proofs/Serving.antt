@@ -11,9 +11,9 @@ use Rattle.md_math.proofs.SumLaws.{sum_to-same, sum_to-zero, sum_to-swap, sum_to
 use Rattle.md_bidders.specs.Assignments.{amount_of}
 use Rattle.md_setting.specs.Grouped.{GroupedAuction, bidder_count}
 use Rattle.md_list.specs.Ranks.{Rank}
-use Rattle.md_list.specs.Rule.{place_at, is_before, count_to, before, amount_at}
+use Rattle.md_list.specs.Rule.{place_at, is_before, count_to, before, slot_at, amount_at}
 use Rattle.md_list.proofs.AmountLaws.{GoesFirst, first-decides, first-itself, before-apart}
-use Rattle.md_list.proofs.CountLaws.{count-le, count-less}
+use Rattle.md_list.proofs.CountLaws.{count-same, count-le, count-less}
 use Rattle.md_list_laws.proofs.Counts.{pos-count_to, by-own_keys, most-by_keys}
 
 -- ---- the first places
@@ -22,41 +22,67 @@ abbrev pub slot_amount : List ℕ → ℕ → ℤ
 slot_amount slots h = pos (slice_index slots h)
 
 -- all who go before a bidder with one of the first places have one of them, too
-before-below : (a : GroupedAuction) (ranks : List Rank) (t : List ℕ) (r i : ℕ) → i < bidder_count a → nat_le (place_at a ranks t i) r ≡ true
-    → before a ranks t i < count_to (bidder_count a) (λ j. nat_le (place_at a ranks t j) r)
+before-below : (a : GroupedAuction) (ranks : List Rank) (t : List ℕ) (r i : ℕ) → i < bidder_count a → nat_lt (place_at a ranks t i) r ≡ true
+    → before a ranks t i < count_to (bidder_count a) (λ j. nat_lt (place_at a ranks t j) r)
 before-below a ranks t r i b e =
     let place = place_at a ranks t in
-    count-less (bidder_count a) i (is_before a ranks t i) (λ j. nat_le (place j) r) b
-    (λ j c d. le-leb (place j) r (earlier (place j) j (place i) i (leb-true (place i) r e) ((first-decides (place j) j (place i) i).0 d))) (first-itself (place i) i) e
+    count-less (bidder_count a) i (is_before a ranks t i) (λ j. nat_lt (place j) r) b
+    (λ j c d. lt-ltb (place j) r (earlier (place j) j (place i) i (ltb-true (place i) r e) ((first-decides (place j) j (place i) i).0 d))) (first-itself (place i) i) e
   where
-    earlier : (q j p i : ℕ) → p ≤ r → GoesFirst q j p i → q ≤ r
+    earlier : (q j p i : ℕ) → p < r → GoesFirst q j p i → q < r
     earlier q j p i l (inl f) = omega (arith, l, f)
     earlier q j p i l (inr f) = omega (arith, l, f.0)
 
 before-own : (a : GroupedAuction) (ranks : List Rank) (t : List ℕ) (i j : ℕ) → i < bidder_count a → j < bidder_count a → before a ranks t i ≡ before a ranks t j → i ≡ j
 before-own a ranks t i j b c e = elim (cases_eq i j) [ inl same ↦ same | inr d ↦ absurd (before-apart a ranks t i j b c d e) ]
 
-served-amount : (slots : List ℕ) (b : Bool) (h : ℕ) → b ≡ true → pos (amount_of slots (if b && nat_lt h (length slots) then suc h else 0)) ≡ slot_amount slots h
-served-amount slots true h e = elim (cases_lt h (length slots)) [
-  | inl l ↦ ap (λ (t : Bool). pos (amount_of slots (if t then suc h else 0))) (lt-ltb h (length slots) l)
-  | inr l ↦ ap (λ (t : Bool). pos (amount_of slots (if t then suc h else 0))) (le-ltb h (length slots) l) ∙ ap pos (sym (get_or_past slots h 0 l))
+-- what a slot, counted from 1, brings where that with so many before it brings f, and 0 where there is none
+abbrev pub brings : (ℕ → ℤ) → ℕ → ℤ
+brings f zero = pos 0
+brings f (suc h) = f h
+
+served-slot : (f : ℕ → ℤ) (slots : ℕ) (b : Bool) (h : ℕ) → ((g : ℕ) → slots ≤ g → f g ≡ pos 0) → b ≡ true → brings f (if b && nat_lt h slots then suc h else 0) ≡ f h
+served-slot f slots true h none e = elim (cases_lt h slots) [
+  | inl l ↦ ap (λ (t : Bool). brings f (if t then suc h else 0)) (lt-ltb h slots l)
+  | inr l ↦ ap (λ (t : Bool). brings f (if t then suc h else 0)) (le-ltb h slots l) ∙ sym (none h l)
 ]
-served-amount slots false h e = cc
+served-slot f slots false h none e = cc
 
 -- together the bidders with the first places get the first slots
+pub served-below : (a : GroupedAuction) (ranks : List Rank) (t : List ℕ) (f : ℕ → ℤ) (r : ℕ) → ((h : ℕ) → length a.slots ≤ h → f h ≡ pos 0) → r ≤ length ranks
+    → sum_to (bidder_count a) (λ i. if nat_lt (place_at a ranks t i) r then brings f (slot_at a ranks t i) else pos 0)
+    ≡ sum_to (count_to (bidder_count a) (λ j. nat_lt (place_at a ranks t j) r)) f
+served-below a ranks t f r none l =
+    let n = bidder_count a in
+    let test = λ (i : ℕ). nat_lt (place_at a ranks t i) r in
+    sum_to-same n _ (λ i. if test i then f (before a ranks t i) else pos 0) (λ i b. one i (test i) refl)
+    ∙ by-own_keys n (count_to n test) test (before a ranks t) f (λ i j b c e d. before-own a ranks t i j b c) (λ i b e. before-below a ranks t r i b e) (sym (pos-count_to n test))
+  where
+    one : (i : ℕ) (b : Bool) → nat_lt (place_at a ranks t i) r ≡ b → (if b then brings f (slot_at a ranks t i) else pos 0) ≡ (if b then f (before a ranks t i) else pos 0)
+    one i true e =
+        served-slot f (length a.slots) (nat_lt (place_at a ranks t i) (length ranks)) (before a ranks t i) none
+        (lt-ltb (place_at a ranks t i) (length ranks) (let p = ltb-true (place_at a ranks t i) r e in omega (arith, l, p)))
+    one i false e = refl
+
+pub brings-amount : (slots : List ℕ) (slot : ℕ) → brings (slot_amount slots) slot ≡ pos (amount_of slots slot)
+brings-amount slots zero = refl
+brings-amount slots (suc h) = refl
+
 pub served-first : (a : GroupedAuction) (ranks : List Rank) (t : List ℕ) (r : ℕ) → r < length ranks
     → sum_to (bidder_count a) (λ i. if nat_le (place_at a ranks t i) r then pos (amount_at a ranks t i) else pos 0)
     ≡ sum_to (count_to (bidder_count a) (λ j. nat_le (place_at a ranks t j) r)) (slot_amount a.slots)
 served-first a ranks t r l =
     let n = bidder_count a in
-    let test = λ (i : ℕ). nat_le (place_at a ranks t i) r in
-    sum_to-same n _ (λ i. if test i then slot_amount a.slots (before a ranks t i) else pos 0) (λ i b. one i (test i) refl)
-    ∙ by-own_keys n (count_to n test) test (before a ranks t) (slot_amount a.slots) (λ i j b c e d. before-own a ranks t i j b c) (λ i b e. before-below a ranks t r i b e) (sym (pos-count_to n test))
+    sum_to-same n _ (λ i. if nat_lt (place_at a ranks t i) (suc r) then brings (slot_amount a.slots) (slot_at a ranks t i) else pos 0)
+    (λ i b. ap₂ (λ (t : Bool) z. if t then z else pos 0) (sym (lt-suc (place_at a ranks t i) r)) (sym (brings-amount a.slots (slot_at a ranks t i))))
+    ∙ served-below a ranks t (slot_amount a.slots) (suc r) (λ h b. ap (λ m. pos m) (get_or_past a.slots h 0 b)) (omega (arith, l))
+    ∙ ap (λ m. sum_to m (slot_amount a.slots)) (count-same n _ _ (λ i b. lt-suc (place_at a ranks t i) r))
   where
-    one : (i : ℕ) (b : Bool) → nat_le (place_at a ranks t i) r ≡ b → (if b then pos (amount_at a ranks t i) else pos 0) ≡ (if b then slot_amount a.slots (before a ranks t i) else pos 0)
-    one i true e =
-        served-amount a.slots (nat_lt (place_at a ranks t i) (length ranks)) (before a ranks t i) (lt-ltb (place_at a ranks t i) (length ranks) (omega (arith, l, leb-true (place_at a ranks t i) r e)))
-    one i false e = refl
+    lt-suc : (p r : ℕ) → nat_lt p (suc r) ≡ nat_le p r
+    lt-suc p r = elim (cases_lt r p) [
+      | inl h ↦ le-ltb p (suc r) (omega (arith, h)) ∙ sym (lt-leb p r h)
+      | inr h ↦ lt-ltb p (suc r) (omega (arith, h)) ∙ sym (le-leb p r h)
+    ]
 
 slot-falls : (slots : List ℕ) → ((h : ℕ) → suc h < length slots → slice_index slots (suc h) ≤ slice_index slots h) → (h : ℕ) → slot_amount slots (suc h) ≤ℤ slot_amount slots h
 slot-falls slots falling h = elim (cases_lt (suc h) (length slots)) [

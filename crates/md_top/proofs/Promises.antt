@@ -8,7 +8,7 @@ use Rattle.md_ports.specs.Faults.{Rose}
 use Rattle.md_cli_words.specs.Commands.{command_in}
 use Rattle.md_cli_words.specs.Words.{Order, command_of}
 use Rattle.md_cli_words.specs.declared.command.Command.{Command}
-use Rattle.md_cli_words.specs.declared.command.Command.TheVariants.{Audit, Rows, Check, Solve, Replay, Realise, Fair, Find, FindFair, FairCheck, Require, RequireCheck, Asym, AsymCheck, Units, UnitCheck, Threshold, Award, Determ, DetermCheck, Run, Report, Iron, IronUnits, Make, Drill}
+use Rattle.md_cli_words.specs.declared.command.Command.TheVariants.{Audit, Rows, Check, Solve, Replay, Realise, Fair, Find, FindFair, Require, Asym, Units, Threshold, Award, Determ, DetermCheck, Run, Report, Iron, IronUnits, Make, Drill}
 use Rattle.md_setting.specs.ByKind.{has_no_groups}
 use Rattle.md_setting.specs.declared.file.SettingFile.{SettingFile}
 use Rattle.md_setting.specs.declared.file.SettingFile.TheVariants.{General, Auction, Bidders}
@@ -160,16 +160,12 @@ headline-of_command Solve order content before after saying status out err said 
 headline-of_command Find order content before after saying status out err said delivered =
     found-shows order.has_second order content before after saying status out err said delivered
 headline-of_command FindFair order content before after saying status out err said delivered = tt
-headline-of_command FairCheck order content before after saying status out err said delivered = tt
 headline-of_command Require order content before after saying status out err said delivered = tt
-headline-of_command RequireCheck order content before after saying status out err said delivered = tt
-headline-of_command AsymCheck order content before after saying status out err said delivered = tt
 headline-of_command Replay order content before after saying status out err said delivered = tt
 headline-of_command Realise order content before after saying status out err said delivered = tt
 headline-of_command Fair order content before after saying status out err said delivered = tt
 headline-of_command Asym order content before after saying status out err said delivered = tt
 headline-of_command Units order content before after saying status out err said delivered = tt
-headline-of_command UnitCheck order content before after saying status out err said delivered = tt
 headline-of_command Threshold order content before after saying status out err said delivered = tt
 headline-of_command Award order content before after saying status out err said delivered = tt
 headline-of_command Determ order content before after saying status out err said delivered = tt

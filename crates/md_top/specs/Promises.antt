@@ -3,7 +3,7 @@ use Rattle.std.specs.Prelude.{◌≡◌, ◌≢◌, ◌++◌, ◌<◌, ◌≤◌
 use Rattle.std.specs.Option.{ForSome}
 use Rattle.md_ports.specs.Faults.{Rose}
 use Rattle.md_cli_words.specs.declared.command.Command.{Command}
-use Rattle.md_cli_words.specs.declared.command.Command.TheVariants.{Audit, Rows, Check, Solve, Replay, Realise, Fair, Find, FindFair, FairCheck, Require, RequireCheck, Asym, AsymCheck, Units, UnitCheck, Threshold, Award, Determ, DetermCheck, Run, Report, Iron, IronUnits, Make, Drill}
+use Rattle.md_cli_words.specs.declared.command.Command.TheVariants.{Audit, Rows, Check, Solve, Replay, Realise, Fair, Find, FindFair, Require, Asym, Units, Threshold, Award, Determ, DetermCheck, Run, Report, Iron, IronUnits, Make, Drill}
 use Rattle.md_cli_words.specs.Words.{Order}
 use Rattle.md_setting.specs.ByKind.{has_no_groups}
 use Rattle.md_setting.specs.declared.file.SettingFile.{SettingFile}
@@ -48,13 +48,9 @@ IsHeadlineBy Replay order content status out = Unit {0}
 IsHeadlineBy Realise order content status out = Unit {0}
 IsHeadlineBy Fair order content status out = Unit {0}
 IsHeadlineBy FindFair order content status out = Unit {0}
-IsHeadlineBy FairCheck order content status out = Unit {0}
 IsHeadlineBy Require order content status out = Unit {0}
-IsHeadlineBy RequireCheck order content status out = Unit {0}
-IsHeadlineBy AsymCheck order content status out = Unit {0}
 IsHeadlineBy Asym order content status out = Unit {0}
 IsHeadlineBy Units order content status out = Unit {0}
-IsHeadlineBy UnitCheck order content status out = Unit {0}
 IsHeadlineBy Threshold order content status out = Unit {0}
 IsHeadlineBy Award order content status out = Unit {0}
 IsHeadlineBy Determ order content status out = Unit {0}

@@ -2,29 +2,24 @@
 use Rattle.std.specs.Prelude.{◌≡◌, ◌⊎◌, ℕ, ℤ, unsigned_abs, Bool, true, false, List, Option, None, Some, IsSome}
 use Rattle.md_cli_words.specs.Commands.{command_in}
 use Rattle.md_cli_words.specs.declared.command.Command.{Command}
-use Rattle.md_cli_words.specs.declared.command.Command.TheVariants.{Audit, Rows, Check, Solve, Replay, Realise, Fair, Find, FindFair, FairCheck, Require, RequireCheck, Asym, AsymCheck, Units, UnitCheck, Threshold, Award, Determ, DetermCheck, Run, Report, Iron, IronUnits, Make, Drill}
+use Rattle.md_cli_words.specs.declared.command.Command.TheVariants.{Audit, Rows, Check, Solve, Replay, Realise, Fair, Find, FindFair, Require, Asym, Units, Threshold, Award, Determ, DetermCheck, Run, Report, Iron, IronUnits, Make, Drill}
 use Rattle.md_cli_words.specs.Words.{Order, command_of}
 use Rattle.md_border.specs.declared.interim.Interim.{Interim}
 use Rattle.md_answer.specs.declared.answer.Answer.{Answer}
 use Rattle.md_answer.specs.declared.pivots_file.Pivots.{Pivots}
-use Rattle.md_asym.specs.declared.sale_answer.SaleAnswer.{SaleAnswer}
-use Rattle.md_fair.specs.declared.answer.FairAnswer.{FairAnswer}
 use Rattle.md_require.specs.declared.condition.Condition.{Condition}
-use Rattle.md_require_text.specs.Told.{Told}
 use Rattle.md_mechanism_text.specs.Proposals.{Proposed}
 use Rattle.md_setting.specs.ByKind.{has_no_groups}
 use Rattle.md_cli_driver.specs.declared.refusal.Refusal.TheVariants as refusal
 use Rattle.md_cli_driver.specs.Saying.{Saying}
-use Rattle.md_cli_driver.specs.Reading.{answer_in, is_auction, is_general}
+use Rattle.md_cli_driver.specs.Reading.{is_auction, is_general}
 use Rattle.md_cli_driver.specs.Refused.{refused}
-use Rattle.md_cli_driver.specs.Works.{Work, no_file, one_file, two_files, sale_files, number_refused, IsReplyTo, HasFaultedIn}
+use Rattle.md_cli_driver.specs.Works.{Work, no_file, one_file, two_files, number_refused, IsReplyTo, HasFaultedIn}
 use Rattle.md_cli_best.specs.Headline.{IsSolveStatus}
 use Rattle.md_cli_judge.specs.Auditing.{proposal_in, IsAudit, IsAuditStatus}
 use Rattle.md_cli_lp.specs.Listing.{IsRows, IsRowsStatus}
-use Rattle.md_cli_judge.specs.Checking.{IsCheck}
-use Rattle.md_cli_judge.specs.AsymChecking.{IsAsymCheck, IsSaleFile, sale_answer_in}
-use Rattle.md_cli_judge.specs.FairChecking.{fair_answer_in, IsFairCheck}
-use Rattle.md_cli_judge.specs.RequireChecking.{required_answer_in, IsRequireCheck}
+use Rattle.md_cli_judge.specs.Checked.{checked_answer_in, IsChecked}
+use Rattle.md_cli_judge.specs.declared.checked_answer.CheckedAnswer.{CheckedAnswer}
 use Rattle.md_cli_judge.specs.UnitChecking.{unit_answer_in, IsUnitCheck}
 use Rattle.md_cli_judge.specs.Verdicts.{IsCheckStatus}
 use Rattle.md_cli_best.specs.Solving.{IsSolve}
@@ -52,7 +47,7 @@ use Rattle.md_unit_tables.specs.Numbers.{is_unit_number}
 use Rattle.md_cli_sell.specs.Thresholding.{IsThresholding, IsThresholdStatus}
 use Rattle.md_cli_tell.specs.Awarding.{IsAwardOf, IsAwardStatus}
 use Rattle.md_cli_best.specs.Determining.{IsDeterm, IsDetermStatus}
-use Rattle.md_cli_judge.specs.DetermChecking.{determ_text_in, IsDetermCheck, IsDetermCheckStatus}
+use Rattle.md_cli_judge.specs.DetermChecking.{determ_text_in, IsDetermCheck}
 
 -- what is done with so many units, where so many may be sold; else the number is refused, and no file is read
 abbrev pub sale_by : Bool → Work → Work
@@ -67,9 +62,6 @@ sale_of number work = sale_by (is_unit_number number) (work (unsigned_abs number
 abbrev pub units_work : ℤ → ℕ → Work
 units_work number width = sale_of number (λ units. one_file is_auction (IsUnits units width) IsUnitsStatus)
 
-abbrev pub unit_check_work : ℤ → Work
-unit_check_work number = sale_of number (λ units. two_files Answer is_auction (unit_answer_in units) (IsUnitCheck units) IsCheckStatus)
-
 abbrev pub iron_units_work : ℤ → Work
 iron_units_work number = sale_of number (λ units. one_file is_auction (IsIronUnits units) IsIronStatus)
 
@@ -79,8 +71,12 @@ threshold_work number = sale_of number (λ units. one_file is_auction (IsThresho
 abbrev pub award_work : ℤ → List ℕ → ℤ → Work
 award_work number profile draw = sale_of number (λ units. one_file is_auction (IsAwardOf units profile draw) IsAwardStatus)
 
--- An outcome is drawn from an answer at a profile, and what an answer does is told. Where --units asks for a number, the answer is
--- one about so many units.
+-- What an answer claims is judged, an outcome is drawn from an answer at a profile, and what an answer does is told. Where --units asks
+-- for a number, the answer is one about so many units.
+abbrev pub check_work : Option ℤ → Work
+check_work None = two_files CheckedAnswer has_no_groups checked_answer_in IsChecked IsCheckStatus
+check_work (Some number) = sale_of number (λ units. two_files Answer is_auction (unit_answer_in units) (IsUnitCheck units) IsCheckStatus)
+
 abbrev pub draw_work : Option ℤ → List ℕ → ℤ → ℤ → Work
 draw_work None profile first second = two_files Drawable has_no_groups drawable_in (IsRun profile first second) IsRunStatus
 draw_work (Some number) profile first second = sale_of number (λ units. two_files Answer is_auction (unit_table_in units) (IsUnitRun units profile first second) IsRunStatus)
@@ -98,24 +94,20 @@ find_work true = two_files Listed is_general basis_in (λ file basis. IsFind fil
 abbrev pub work_by : Command → Order → Work
 work_by Audit order = two_files Proposed is_general proposal_in IsAudit IsAuditStatus
 work_by Rows order = one_file has_no_groups IsRows IsRowsStatus
-work_by Check order = two_files Answer has_no_groups answer_in IsCheck IsCheckStatus
+work_by Check order = check_work order.units
 work_by Solve order = one_file has_no_groups (IsSolve order.width) IsSolveStatus
 work_by Replay order = two_files Pivots has_no_groups pivots_in (IsReplay order.width) IsReplayStatus
 work_by Realise order = two_files Interim is_auction odds_in IsRealise IsRealiseStatus
 work_by Fair order = one_file is_general (IsFair order.width) IsSolveStatus
 work_by Find order = find_work order.has_second
 work_by FindFair order = one_file is_general IsFindFair IsFindStatus
-work_by FairCheck order = two_files FairAnswer is_general fair_answer_in IsFairCheck IsCheckStatus
 work_by Require order = two_files (List Condition) is_general conditions_in IsRequire IsFindStatus
-work_by RequireCheck order = two_files Told is_general required_answer_in IsRequireCheck IsCheckStatus
 work_by Asym order = one_file is_general (IsAsym order.width) IsAsymStatus
-work_by AsymCheck order = sale_files SaleAnswer IsSaleFile sale_answer_in IsAsymCheck IsCheckStatus
 work_by Units order = units_work order.number order.width
-work_by UnitCheck order = unit_check_work order.number
 work_by Threshold order = threshold_work order.number
 work_by Award order = award_work order.number order.profile order.first_draw
 work_by Determ order = one_file is_general (IsDeterm order.width) IsDetermStatus
-work_by DetermCheck order = two_files (List ℕ) is_general determ_text_in IsDetermCheck IsDetermCheckStatus
+work_by DetermCheck order = two_files (List ℕ) is_general determ_text_in IsDetermCheck IsCheckStatus
 work_by Run order = draw_work order.units order.profile order.first_draw order.second_draw
 work_by Report order = report_work order.units
 work_by Iron order = one_file is_auction IsIron IsIronStatus

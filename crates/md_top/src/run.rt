@@ -1,12 +1,12 @@
 //! The commands, each carried out over its files.
 ghost use Rattle.std.specs.Prelude.{ℕ, List, Some};
 ghost use Rattle.md_cli_words.specs.Orders.{asked};
-ghost use Rattle.md_top.specs.Reply.{award_work, draw_work, find_work, iron_units_work, report_work, threshold_work, unit_check_work, units_work, work_of};
+ghost use Rattle.md_top.specs.Reply.{award_work, check_work, draw_work, find_work, iron_units_work, report_work, threshold_work, units_work, work_of};
 ghost use Rattle.md_cli_driver.specs.Works.{IsCarriedOut};
 
 use md_cli_best::{Determ, Drill, Fair, Find, FindFair, FindFrom, Make, Require, Solve};
-use md_cli_driver::{Answered, NumberRefused, Refusal, of_none, of_one, of_sale, of_two};
-use md_cli_judge::{AsymCheck, Audit, Check, DetermCheck, FairCheck, RequireCheck, UnitCheck};
+use md_cli_driver::{Answered, NumberRefused, Refusal, of_none, of_one, of_two};
+use md_cli_judge::{Audit, Check, CheckUnits, DetermCheck};
 use md_cli_lp::{Replay, Rows};
 use md_cli_sell::{Asym, Iron, IronUnits, ThresholdSale, Units};
 use md_cli_tell::{Awarding, Draw, DrawUnits, Realise, Tell, TellUnits};
@@ -37,20 +37,16 @@ pub(crate) fn run<F: Shelf>(
     match command {
         Command::Audit => of_two(alloc, &Audit, setting, second, shelf),
         Command::Rows => of_one(alloc, &Rows, setting, shelf),
-        Command::Check => of_two(alloc, &Check, setting, second, shelf),
+        Command::Check => check(alloc, order, shelf),
         Command::Solve => of_one(alloc, &Solve { width }, setting, shelf),
         Command::Replay => of_two(alloc, &Replay { width }, setting, second, shelf),
         Command::Realise => of_two(alloc, &Realise, setting, second, shelf),
         Command::Fair => of_one(alloc, &Fair { width }, setting, shelf),
         Command::Find => find(alloc, order.has_second, setting, second, shelf),
         Command::FindFair => of_one(alloc, &FindFair, setting, shelf),
-        Command::FairCheck => of_two(alloc, &FairCheck, setting, second, shelf),
         Command::Require => of_two(alloc, &Require, setting, second, shelf),
-        Command::RequireCheck => of_two(alloc, &RequireCheck, setting, second, shelf),
         Command::Asym => of_one(alloc, &Asym { width }, setting, shelf),
-        Command::AsymCheck => of_sale(alloc, &AsymCheck, setting, second, shelf),
         Command::Units => sell_units(alloc, number, width, setting, shelf),
-        Command::UnitCheck => check_units(alloc, number, setting, second, shelf),
         Command::Threshold => sell_to_winners(alloc, number, setting, shelf),
         Command::Award => award(alloc, number, profile, first_draw, setting, shelf),
         Command::Determ => of_one(alloc, &Determ { width }, setting, shelf),
@@ -61,6 +57,32 @@ pub(crate) fn run<F: Shelf>(
         Command::IronUnits => iron_units(alloc, number, setting, shelf),
         Command::Make => of_none(alloc, &Make { number }),
         Command::Drill => of_none(alloc, &Drill { number }),
+    }
+}
+
+// Judges what an answer claims, also one about so many units.
+fn check<F: Shelf>(alloc: Global, order: &Order<'_>, shelf: &mut F) -> Result<Answered, Refusal>
+    ensures { IsCarriedOut (check_work order.now.units) order.now.setting.now order.now.second.now (F.content shelf.old) (F.faults shelf.old) (F.faults shelf.new) result }
+{
+    match order.units {
+        Some(number) => check_units(alloc, number, order.setting, order.second, shelf),
+        None => of_two(alloc, &Check, order.setting, order.second, shelf),
+    }
+}
+
+// Judges an answer about so many units. A number of them that may not be sold is refused before the setting is read.
+fn check_units<F: Shelf>(
+    alloc: Global,
+    number: i128,
+    setting: &str,
+    second: &str,
+    shelf: &mut F,
+) -> Result<Answered, Refusal>
+    ensures { IsCarriedOut (check_work (Some number)) setting.now second.now (F.content shelf.old) (F.faults shelf.old) (F.faults shelf.new) result }
+{
+    match UnitNumber::new(number) {
+        Some(units) => of_two(alloc, &CheckUnits { units }, setting, second, shelf),
+        None => of_none(alloc, &NumberRefused),
     }
 }
 
@@ -170,22 +192,6 @@ fn sell_units<F: Shelf>(
 {
     match UnitNumber::new(number) {
         Some(units) => of_one(alloc, &Units { units, width }, setting, shelf),
-        None => of_none(alloc, &NumberRefused),
-    }
-}
-
-// Checks an answer about so many units. A number of them that may not be sold is refused before the setting is read.
-fn check_units<F: Shelf>(
-    alloc: Global,
-    number: i128,
-    setting: &str,
-    second: &str,
-    shelf: &mut F,
-) -> Result<Answered, Refusal>
-    ensures { IsCarriedOut (unit_check_work number) setting.now second.now (F.content shelf.old) (F.faults shelf.old) (F.faults shelf.new) result }
-{
-    match UnitNumber::new(number) {
-        Some(units) => of_two(alloc, &UnitCheck { units }, setting, second, shelf),
         None => of_none(alloc, &NumberRefused),
     }
 }

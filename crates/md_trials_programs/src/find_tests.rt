@@ -1,5 +1,6 @@
 //! Certificates that each start finds by itself: where a profile has the weight 0, where payments are multiples of each other or grow
-//! without end, where staying away is worth something, and where the types of two bidders are correlated. And those that bases give.
+//! without end, where staying away is worth something, where the types of two bidders are correlated, and where a chance is to be
+//! reached. And those that bases give.
 use md_cert::Certificate;
 use md_find::{FindError, Start, find_by};
 use md_find_basis::find_at;
@@ -32,7 +33,7 @@ struct Case {
     leap: Ending,
 }
 
-static CASES: [Case; 8] = [
+static CASES: [Case; 9] = [
     // A bidder to whom the item is worth 2, and a profile of the weight 0: nothing but its chances is told of it.
     Case {
         cost: &[0, 0, 0, 0, 1, 0, -1, 0],
@@ -201,6 +202,22 @@ static CASES: [Case; 8] = [
         ],
         first_best: Ending::TooLong,
         leap: Ending::TooLong,
+    },
+    // A buyer to whom the item is worth 2 or 5. Who has 2 is to get it at least half of the time, as a condition of the designer
+    // may ask, and pays 1 for that; so who has 5 pays 7/2.
+    Case {
+        cost: &[0, 0, 0, 0, 1, 1, -1, -1],
+        rows: &[
+            (RowKind::AtMost, &[0, -2, 0, 2, 1, -1, -1, 1], 0),
+            (RowKind::AtMost, &[0, 5, 0, -5, -1, 1, 1, -1], 0),
+            (RowKind::AtMost, &[0, -2, 0, 0, 1, 0, -1, 0], 0),
+            (RowKind::AtMost, &[0, 0, 0, -5, 0, 1, 0, -1], 0),
+            (RowKind::AtMost, &[0, -2, 0, 0, 0, 0, 0, 0], -1),
+            (RowKind::Exact, &[1, 1, 0, 0, 0, 0, 0, 0], 1),
+            (RowKind::Exact, &[0, 0, 1, 1, 0, 0, 0, 0], 1),
+        ],
+        first_best: Ending::Greatest(9, 2),
+        leap: Ending::Greatest(9, 2),
     },
 ];
 

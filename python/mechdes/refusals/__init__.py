@@ -136,7 +136,7 @@ def _of_setting(files: _Files, cause: str) -> Optional[Sentence]:
 
 def _asked(files: _Files) -> Asked:
     call = files.call
-    units = call.units if "--units" in call.options or call.command == "unitcheck" else None
+    units = call.units if "--units" in call.options else None
     return Asked(call.command, units, Setting(files.text("SETTING")))
 
 

@@ -343,8 +343,6 @@ def kinds_read(asked: Asked) -> List[str]:
 def _first_field_fault(asked: Asked, record: Record, number: int) -> Optional[Fault]:
     """What is wrong with a field of the first record of an answer."""
     _, version, kind, word = record.fields
-    if number == 3:
-        return _kind_fault(asked, record, kind)
     forms = [it for it in ANSWERS.get(kind, {}) if " " in it]
     only = TABLE["only"]
     words = [it.split()[0] for it in forms if it.endswith(version) and only.get(f"{kind} {it}", asked.command) == asked.command]
@@ -366,6 +364,8 @@ def _first_fault(asked: Asked, records: Sequence[Record], field: int) -> Optiona
     if not records:
         return Fault("record.ended", counted(0, "record"), "answer", 0, "answer")
     fields, at = records[0]
+    if field == 3 and len(fields) > 2:
+        return _kind_fault(asked, records[0], fields[2])
     if field:
         return _first_field_fault(asked, records[0], field) if len(fields) == 4 else None
     if fields[0] != "answer":
@@ -378,7 +378,8 @@ def _kind_fault(asked: Asked, record: Record, kind: str) -> Optional[Fault]:
     """What is wrong with the kind of an answer."""
     reads, of, setting = kinds_read(asked), ANSWERS.get(kind, {}).get("of"), asked.setting
     if kind in reads:
-        return next(not_a_sale(setting), None) if kind == "asym" else None
+        no_sale = next(not_a_sale(setting), None) if kind == "asym" else None
+        return no_sale or Fault("answer.plain", quoted(kind), "", record.at, "answer")
     if of is not None and of != setting.kind:
         about = {"general": "a general setting", "auction": "an auction"}[of]
         return Fault("answer.setting", about, CALLED[setting.kind], record.at, "answer")
@@ -386,9 +387,10 @@ def _kind_fault(asked: Asked, record: Record, kind: str) -> Optional[Fault]:
     others = asked_for(nearest(kind, reads))
     if of is not None:
         takes_units = kind == "units" and "--units" in TABLE["commands"][asked.command].get("options", "")
-        others = texts["answer.units"] if takes_units else texts["answer.reads"].format(checker=ANSWERS[kind]["checker"])
+        others = texts["answer.units"] if takes_units else texts["answer.reads"]
     wanted = "those of the kind " + listed([quoted(it) for it in reads])
-    return Fault("answer.kind", quoted(kind), wanted, record.at, "answer", more={"command": asked.command, "others": others})
+    more = {"command": f"{asked.command} --units" if asked.units else asked.command, "others": others}
+    return Fault("answer.kind", quoted(kind), wanted, record.at, "answer", more=more)
 
 
 def _walk_of(asked: Asked, kind: str, first: Optional[Record]) -> Optional[Walk]:

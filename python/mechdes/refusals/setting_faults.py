@@ -2,6 +2,7 @@
 
 from __future__ import annotations
 
+import functools
 import itertools
 import math
 import re
@@ -13,7 +14,11 @@ from .toml_places import Items, NotToml, Scalar, Table, Value, read_toml
 KEYS, LIMITS = TABLE["keys"], TABLE["limits"]
 NAME = re.compile(r"[A-Za-z0-9_]{1,32}")
 ANSWERS = {"answer,": "an answer", "require,": "a conditions file", "pivot,": "a pivots file", "interim,": "an odds file"}
-CALLED = {"general": "a general one", "auction": "an auction"}  # what a setting of a kind is behind a verb
+# What a setting of a kind is behind a verb, and what its heads are.
+CALLED = {"general": "a general one", "auction": "an auction", "bidders": "an auction with groups of bidders"}
+HEADS = {"objective": "[objective]", "agent": "[[agent]]", "bidder": "[[bidder]]"}
+FRONTS = {"general": ["", "objective", "agent"], "auction": [""], "bidders": ["", "bidder"]}
+LISTED = {"agent": "agent", "bidder": "group"}  # what the tables of a list are in sentences
 Found = Iterator[Fault]
 
 
@@ -34,16 +39,22 @@ class Setting:
         return self.top["agent"]
 
     @property
+    def groups(self) -> List[Tuple[Any, str]]:
+        """The tables with values and weights, of an auction the top one, each with what stands in front of a sentence on it."""
+        return [*self.tables("bidder" if self.kind == "bidders" else "")]
+
+    @property
     def outcomes(self) -> List[str]:
         """The names of the outcomes."""
         return [it.value for it in self.top["outcomes"]]
 
     def tables(self, front: str) -> Iterator[Tuple[Any, str]]:
         """The tables whose keys have a front, each with what stands in front of a sentence on it."""
-        if front == "agent":
-            for number, agent in enumerate(self.agents, 1):
-                name = agent.get("name")
-                yield agent, f"agent {number} {quoted(name.value)}: " if _is_text(name) else f"agent {number}: "
+        if front in LISTED:
+            for number, table in enumerate(self.top[front], 1):
+                name = table.get("name")
+                called = f"{LISTED[front]} {number}"
+                yield table, f"{called} {quoted(name.value)}: " if _is_text(name) else f"{called}: "
         elif front == "objective":
             if "objective" in self.top:
                 yield self.top["objective"], ""
@@ -59,7 +70,7 @@ class Setting:
 
     def fronts(self) -> List[str]:
         """The fronts of all keys: `agent` of `agent.name`, say."""
-        return ["", "objective", "agent"] if self.kind == "general" else [""]
+        return FRONTS[self.kind]
 
     def types(self) -> List[List[str]]:
         """The names of the types of each agent."""
@@ -69,7 +80,7 @@ class Setting:
         """How many elements a list has that there is one of for each of these."""
         if noun == "profile":
             return math.prod(map(len, self.types()))
-        return len({"type": table.get("types"), "outcome": self.top.get("outcomes"), "value": self.top.get("values")}[noun])
+        return len({"type": table.get("types"), "outcome": self.top.get("outcomes"), "value": table.get("values")}[noun])
 
     def number(self, key: str, table: Any, default: int) -> int:
         """The whole number of a key."""
@@ -153,7 +164,7 @@ def missing(setting: Setting, key: str) -> Found:
         if name not in table:
             yield from _misspelt(setting, front, name, table, place)
             yield from _strayed(setting, key, name) if not front else ()
-            at = table.at if front == "agent" else None
+            at = table.at if front in LISTED else None
             yield Fault("key.missing", wanted=wanted, at=at, key=key, place=place, more={"key": _shown_key(front, name)})
 
 
@@ -167,8 +178,7 @@ def _misspelt(setting: Setting, front: str, name: str, table: Table, place: str)
 
 def _strayed(setting: Setting, key: str, name: str) -> Found:
     """A key of the top table that stands under a head, as what follows the head does."""
-    heads = {"objective": "[objective]", "agent": "[[agent]]"}
-    for front, head in heads.items():
+    for front, head in HEADS.items():
         tables = setting.top.get(front)
         for table in tables if isinstance(tables, Items) else [tables]:
             if isinstance(table, Table) and name in table and name not in KEYS[front]:
@@ -210,6 +220,9 @@ def unknown_word(setting: Setting, key: str) -> Found:
     for table, place in setting.tables(front):
         value = table.get(name)
         if value is not None and value.value not in spec["words"]:
+            if name == "kind" and value.value == "bidders":
+                version = setting.top["version"].source
+                yield Fault("kind.version", quoted("bidders"), "3", value.at, key, more={"of": version})
             meant = nearest(str(value.value), [str(it) for it in spec["words"]])
             more = {"key": _shown_key(front, name), "meant": asked_for(meant)}
             yield Fault("key.wrong", shown(value.source), _wanted(spec), value.at, key, place, more)
@@ -230,14 +243,12 @@ def unknown_key(setting: Setting) -> Found:
 def _unknown(setting: Setting, front: str, key: str, at: int, place: str) -> Fault:
     """What a key is that is not known where it stands: one of another table, or perhaps another one."""
     whole = _whole_key(front, key)
-    heads = {"objective": "[objective]", "agent": "[[agent]]"}
     meant = nearest(key, [*setting.known(front)])
-    if meant is None and setting.kind == "general":
-        for other, head in {"": "", **heads}.items():
-            if key in setting.known(other):
-                name = "key.under" if other else "key.above"
-                wanted = TABLE["sentences"][name].format(table=head)
-                return Fault("key.strayed", heads.get(front, "no head"), wanted, at, whole, place, {"key": key})
+    for other in setting.fronts() if meant is None else ():
+        if key in setting.known(other):
+            name = "key.under" if other else "key.above"
+            wanted = TABLE["sentences"][name].format(table=HEADS.get(other))
+            return Fault("key.strayed", HEADS.get(front, "no head"), wanted, at, whole, place, {"key": key})
     return Fault("key.unknown", quoted(key), at=at, key=whole, place=place, more={"meant": asked_for(meant)})
 
 
@@ -257,6 +268,9 @@ def _beside(setting: Setting, key: str, table: Table, at: int, place: str) -> Fo
 
 def _names(setting: Setting) -> Iterator[Tuple[str, str, str, List[Scalar]]]:
     """The lists of names: of what, their key, what stands in front of a sentence, and the names."""
+    if setting.kind == "bidders":
+        yield "group", "bidder.name", "", [it["name"] for it, _ in setting.groups]
+        return
     yield "agent", "agent.name", "", [it["name"] for it in setting.agents]
     yield "outcome", "outcomes", "", setting.top["outcomes"]
     for agent, place in setting.tables("agent"):
@@ -286,6 +300,8 @@ def sizes(setting: Setting) -> Found:
     for front in setting.fronts():
         for key, spec in setting.known(front).items():
             for table, place in setting.tables(front) if "noun" in spec and "least" in spec else ():
+                if key not in table:
+                    continue
                 value = table[key]
                 count = len(value) if isinstance(value, Items) else value.value
                 if not spec["least"] <= count <= spec["most"]:
@@ -295,6 +311,10 @@ def sizes(setting: Setting) -> Found:
     if setting.kind == "general" and setting.count_of("profile", None) > LIMITS["profiles"]:
         found = there(setting.count_of("profile", None), "profile")
         yield Fault("size.wrong", found, f"at most {LIMITS['profiles']:,} are")
+    if setting.kind == "bidders":
+        total = sum(setting.number("count", it, 1) for it, _ in setting.groups)
+        if total > LIMITS["bidders"]:
+            yield Fault("size.wrong", f"{there(total, 'bidder')} in all", f"at most {LIMITS['bidders']:,} are", key="bidder.count")
 
 
 def shape(setting: Setting) -> Found:
@@ -363,18 +383,20 @@ def _worths(setting: Setting) -> Found:
 def _products(setting: Setting) -> Found:
     """The values of an auction that welfare makes too great."""
     welfare, most = setting.number("welfare", setting.top, 0), LIMITS["worth"]
-    for value in setting.top["values"]:
-        if abs(welfare * value.value) > most:
-            found, wanted = f"{welfare * value.value:,}", between(-most, most)
-            yield Fault("range.product", found, wanted, setting.top["welfare"].at, "welfare", more={"of": value.source})
+    for table, place in setting.groups:
+        for value in table["values"]:
+            if abs(welfare * value.value) > most:
+                found, wanted, at = f"{welfare * value.value:,}", between(-most, most), setting.top["welfare"].at
+                yield Fault("range.product", found, wanted, at, "welfare", place, {"of": value.source})
 
 
 def zero_weight(setting: Setting) -> Found:
     """The types or values that never come."""
-    if setting.kind == "auction":
-        for value, weight in zip(setting.top["values"], setting.top["weights"]):
-            if weight.value == 0:
-                yield Fault("weight.value", value.source, "above 0", weight.at, "weights")
+    if setting.kind != "general":
+        for table, place in setting.groups:
+            for value, weight in zip(table["values"], table["weights"]):
+                if weight.value == 0:
+                    yield Fault("weight.value", value.source, "above 0", weight.at, _own_key(setting, "weights"), place)
         return
     for number, (agent, place) in enumerate(setting.tables("agent")):
         for kind, name in enumerate(agent["types"]):
@@ -388,6 +410,9 @@ def zero_weight(setting: Setting) -> Found:
 
 def weight_total(setting: Setting) -> Found:
     """By how much the weights are too great together."""
+    if setting.kind == "bidders":
+        yield from _group_totals(setting)
+        return
     is_auction, most = setting.kind == "auction", LIMITS["weight"]
     weights = (it.value for it in setting.top["weights"]) if is_auction else map(setting.weight, setting.profiles())
     total, key = sum(weights), "weights" if is_auction else "prior" if "prior" in setting.top else "agent.weights"
@@ -397,12 +422,37 @@ def weight_total(setting: Setting) -> Found:
         yield Fault("weight.total", f"{total:,}", f"{most:,}", at, key, more=more)
 
 
+def _group_totals(setting: Setting) -> Found:
+    """By how much the weights of a group are too great together, where they are divided by their greatest common divisor."""
+    for table, place in setting.groups:
+        weights = [it.value for it in table["weights"]]
+        divisor, most = functools.reduce(math.gcd, weights), LIMITS["weight"]
+        if sum(weights) > most * divisor:
+            divided = TABLE["sentences"]["weight.divided"].format(divisor=f"{divisor:,}") if divisor > 1 else ""
+            total = f"{sum(weights) // divisor:,}"
+            yield Fault("weight.total", total, f"{most:,}", table["weights"].at, "bidder.weights", place, {"of": divided})
+
+
+def _own_key(setting: Setting, key: str) -> str:
+    """A key of an auction, or of a group of bidders."""
+    return f"bidder.{key}" if setting.kind == "bidders" else key
+
+
 def values_order(setting: Setting) -> Found:
-    """The values of an auction that do not ascend."""
-    values = setting.top["values"]
-    for first, second in zip(values, values[1:]):
-        if first.value >= second.value:
-            yield Fault("values.order", second.source, "", second.at, "values", more={"of": first.source})
+    """The values of an auction, or of a group of bidders, that do not ascend."""
+    for table, place in setting.groups:
+        for first, second in zip(table["values"], table["values"][1:]):
+            if first.value >= second.value:
+                more = {"of": first.source}
+                yield Fault("values.order", second.source, "", second.at, _own_key(setting, "values"), place, more)
+
+
+def slots_order(setting: Setting) -> Found:
+    """The slots with a greater amount than the one before."""
+    slots = setting.top["slots"]
+    for first, second in zip(slots, slots[1:]):
+        if first.value < second.value:
+            yield Fault("slots.order", second.source, "", second.at, "slots", more={"of": first.source})
 
 
 def too_many_rows(setting: Setting) -> Found:
@@ -432,12 +482,14 @@ def too_many_counts(setting: Setting) -> Found:
 
 def other_kind(setting: Setting, command: str, has_units: bool) -> Found:
     """Which settings the command serves, and what serves this one."""
-    serves = "auction" if has_units else TABLE["commands"][command].get("serves", setting.kind)
-    if serves != setting.kind:
-        names = [f"`{it}`" for it in re.split(r", | and ", TABLE["commands"][command].get("others", "")) if it]
+    about = TABLE["commands"][command]
+    serves = ["auction"] if has_units else about.get("serves", "general auction").split()
+    if setting.kind not in serves:
+        is_served = setting.kind != "bidders"  # (no command serves groups of bidders)
+        names = [f"`{it}`" for it in re.split(r", | and ", about.get("others", "")) if it and is_served]
         serve = TABLE["sentences"]["kind.serves" if len(names) == 1 else "kind.serve"]
         others = f": {serve.format(names=listed(names, 'and'))}" if names else ""
-        wanted = {"general": "general settings", "auction": "auctions"}[serves]
+        wanted = listed([{"general": "general settings", "auction": "auctions"}[it] for it in serves], "and")
         more = {"command": f"{command} --units" if has_units else command, "others": others}
         yield Fault("kind.other", CALLED[setting.kind], wanted, setting.top["kind"].at, "kind", more=more)
 
@@ -521,6 +573,7 @@ OF_CONTENTS: Dict[str, Callable[[Setting], Found]] = {
     "zero weight": zero_weight,
     "weight total": weight_total,
     "values order": values_order,
+    "slots order": slots_order,
     "too many rows": too_many_rows,
     "too many counts": too_many_counts,
     "not a sale": not_a_sale,

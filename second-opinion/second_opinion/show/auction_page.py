@@ -12,7 +12,7 @@ from second_opinion.show.auction_tables import (
     blocks_table, counts_table, cuts_table, masses_table, odds_table, prices_table, value_parts_table, values_table,
 )
 from second_opinion.show.draw import pattern_definitions
-from second_opinion.show.parts import alert, big, big_value, figure, hidden, large_figure, made_from, paragraph, section, whole
+from second_opinion.show.parts import alert, big, big_value, figure, hidden, made_from, paragraph, section, whole
 from second_opinion.show.text import MINUS, TIMES, auction_objective_words, count, html_name, html_number, number, set_words
 from second_opinion.show.why import MANY_ARROWS, too_wide_section
 
@@ -178,7 +178,7 @@ class AuctionPage(AnyAuctionPage):
             + (" A bracket marks values that win as often." if sale.pools() else "")
         )
         text += "".join(map(paragraph, words))
-        text += large_figure("", odds_bars(self.auction, sale.odds, sale.pools()), "odds", "Odds by value") + odds_table(sale)
+        text += figure("", odds_bars(self.auction, sale.odds, sale.pools()), "odds", "Odds by value") + odds_table(sale)
         text += paragraph(
             "A bidder may pay just what stands under <em>Pays</em> each time, whether it wins or not"
             + ("." if free else "; or what stands under <em>Pays per win</em> where it wins, and else nothing.")

@@ -150,7 +150,7 @@ class Play:
         return got - self.raw_payment(agent, reported)
 
     def sides(self, row: Condition) -> tuple[int, int]:
-        """The two sides of a condition, as `audit` and `requirecheck` print them: the left one should be at least the right one."""
+        """The two sides of a condition, as `audit` and `check` print them: the left one should be at least the right one."""
         if row.asked is not None:
             if row.profile is None:
                 (amount,) = measured(self.setting, self.mechanism, row.asked)

@@ -16,7 +16,7 @@ from second_opinion.required_answer import RequiredAnswer
 from second_opinion.requiring import found_under
 from second_opinion.setting import GeneralSetting
 from second_opinion.show.frontier import Chart, Point, Step, cost_of, frontier_page, parts_of
-from second_opinion.show.parts import large_figure, paragraph
+from second_opinion.show.parts import figure, paragraph
 from second_opinion.show.tables import Cell, Head, numeric, table
 from second_opinion.show.text import TIMES, html_number, number
 
@@ -61,7 +61,7 @@ def floors_page(title: str, lead: str, steps: list[Step]) -> str:
     words += "number is the greatest welfare under the floor."
     rows = [floor_cells(step) for step in steps]
     heads = [("Floor on the revenue", True), ("Greatest welfare", True), ("Answer", False)]
-    had = large_figure("The greatest welfare under each floor", chart, "chart", "Floors and welfare") + paragraph(words)
+    had = figure("The greatest welfare under each floor", chart, "chart", "Floors and welfare") + paragraph(words)
     costs = "".join(paragraph(part_words(*part)) for part in reversed(parts_of(steps)))
     lines: list[list[Cell]] = [
         [Head(link(step)), numeric(step.point[0] if step.point else step.unmet), line_words(step)] for step in steps if step.name

@@ -14,7 +14,7 @@ from second_opinion.auction_answer import AuctionAnswer
 from second_opinion.setting import AuctionSetting
 from second_opinion.show.auction_facts import Sale
 from second_opinion.show.draw import CHAR, LINE, picture, place, text_at
-from second_opinion.show.parts import EXACT, document, large_figure, paragraph, section
+from second_opinion.show.parts import EXACT, document, figure, paragraph, section
 from second_opinion.show.tables import Cell, Head, table
 from second_opinion.show.text import Number, html_number, number, with_decimal
 
@@ -188,7 +188,7 @@ def weights_page(title: str, lead: str, steps: list[Step]) -> str:
         [Head(link(step)), weight_words(step.weights), html_number(step.value), *map(html_number, step.point)] for step in steps
     ]
     costs = [paragraph(edge_words(one, other, edge)) for one, other, edge in zip(points, points[1:], edges)]
-    chart = large_figure("Revenue and welfare of the corners", Chart(steps), "chart", "Revenue and welfare")
+    chart = figure("Revenue and welfare of the corners", Chart(steps), "chart", "Revenue and welfare")
     heads = [("Setting", False), ("Weights of revenue and welfare", False), ("Value", True), ("Revenue", True), ("Welfare", True)]
     corners = table("Corners", [("Revenue", True), ("Welfare", True), ("Best by the weights", False)], rules)
     words = "The value of each answer is the most that any rule brings by the weights of its setting. "

@@ -10,7 +10,7 @@ from second_opinion.required_answer import RequiredAnswer
 from second_opinion.setting import GeneralSetting
 from second_opinion.show.draw import LETTERS, matrices, pattern_definitions, swatch, used_outcomes
 from second_opinion.show.facts import Condition, Play, Prior, conditions, name_of
-from second_opinion.show.parts import alert, big, big_value, figure, hidden, large_figure, made_from, paragraph, section, whole
+from second_opinion.show.parts import alert, big, big_value, figure, hidden, made_from, paragraph, section, whole
 from second_opinion.show.tables import (
     agents_table, payments_tables, prior_table, utilities_table, utility_table, value_table,
 )
@@ -205,10 +205,9 @@ class Page:
         if unused:
             text += paragraph(f"Never chosen: {escape(', '.join(unused))}.")
         figures, drawn = [], matrices(self.play)
-        sized = large_figure if len(drawn) == 1 else figure
         for place, matrix in enumerate(drawn):
             caption = ", ".join(f"{agent.name}: {agent.types[own]}" for agent, own in matrix.fixed)
-            figures.append(sized(caption, matrix, f"chances{place}", matrix.title()))
+            figures.append(figure(caption, matrix, f"chances{place}", matrix.title()))
         return section("The mechanism: chances", text + '<div class="flow">\n' + "".join(figures) + "</div>\n")
 
     def payments_section(self) -> str:
@@ -244,7 +243,7 @@ class Page:
             text += paragraph(
                 "The utilities, the value and the conditions were computed for this page from the setting and the "
                 "mechanism. That no mechanism is better is not tried here: "
-                f"<code>mechdes {'requirecheck' if self.asked else 'check'}</code> does that."
+                "<code>mechdes check</code> does that."
                 if isinstance(self.answer, OptimalAnswer)
                 else "The utilities, the value and the conditions were computed for this page from the setting and the "
                 "mechanism."

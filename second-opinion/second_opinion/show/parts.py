@@ -51,22 +51,12 @@ def alert(strong: str, words: str) -> str:
     return f'<div class="verdict bad">\n<p><strong>{strong}</strong> {words}</p>\n</div>\n'
 
 
-def large_figure(caption: str, drawn: Drawing, name: str, label: str) -> str:
-    """A picture that can be read from afar: as wide as the page, and no taller than a screen."""
-    return sized_figure(caption, drawn, name, label, 'class="large"')
-
-
 def figure(caption: str, drawn: Drawing, name: str, label: str) -> str:
-    """A picture in its own size. Its caption is no wider than it is."""
-    return sized_figure(caption, drawn, name, label, f'style="width:{max(NARROWEST, int(drawn.width) + 2)}px"')
-
-
-def sized_figure(caption: str, drawn: Drawing, name: str, label: str, size: str) -> str:
-    """A picture that scrolls where it is wider than the page."""
+    """A picture in its own size, that scrolls where it is wider than the page. Its caption is no wider than it is."""
     scroll = f' role="region" tabindex="0" aria-label="{escape(label)}"' if int(drawn.width) + 2 > ANY_PAGE else ""
     caption = f"<figcaption>{escape(caption)}</figcaption>\n" if caption else ""
     picture = f'<div class="scroll"{scroll}>\n{drawn.svg(name)}\n</div>\n'
-    return f"<figure {size}>\n{caption}{picture}</figure>\n"
+    return f'<figure style="width:{max(NARROWEST, int(drawn.width) + 2)}px">\n{caption}{picture}</figure>\n'
 
 
 def hidden(definitions: str) -> str:

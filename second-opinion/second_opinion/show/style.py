@@ -120,8 +120,6 @@ td.num{font-family:ui-monospace,SFMono-Regular,Menlo,Consolas,"DejaVu Sans Mono"
 figure{margin:.6rem 0}
 figcaption{font-weight:600;margin-bottom:.3rem}
 .picture{display:block;max-width:100%;height:auto}
-.large,.large .picture{width:100%}
-.large .picture{max-height:85vh}
 .legend{list-style:none;display:flex;flex-wrap:wrap;gap:.3rem 1.2rem;padding:0;margin:.6rem 0}
 .legend li{display:flex;align-items:flex-start;gap:.45rem;overflow-wrap:anywhere}
 .swatch{flex:none}

@@ -8,7 +8,7 @@ from second_opinion.show.auction_draw import PATTERNS_USED, odds_bars
 from second_opinion.show.auction_page import AnyAuctionPage
 from second_opinion.show.auction_tables import folded
 from second_opinion.show.draw import pattern_definitions
-from second_opinion.show.parts import alert, big, big_value, hidden, large_figure, made_from, paragraph, section, whole
+from second_opinion.show.parts import alert, big, big_value, figure, hidden, made_from, paragraph, section, whole
 from second_opinion.show.tables import Cell, head, numeric, table
 from second_opinion.show.text import count, html_number, number, set_words
 from second_opinion.threshold import LOWEST, Rule, threshold_text, without
@@ -91,7 +91,7 @@ class ThresholdPage(AnyAuctionPage):
             rows.append([head(str(rank)), words, numeric(interim[rank][0]), numeric(interim[rank][1])])
         heads = [("Pool", False), ("Values", False), ("Wins", True), ("Pays", True)]
         made = table("Pools", heads, rows, "on average over the values of the others") if rows else ""
-        return section("Who wins", text + large_figure("", odds_bars(self.auction, odds, pools), "odds", "Odds by value") + made)
+        return section("Who wins", text + figure("", odds_bars(self.auction, odds, pools), "odds", "Odds by value") + made)
 
     def prices_section(self) -> str:
         """What winners pay: of one unit by the best of the others, of several by how many bidders are in each pool."""

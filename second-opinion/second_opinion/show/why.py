@@ -11,7 +11,7 @@ from second_opinion.show.arrows import lines_of
 from second_opinion.show.bars import Bar, Bars
 from second_opinion.show.draw import pattern_definitions
 from second_opinion.show.facts import Condition, contradiction, name_of, terms_of
-from second_opinion.show.parts import alert, figure, hidden, large_figure, paragraph, section
+from second_opinion.show.parts import alert, figure, hidden, paragraph, section
 from second_opinion.show.tables import Cell, head, multiplier_text, numeric, table
 from second_opinion.show.text import TIMES, condition_words, count, html_name, html_number, inequality, listed, number
 
@@ -162,7 +162,7 @@ def infeasible_section(page: "Page") -> str:
     text = ""
     if len(rows) <= MANY_ARROWS:
         text += hidden(pattern_definitions([0, 1]))
-        text += large_figure("What the right sides add to", sum_bars(page, weights), "sum", "What the right sides add to")
+        text += figure("What the right sides add to", sum_bars(page, weights), "sum", "What the right sides add to")
     text += table("The conditions that cannot be met together", [*heads, ("Multiplier", True)], rows)
     if right is None:
         return section("Why there is none", text + alert("This answer is wrong.", "These multipliers do not show it."))
@@ -189,7 +189,7 @@ def too_wide_section(paths: list[Path], factor: str = "all utilities of an agent
         "nothing: where an entry has more bits than the width (62 where none was asked for), it says so and ends."
     )
     text += hidden(pattern_definitions([0, 1]))
-    text += large_figure("Bits of the entry at which a path ended", width_bars(paths), "bits", "Bits of the entries")
+    text += figure("Bits of the entry at which a path ended", width_bars(paths), "bits", "Bits of the entries")
     text += table("The first entry of each path that is too wide", [*heads, ("Bits of the entry", True)], rows)
     text += paragraph(
         f"What helps is to ask the same question in fewer digits: take out a factor that {factor} have in common, or "

@@ -27,12 +27,6 @@ returns-in-Units g c =
     let fits : FitsSigned w128 number = search rules in
     rw c.in-Units.is (rw (to_z-of_z w128 number fits) at (c.sell_units.ensures c.args.order.now.second.now))
 
-pub returns-in-UnitCheck : goal.returns-in-UnitCheck
-returns-in-UnitCheck g c =
-    let number = c.args.order.now.number in
-    let fits : FitsSigned w128 number = search rules in
-    rw c.in-UnitCheck.is (rw (to_z-of_z w128 number fits) at c.check_units.ensures)
-
 pub returns-in-Threshold : goal.returns-in-Threshold
 returns-in-Threshold g c =
     let number = c.args.order.now.number in

@@ -2,7 +2,7 @@ use Rattle.std.proofs.Common.{subst}
 use Rattle.std.proofs.lemmas.Result.{IfOk-weaker}
 use Rattle.md_asym.specs.SaleVerdicts.{IsSaleVerdict}
 use Rattle.md_cli_judge.proofs.VerdictRows.{untold-in_sale}
-use Rattle.md_cli_judge.proofs.asym_check.checked.Goals as goal
+use Rattle.md_cli_judge.proofs.asym_check.sale_checked.Goals as goal
 
 pub tell_verdict-requires : goal.tell_verdict-requires
 tell_verdict-requires c broken same =

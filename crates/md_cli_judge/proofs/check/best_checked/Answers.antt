@@ -1,6 +1,6 @@
 use Rattle.std.proofs.lemmas.Result.{IfOk-weaker}
 use Rattle.md_cli_judge.proofs.CheckedTexts.{told_verdict}
-use Rattle.md_cli_judge.proofs.check.checked.Goals as goal
+use Rattle.md_cli_judge.proofs.check.best_checked.Goals as goal
 
 pub returns-clause-checked : goal.returns-clause-checked
 returns-clause-checked c =
