@@ -31,7 +31,7 @@ pub first-decides : (q j p i : ℕ) → Decides (goes_first q j p i) (GoesFirst 
 first-decides q j p i =
     Decides-or (nat_lt q p) (q == p && nat_lt j i) (Decides-ltb q p) (Decides-and (q == p) (nat_lt j i) (Decides-eqb q p) (Decides-ltb j i))
 
-first-trans : (r k q j p i : ℕ) → GoesFirst r k q j → GoesFirst q j p i → GoesFirst r k p i
+pub first-trans : (r k q j p i : ℕ) → GoesFirst r k q j → GoesFirst q j p i → GoesFirst r k p i
 first-trans r k q j p i (inl a) (inl b) = inl (omega (arith, a, b))
 first-trans r k q j p i (inl a) (inr b) = inl (omega (arith, a, b.0))
 first-trans r k q j p i (inr a) (inl b) = inl (omega (arith, a.0, b))
@@ -44,7 +44,7 @@ first-itself p i = false_from_ne_true (goes_first p i p i) (λ e. never ((first-
     never (inl a) = omega (arith, a)
     never (inr a) = omega (arith, a.1)
 
-first-one : (q j p i : ℕ) → j ≢ i → GoesFirst q j p i ⊎ GoesFirst p i q j
+pub first-one : (q j p i : ℕ) → j ≢ i → GoesFirst q j p i ⊎ GoesFirst p i q j
 first-one q j p i d = elim (cases_lt q p) [
   | inl a ↦ inl (inl a)
   | inr a ↦ elim (cases_lt p q) [
@@ -78,7 +78,7 @@ pub record IsGiven (ranks slots place ahead : ℕ) : Type 0 where
   pub ahead_below : ahead < slots
   pub is : slot_by ranks slots place ahead ≡ suc ahead
 
-given-or-none : (ranks slots place ahead : ℕ) → IsGiven ranks slots place ahead ⊎ (slot_by ranks slots place ahead ≡ 0)
+pub given-or-none : (ranks slots place ahead : ℕ) → IsGiven ranks slots place ahead ⊎ (slot_by ranks slots place ahead ≡ 0)
 given-or-none ranks slots place ahead = elim (cases_Bool (nat_lt place ranks && nat_lt ahead slots)) [
   | inl e ↦
       let both = and_parts (nat_lt place ranks) (nat_lt ahead slots) e in
@@ -86,13 +86,13 @@ given-or-none ranks slots place ahead = elim (cases_Bool (nat_lt place ranks && 
   | inr e ↦ inr (ap (λ b. if b then suc ahead else 0) e)
 ]
 
-given : (ranks slots place ahead : ℕ) → place < ranks → ahead < slots → slot_by ranks slots place ahead ≡ suc ahead
+pub given : (ranks slots place ahead : ℕ) → place < ranks → ahead < slots → slot_by ranks slots place ahead ≡ suc ahead
 given ranks slots place ahead l h = ap (λ b. if b then suc ahead else 0) (and_from (nat_lt place ranks) (nat_lt ahead slots) (lt-ltb place ranks l) (lt-ltb ahead slots h))
 
 not-given : (ranks slots place ahead : ℕ) → ranks ≤ place → slot_by ranks slots place ahead ≡ 0
 not-given ranks slots place ahead l = ap (λ b. if b then suc ahead else 0) (and_left (nat_lt place ranks) (nat_lt ahead slots) (le-ltb place ranks l))
 
-slot-most : (ranks slots place ahead : ℕ) → slot_by ranks slots place ahead ≤ slots
+pub slot-most : (ranks slots place ahead : ℕ) → slot_by ranks slots place ahead ≤ slots
 slot-most ranks slots place ahead = elim (given-or-none ranks slots place ahead) [
   | inl g ↦ omega (arith, g.ahead_below, g.is)
   | inr e ↦ omega (arith, e)

@@ -77,7 +77,7 @@ place-in groups left (rank ∷ others) h (suc p) v b l c =
     let below : v < left_after left rank k = omega (arith, c, stop-most groups (left_after left rank) others h.3 p (omega (arith, b))) in
     place-later rank others k v (has-left left rank k v below) ∙ ap suc (place-in groups (left_after left rank) others h.3 p v (omega (arith, b)) l c)
 
-behind-most : (groups : ℕ) (left : ℕ → ℕ) (ranks : List Rank) → GoDown groups left ranks → (k : ℕ) → left_behind left ranks k ≤ left k
+pub behind-most : (groups : ℕ) (left : ℕ → ℕ) (ranks : List Rank) → GoDown groups left ranks → (k : ℕ) → left_behind left ranks k ≤ left k
 behind-most groups left [] h k = omega arith
 behind-most groups left (rank ∷ others) h k = omega (arith, behind-most groups (left_after left rank) others h.3 k, left-most groups left rank others k h)
 

@@ -10,3 +10,4 @@ pub mod Reduced
 pub mod ByRule
 pub mod Lists
 pub mod Told
+pub mod Awards

@@ -3,5 +3,7 @@
 #![tactic(auto)]
 
 mod ranked;
+mod won;
 
 pub use ranked::{Averages, BestList, ListAnswer, Ranked};
+pub use won::Won;

@@ -28,3 +28,4 @@ pub mod ReducedRule
 pub mod Pairs
 pub mod Pools
 pub mod ByRule
+pub mod Whole
